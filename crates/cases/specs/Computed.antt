@@ -1,0 +1,25 @@
+-- Every definition of octets, checksum, records and format, opened at once, so that the tables of this crate compute.
+--     computed     a declaration that says `unfolding computed` sees through all of them
+-- Assumes nothing.
+use Rattle.octets.specs.Octets.{value, be, put}
+use Rattle.checksum.specs.Sum.{words, add, sumFrom, sum, checksum, holds}
+use Rattle.records.specs.Joining.{together, sameGroup, allZero, groupRecords, allGroupRecords, aggregated as recordOf, joined}
+use Rattle.records.specs.Most.{most}
+use Rattle.records.specs.Records.{groupEntries, allGroupEntries, entries, allEntries}
+use Rattle.records.specs.Runs.{ofRun, glue, runs}
+use Rattle.format.specs.Address.{groupForm, groupField, groupOctets, sourceForm, sourceField, sourceOctets}
+use Rattle.format.specs.Body.{zeroReserved, assertsBody, pairsBody, plainBody, simpleBody, aggregatedBody, pairBody}
+use Rattle.format.specs.Entry.{numberAt, assertAt, assertEntryOctets, allowedAssert, pairAt, pairEntryOctets, allowedPair, count, whole, entriesAt, entriesOf, entriesOctets}
+use Rattle.format.specs.Family.{mayBeSource}
+use Rattle.format.specs.Header.{assertKind, registerKind, kindOf, octet0, octet1, header, bodyOf, body, message}
+use Rattle.format.specs.Packing.{usualLimit, leastLimit, readLimit, canonical, firstBad, asked, taken, pack, written, packDue, packing, prefersAggregated, chosenOf, octetsOf, bothWritten, choiceOf, choice}
+use Rattle.format.specs.Reading.{roomFor, delivered, reading, readAsserts, readPairs}
+use Rattle.format.specs.Record.{each, assertRecord, assertOctets, pairRecord, pairOctets, positive, groupRecord, groupRecordOctets, sourceAggregated, rpAggregated, aggregatedRecord, aggregatedOctets, recordAt}
+use Rattle.format.specs.Train.{takenBy, messageOf, calls, takenOf, messagesOf, roomOf, train}
+use Rattle.format.specs.Unpacking.{unpackAsserts, unpackPairs}
+use Rattle.format.specs.Outcome
+use Rattle.format.specs.Reader
+
+unfoldable pub computed : Unit {0}
+unfolding value be put words add sumFrom sum checksum holds together sameGroup allZero groupRecords allGroupRecords recordOf joined most groupEntries allGroupEntries entries allEntries ofRun glue runs groupForm groupField groupOctets sourceForm sourceField sourceOctets zeroReserved assertsBody pairsBody plainBody simpleBody aggregatedBody pairBody numberAt assertAt assertEntryOctets allowedAssert pairAt pairEntryOctets allowedPair count whole entriesAt entriesOf entriesOctets mayBeSource assertKind registerKind kindOf octet0 octet1 header bodyOf body message Outcome._>>=_ Outcome._>>_ Outcome.refuseIf usualLimit leastLimit readLimit canonical firstBad asked taken pack written packDue packing prefersAggregated chosenOf octetsOf bothWritten choiceOf choice Reader.continue Reader._>>=_ Reader._>>_ Reader.give Reader.here Reader.octets Reader.number Reader.must Reader.refuse Reader.placed Reader.handUp Reader.inRecord Reader.times Reader.toEnd Reader.records Reader.nothingMore Reader.outcome Reader.from roomFor delivered reading readAsserts readPairs each assertRecord assertOctets pairRecord pairOctets positive groupRecord groupRecordOctets sourceAggregated rpAggregated aggregatedRecord aggregatedOctets recordAt takenBy messageOf calls takenOf messagesOf roomOf train unpackAsserts unpackPairs
+computed = tt

@@ -1,0 +1,4 @@
+pub mod Computed
+pub mod Marked
+pub mod Messages
+pub mod Faults

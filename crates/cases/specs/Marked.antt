@@ -1,0 +1,79 @@
+-- The examples that 01 stars ("Examples he marks"), as one table. Example 7, the election, joins it with the neighbour table.
+--     Row         what an example says
+--     marked      the table, in 01's order
+--     Right       what it is for a row to hold of the definitions
+-- That every row is right is one theorem, in proofs/Marked.antt. Assumes nothing: these are definitions.
+use Prim.Native.Nat.{ℕ, zero, suc, _+_}
+use mathlib.Core.Path.{_≡_}
+use mathlib.Core.List.{List, [], _∷_, map}
+use lib.ListN.{length, replicate}
+use Rattle.octets.specs.Octets.{be}
+use Rattle.records.specs.Records.{AssertRecord, assert}
+use Rattle.format.specs.Outcome.{Outcome, gives, refuses}
+use Rattle.format.specs.Family.{ipv4}
+use Rattle.format.specs.Entry.{assertEntries, entriesOctets}
+use Rattle.format.specs.Unpacking.{Unpacked, unpacked, unpackAsserts}
+use Rattle.format.specs.Packing.{Form, simple, aggregated, Wrote, wrote, packing, readLimit}
+use Rattle.format.specs.Train.{calls, messagesOf, train}
+use Rattle.format.specs.declared.Kind.the-variants.{Simple}
+
+abbrev pub AssertForm : Type 0
+AssertForm = Form (assertEntries ipv4)
+
+pub data Row : Type 0 where
+  -- these octets, read as asserts, unpack to this
+  reads : List ℕ → Outcome (Unpacked AssertRecord) → Row
+  -- a packing call for entries from a start at a limit, with a buffer of that size, answers this
+  packs : AssertForm → List AssertRecord → ℕ → ℕ → Outcome Wrote → Row
+  -- the train of entries at a limit has messages of these lengths
+  lengths : AssertForm → List AssertRecord → ℕ → List ℕ → Row
+  -- the train of entries at a limit is this one message
+  isMessage : AssertForm → List AssertRecord → ℕ → List ℕ → Row
+  -- at every allowed limit, with any buffers, calls for entries write no message
+  noMessage : AssertForm → List AssertRecord → Row
+
+unfoldable pub Right : Row → Type 0
+Right (reads o u) = unpackAsserts ipv4 o ≡ u
+Right (packs F es start limit a) =
+    packing F (entriesOctets (assertEntries ipv4) es) start limit (replicate limit 0) .answer ≡ a
+Right (lengths F es limit ls) = map (λ (m : List ℕ). length m) (train F (entriesOctets (assertEntries ipv4) es) limit) ≡ ls
+Right (isMessage F es limit m) = train F (entriesOctets (assertEntries ipv4) es) limit ≡ m ∷ []
+Right (noMessage F es) =
+    (limit l : ℕ) → readLimit ipv4 limit ≡ gives l → (buffers : List (List ℕ))
+    → messagesOf (calls F (entriesOctets (assertEntries ipv4) es) limit 0 buffers) ≡ []
+
+-- ---- the entries of the examples
+
+-- n asserts of one source with R=0 and one metric, on as many groups
+unfoldable pub flows : ℕ → List AssertRecord
+flows zero = []
+flows (suc n) = assert (0xe801_0100 + n) 0x0a00_0001 110 20 ∷ flows n
+
+-- with R=1, preference 110, metric 20, on group 232.1.1.1
+unfoldable pub shared : ℕ → AssertRecord
+shared s = assert 0xe801_0101 s 0x8000_006e 20
+
+unfoldable pub marked : List Row
+marked =
+    -- 1. "is simple with one record"
+    reads (be 30 0x2501e558_00000000_01000020e8010101_01000a000001_0000006e_00000014)
+    (gives (unpacked Simple (assert 0xe801_0101 0x0a00_0001 110 20 ∷ [])))
+    -- 2. "Its last octet changed to 15: refusal 3"
+    ∷ reads (be 30 0x2501e558_00000000_01000020e8010101_01000a000001_0000006e_00000015) (refuses 3 0)
+    -- 3. "Limit 1,480, 67 simple entries left: 66 taken, 1,460 octets; 66 left: the same"
+    ∷ packs (simple ipv4) (flows 67) 0 1480 (gives (wrote 1460 66))
+    ∷ packs (simple ipv4) (flows 67) 1 1480 (gives (wrote 1460 66))
+    -- 4. "Three R=0 entries, one source and metric: 50 octets at limit 50; at 49, messages of 42 and 34"
+    ∷ lengths (aggregated ipv4) (flows 3) 50 (50 ∷ [])
+    ∷ lengths (aggregated ipv4) (flows 3) 49 (42 ∷ 34 ∷ [])
+    -- 5. "One R=1 entry, source 0: 32 octets; other source: 38. Limit 37: refusal 9"
+    ∷ lengths (aggregated ipv4) (shared 0 ∷ []) 38 (32 ∷ [])
+    ∷ lengths (aggregated ipv4) (shared 0x0a00_0001 ∷ []) 38 (38 ∷ [])
+    ∷ packs (aggregated ipv4) (shared 0 ∷ []) 0 37 (refuses 9 0)
+    -- 6. "Two R=1 entries, one group, both source 0: one group record, p=2, 44 octets"
+    ∷ isMessage (aggregated ipv4) (shared 0 ∷ shared 0 ∷ []) 44
+    (be 44 0x25036e54_00000000_8000006e_00000014_00010000_01000020e8010101_00020000_010000000000_010000000000)
+    -- 8. "Empty list, any allowed limit: no message"
+    ∷ noMessage (simple ipv4) []
+    ∷ noMessage (aggregated ipv4) []
+    ∷ []

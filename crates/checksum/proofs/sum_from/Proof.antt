@@ -1,0 +1,92 @@
+-- `checksum::sum_from` meets its contract. The loop's invariant: the accumulator is at most 0xFFFF, and the one's complement sum of the
+-- words so far. The measure is what is left of the length.
+-- Assumes nothing.
+use mathlib.Core.Path.{_≡_, ap, _∙_}
+use Prim.Native.Nat.{_+_, _*_, _-_, _<_, _≤_}
+use denote.Ref.{now}
+use Rattle.checksum.specs.Sum.{add}
+use native.Mathlib.Omega.{arith}
+use borrow.Author.Needs.{needs}
+use lib.ListN.{length}
+use Rattle.checksum.proofs.SoFar.{SoFar, so-far-start, so-far-next, so-far-end, so-far-odd}
+use Rattle.checksum.proofs.sum_from.Statement.{statement}
+use Rattle.checksum.proofs.sum_from.Tie as tie
+
+abbrev Inv-loop : tie.InvT-loop
+Inv-loop s from start acc₀ i₀ acc i = SoFar s from start i acc
+
+abbrev μ-loop : tie.MeasureT-loop
+μ-loop s from start acc₀ i₀ acc i = length s - i
+
+loop-holds : tie.Need-loop-holds Inv-loop μ-loop
+loop-holds c =
+    let a = c .before .args in
+    so-far-start (now (a .s)) (a .from) (a .start) (c .before .pre) (omega arith)
+
+sub-loop : tie.Need-sub-loop Inv-loop μ-loop
+sub-loop c = search needs
+
+shared-slice-read-word : tie.Need-shared-slice-read-word Inv-loop μ-loop
+shared-slice-read-word c = search needs
+
+add-word : tie.Need-add-word Inv-loop μ-loop
+add-word c = search needs
+
+shared-slice-read-word-2 : tie.Need-shared-slice-read-word-2 Inv-loop μ-loop
+shared-slice-read-word-2 c = search needs
+
+word-requires : tie.Need-word-requires Inv-loop μ-loop
+word-requires c κs = search needs
+
+add-requires : tie.Need-add-requires Inv-loop μ-loop
+add-requires c κs = search needs
+
+add-i : tie.Need-add-i Inv-loop μ-loop
+add-i c = search needs
+
+loop-less : tie.Need-loop-less Inv-loop μ-loop
+loop-less c = search needs
+
+loop-again : tie.Need-loop-again Inv-loop μ-loop
+loop-again c =
+    so-far-next (c .before .before .before .before .before .loop .inv) (omega arith) (c .add .result) (omega arith)
+    (c .add .ensures ∙ ap (add _) (c .before .word .ensures))
+
+shared-slice-read-word-3 : tie.Need-shared-slice-read-word-3 Inv-loop μ-loop
+shared-slice-read-word-3 c = search needs
+
+word-requires-2 : tie.Need-word-requires-2 Inv-loop μ-loop
+word-requires-2 c κs = search needs
+
+add-requires-2 : tie.Need-add-requires-2 Inv-loop μ-loop
+add-requires-2 c κs = search needs
+
+returns : tie.Need-returns Inv-loop μ-loop
+returns c =
+    c .add2 .ensures ∙ ap (add _) (c .before .word2 .ensures)
+    ∙ so-far-odd (c .before .before .before .before .before .loop .inv) (omega arith)
+
+returns-2 : tie.Need-returns-2 Inv-loop μ-loop
+returns-2 c = so-far-end (c .before .before .loop .inv) (c .if1 .left)
+
+pub sum-from-spec : {M : Type 1} → statement M
+sum-from-spec =
+    tie.close
+    (tie.spec
+    Inv-loop
+    μ-loop
+    loop-holds
+    sub-loop
+    shared-slice-read-word
+    add-word
+    shared-slice-read-word-2
+    word-requires
+    add-requires
+    add-i
+    loop-less
+    loop-again
+    shared-slice-read-word-3
+    word-requires-2
+    add-requires-2
+    returns
+    returns-2)

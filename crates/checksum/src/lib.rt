@@ -1,0 +1,71 @@
+// The Internet checksum: the one's complement sum of the 16-bit words of a message, big-endian, and its complement.
+// The carry out of 16 bits is added back after each word.
+ghost use mathlib.Core.Path.{_≡_};
+ghost use Prim.Native.Nat.{_+_, _*_, _≤_};
+ghost use lib.ListN.{length, drop};
+ghost use Rattle.checksum.specs.Sum.{words, sumFrom};
+ghost use Rattle.checksum.specs.Sum.{add as addOf, sum as sumOf, checksum as checksumOf, holds as holdsOf};
+
+fn word(high: u8, low: u8) -> u16
+    ensures { λ r. ⌜ r ≡ high * 256 + low ⌝ }
+{
+    (high as u16) * 256 + (low as u16)
+}
+
+// Where a + b is above 65535, its carry is added back: a + b - 65536 + 1 is a - (65535 - b).
+fn add(a: u16, b: u16) -> u16
+    ensures { λ r. ⌜ r ≡ addOf a b ⌝ }
+{
+    if a <= 65535 - b {
+        a + b
+    } else {
+        a - (65535 - b)
+    }
+}
+
+// The words from octet `from` on, summed onto `start`. After each word `acc` is at most 0xFFFF, and the sum of the words so far.
+fn sum_from(s: &[u8], from: usize, start: u16) -> u16
+    requires { ⌜ from ≤ length (now s) ⌝ }
+    ensures { λ r. ⌜ r ≡ sumFrom start (words (drop from (now (s .entry)))) ⌝ }
+{
+    let mut acc = start;
+    let mut i = from;
+    while 1 < s.len() - i {
+        acc = add(acc, word(s[i], s[i + 1]));
+        i += 2;
+    }
+    // An odd last octet is the high half of its word.
+    if i < s.len() {
+        add(acc, word(s[i], 0))
+    } else {
+        acc
+    }
+}
+
+// The one's complement sum of all words.
+pub fn sum(s: &[u8]) -> u16
+    ensures { λ r. ⌜ r ≡ sumOf (now (s .entry)) ⌝ }
+{
+    sum_from(s, 0, 0)
+}
+
+// What the checksum field of a message holds. The field itself, octets 2 and 3, counts as 0: its word is skipped.
+pub fn checksum(s: &[u8]) -> u16
+    ensures { λ r. ⌜ r ≡ checksumOf (now (s .entry)) ⌝ }
+{
+    if s.len() < 2 {
+        return 65535 - sum(s);
+    }
+    let first = word(s[0], s[1]);
+    if s.len() < 4 {
+        return 65535 - first;
+    }
+    65535 - sum_from(s, 4, first)
+}
+
+// The sum of a message with its checksum in place is 0xFFFF.
+pub fn holds(s: &[u8]) -> bool
+    ensures { λ r. ⌜ r ≡ holdsOf (now (s .entry)) ⌝ }
+{
+    sum(s) == 65535
+}

@@ -1,0 +1,96 @@
+-- Entries: the octets in which a caller lends records and gets them back (01, "Octets of a message"): "16 octets for an assert
+-- (group, source, R with preference, metric), 8 for a pair (group, source)".
+--     numberAt                   the number in k octets at a place
+--     Entries                    one sort of entry: its size, its reading, its writing, and which are allowed
+--     assertEntries, pairEntries the asserts of a family, and its pairs, with source 0 allowed or not
+--     count, whole, entriesOf    how many entries octets hold, whether nothing is over, and the entries
+--     entriesOctets              entries one after another
+-- Assumes nothing: these are definitions.
+use Prim.Native.Nat.{ℕ, zero, suc, _+_, _*_, _/_, _%_}
+use mathlib.Core.Bool.{Bool, _&&_}
+use mathlib.Core.List.{List, [], _∷_}
+use lib.ListN.{length, take, drop}
+use lib.Dec.{eqb}
+use Rattle.octets.specs.Octets.{value, be, _&_}
+use Rattle.records.specs.Records.{AssertRecord, assert, PairRecord, pair, rBit}
+use Rattle.format.specs.Family.{Family, mayBeSource}
+use Rattle.format.specs.Record.{each}
+
+unfoldable pub numberAt : ℕ → List ℕ → ℕ → ℕ
+numberAt k o at = value (take k (drop at o))
+
+pub record Entries : Type 1 where
+  pub family : Family
+  pub Entry : Type 0
+  -- octets of an entry
+  pub size : ℕ
+  pub entryAt : List ℕ → ℕ → Entry
+  pub octetsOf : Entry → List ℕ
+  -- "whose group and, by R, source the section above allows"
+  pub allowed : Entry → Bool
+
+-- ---- asserts
+
+unfoldable pub assertAt : Family → List ℕ → ℕ → AssertRecord
+assertAt f o at =
+    assert (numberAt (f .width) o at)
+    (numberAt (f .width) o (at + f .width))
+    (numberAt 4 o (at + 2 * f .width))
+    (numberAt 4 o (at + 2 * f .width + 4))
+
+unfoldable pub assertEntryOctets : Family → AssertRecord → List ℕ
+assertEntryOctets f e = be (f .width) (e .group) & be (f .width) (e .source) & be 4 (e .rPreference) & be 4 (e .metric)
+
+-- "With R=0 the source may not be 0"
+unfoldable pub allowedAssert : Family → AssertRecord → Bool
+allowedAssert f e = f .isGroup (e .group) && mayBeSource f (rBit (e .rPreference)) (e .source)
+
+abbrev pub assertEntries : Family → Entries
+assertEntries f = record {
+  family = f;
+  Entry = AssertRecord;
+  size = 2 * f .width + 8;
+  entryAt = assertAt f;
+  octetsOf = assertEntryOctets f;
+  allowed = allowedAssert f;
+}
+
+-- ---- pairs
+
+unfoldable pub pairAt : Family → List ℕ → ℕ → PairRecord
+pairAt f o at = pair (numberAt (f .width) o at) (numberAt (f .width) o (at + f .width))
+
+unfoldable pub pairEntryOctets : Family → PairRecord → List ℕ
+pairEntryOctets f e = be (f .width) (e .group) & be (f .width) (e .source)
+
+unfoldable pub allowedPair : Family → Bool → PairRecord → Bool
+allowedPair f zeroAllowed e = f .isGroup (e .group) && mayBeSource f zeroAllowed (e .source)
+
+abbrev pub pairEntries : Family → Bool → Entries
+pairEntries f zeroAllowed = record {
+  family = f;
+  Entry = PairRecord;
+  size = 2 * f .width;
+  entryAt = pairAt f;
+  octetsOf = pairEntryOctets f;
+  allowed = allowedPair f zeroAllowed;
+}
+
+-- ---- lists of entries
+
+unfoldable pub count : Entries → List ℕ → ℕ
+count E o = length o / E .size
+
+unfoldable pub whole : Entries → List ℕ → Bool
+whole E o = eqb (length o % E .size) 0
+
+-- n entries from a place on
+unfoldable pub entriesAt : (E : Entries) → List ℕ → ℕ → ℕ → List (E .Entry)
+entriesAt E o at zero = []
+entriesAt E o at (suc n) = E .entryAt o at ∷ entriesAt E o (at + E .size) n
+
+unfoldable pub entriesOf : (E : Entries) → List ℕ → List (E .Entry)
+entriesOf E o = entriesAt E o 0 (count E o)
+
+unfoldable pub entriesOctets : (E : Entries) → List (E .Entry) → List ℕ
+entriesOctets E es = each (E .octetsOf) es

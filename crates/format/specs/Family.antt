@@ -1,0 +1,34 @@
+-- The address family of a message. Every definition and theorem above is over a family; IPv4 is "the base", IPv6 comes with E7.
+--     Family            what tells one family from another
+--     ipv4              address family 1 of RFC 7761, 4.9.1
+--     mayBeSource       an address that a source field may hold
+-- Assumes nothing: these are definitions.
+use Prim.Native.Nat.{ℕ, _^_, _*_}
+use mathlib.Core.Bool.{Bool, not, _&&_, _||_}
+use lib.Dec.{leb, ltb, eqb}
+
+pub record Family : Type 0 where
+  -- octets of an address
+  pub width : ℕ
+  -- the first octet of an encoded address
+  pub family : ℕ
+  -- "The address must lie in 224.0.0.0/4 (ours)"
+  pub isGroup : ℕ → Bool
+  -- an address other than 0 that a source may have (E5 narrows it)
+  pub isSource : ℕ → Bool
+
+-- a group's mask covers the whole address: "mask length 32"
+abbrev pub maskLength : Family → ℕ
+maskLength f = 8 * f .width
+
+abbrev pub ipv4 : Family
+ipv4 = record {
+  width = 4;
+  family = 1;
+  isGroup = λ a. leb 0xe000_0000 a && ltb a 0xf000_0000;
+  isSource = λ a. not (eqb a 0);
+}
+
+-- the address 0 where the place allows it, and any address that a source may have
+unfoldable pub mayBeSource : Family → Bool → ℕ → Bool
+mayBeSource f zeroAllowed a = f .isSource a || (zeroAllowed && eqb a 0)

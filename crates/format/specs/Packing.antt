@@ -1,0 +1,166 @@
+-- The packing calls of 01, "Writing": "A packing call gets entries, the number of the entry to start at, a limit and a buffer."
+--     usualLimit, leastLimit, greatestLimit, readLimit     the limits
+--     Form                                         how one kind of message is made of entries
+--     plain, simple, aggregated, nullRegister, registerStop     the five kinds
+--     firstBad, Due, due                           what a call refuses, in the order 9, 8, 10, 7
+--     taken, Packed, packed                        "always the most that fit", and the message
+--     PackingCall, packing                         answer, and buffer as the call returns
+--     ChoiceCall, choice                           "Both assert forms may also be written into two lent buffers"
+-- Assumes nothing: these are definitions.
+use Prim.Native.Nat.{ℕ, suc, _+_, _*_, min}
+use mathlib.Core.Bool.{Bool, true, false, not, _&&_, _||_, cond}
+use mathlib.Core.List.{List, [], _∷_}
+use lib.ListN.{length, take, drop}
+use lib.Dec.{eqb, leb, ltb}
+use Rattle.octets.specs.Octets.{put}
+use Rattle.records.specs.Sizes.{groupRecordSize}
+use Rattle.records.specs.Most.{most}
+use Rattle.format.specs.Outcome.{Outcome, gives, refuses, refuseIf, _>>=_, _>>_}
+use Rattle.format.specs.Family.{Family}
+use Rattle.format.specs.Header.{message, longest}
+use Rattle.format.specs.Body.{plainBody, simpleBody, aggregatedBody, pairBody}
+use Rattle.format.specs.Entry.{Entries, assertEntries, pairEntries, count, whole, entriesOf}
+use Rattle.format.specs.declared.Kind.{Kind}
+use Rattle.format.specs.declared.Kind.the-variants.{Assert, Simple, Aggregated, NullRegister, RegisterStop}
+
+-- ---- limits
+
+-- "limit 0 is read as 1,480" (E2 changes it)
+unfoldable pub usualLimit : ℕ
+usualLimit = 1480
+
+-- "Limits run from 38 to 65,515": from the largest message of one entry, an aggregated one with R=1 and a source
+unfoldable pub leastLimit : Family → ℕ
+leastLimit f = 8 + 12 + groupRecordSize (f .width) 1
+
+unfoldable pub readLimit : Family → ℕ → Outcome ℕ
+readLimit f limit =
+    cond (eqb limit 0)
+    (gives usualLimit)
+    (cond (leb (leastLimit f) limit && leb limit longest) (gives limit) (refuses 9 0))
+
+-- ---- the five kinds
+
+pub record Form (E : Entries) : Type 0 where
+  pub kind : Kind
+  -- of n entries, how many one message may take
+  pub atMost : ℕ → ℕ
+  pub body : List (E .Entry) → List ℕ
+
+-- "for a plain assert one"
+abbrev pub plain : (f : Family) → Form (assertEntries f)
+plain f = record { kind = Assert; atMost = λ n. min n 1; body = plainBody f }
+
+abbrev pub simple : (f : Family) → Form (assertEntries f)
+simple f = record { kind = Simple; atMost = λ n. n; body = simpleBody f }
+
+abbrev pub aggregated : (f : Family) → Form (assertEntries f)
+aggregated f = record { kind = Aggregated; atMost = λ n. n; body = aggregatedBody f }
+
+abbrev pub nullRegister : (f : Family) → Form (pairEntries f false)
+nullRegister f = record { kind = NullRegister; atMost = λ n. n; body = pairBody f }
+
+abbrev pub registerStop : (f : Family) → Form (pairEntries f true)
+registerStop f = record { kind = RegisterStop; atMost = λ n. n; body = pairBody f }
+
+-- the one message of entries, in the one byte form
+unfoldable pub canonical : {E : Entries} → Form E → List (E .Entry) → List ℕ
+canonical F es = message (F .kind) (F .body es)
+
+-- ---- refusals: "Packing: 9, 8, 10, then 7 with the number of the first bad entry from the start on"
+
+unfoldable pub firstBad : {A : Type 0} → (A → Bool) → ℕ → List A → Outcome (Unit {0})
+firstBad allowed i [] = gives tt
+firstBad allowed i (e ∷ es) = cond (allowed e) (firstBad allowed (suc i) es) (refuses 7 i)
+
+-- the limit as read, and the entries from the start on
+pub data Due (A : Type 0) : Type 0 where
+  due : ℕ → List A → Due A
+
+unfoldable pub asked : (E : Entries) → List ℕ → ℕ → ℕ → ℕ → Outcome (Due (E .Entry))
+asked E o start limit room = do
+  l ← readLimit (E .family) limit
+  refuseIf (ltb room l) 8 0
+  refuseIf (not (whole E o && leb start (count E o))) 10 0
+  firstBad (E .allowed) start (drop start (entriesOf E o))
+  gives (due l (drop start (entriesOf E o)))
+
+-- ---- the message
+
+-- "always the most that fit"
+unfoldable pub taken : {E : Entries} → Form E → ℕ → List (E .Entry) → ℕ
+taken F l es = most (λ n. leb (length (canonical F (take n es))) l) (F .atMost (length es))
+
+-- the octets written, and how many entries they take
+pub data Packed : Type 0 where
+  packed : List ℕ → ℕ → Packed
+
+-- "At the end of the list it takes 0, length 0, and writes nothing"
+unfoldable pub pack : {E : Entries} → Form E → ℕ → List (E .Entry) → Packed
+pack F l es = let n = taken F l es in packed (cond (eqb n 0) [] (canonical F (take n es))) n
+
+-- ---- the calls
+
+-- "It writes one message and says its length and how many entries it took"
+pub data Wrote : Type 0 where
+  wrote : ℕ → ℕ → Wrote
+
+pub record PackingCall : Type 0 where
+  pub answer : Outcome Wrote
+  -- the lent buffer as the call returns: "Octets past the length stay"
+  pub buffer : List ℕ
+
+unfoldable pub written : List ℕ → Outcome Packed → PackingCall
+written d (gives (packed m n)) = record { answer = gives (wrote (length m) n); buffer = put d 0 m }
+written d (refuses n p) = record { answer = refuses n p; buffer = d }
+
+unfoldable pub packDue : {E : Entries} → Form E → Due (E .Entry) → Packed
+packDue F (due l es) = pack F l es
+
+unfoldable pub packing : {E : Entries} → Form E → List ℕ → ℕ → ℕ → List ℕ → PackingCall
+packing {E} F o start limit d = written d do
+  x ← asked E o start limit (length d)
+  gives (packDue F x)
+
+-- ---- the choice between the two assert forms
+
+-- "the one that took more entries, then the shorter, then the simple": whether the aggregated one is handed back, of the simple
+-- one and the aggregated one
+unfoldable pub prefersAggregated : Packed → Packed → Bool
+prefersAggregated (packed s m) (packed a n) = ltb m n || (eqb m n && ltb (length a) (length s))
+
+-- whether the aggregated one is handed back, and its length and taken
+pub data Chosen : Type 0 where
+  chosen : Bool → ℕ → ℕ → Chosen
+
+pub record ChoiceCall : Type 0 where
+  pub answer : Outcome Chosen
+  -- "handed back as a part of one of them": empty where the call refuses
+  pub part : List ℕ
+  -- the two lent buffers as the call returns
+  pub simpleBuffer : List ℕ
+  pub aggregatedBuffer : List ℕ
+
+unfoldable pub chosenOf : Bool → Packed → Chosen
+chosenOf b (packed m n) = chosen b (length m) n
+
+unfoldable pub octetsOf : Packed → List ℕ
+octetsOf (packed m n) = m
+
+unfoldable pub bothWritten : List ℕ → List ℕ → Packed → Packed → ChoiceCall
+bothWritten ds da s a =
+    let better = prefersAggregated s a in
+    record {
+      answer = gives (chosenOf better (cond better a s));
+      part = octetsOf (cond better a s);
+      simpleBuffer = put ds 0 (octetsOf s);
+      aggregatedBuffer = put da 0 (octetsOf a);
+    }
+
+unfoldable pub choiceOf : (f : Family) → List ℕ → List ℕ → Outcome (Due (assertEntries f .Entry)) → ChoiceCall
+choiceOf f ds da (gives (due l es)) = bothWritten ds da (pack (simple f) l es) (pack (aggregated f) l es)
+choiceOf f ds da (refuses n p) = record { answer = refuses n p; part = []; simpleBuffer = ds; aggregatedBuffer = da }
+
+-- either buffer below the limit is 8, and neither is written
+unfoldable pub choice : Family → List ℕ → ℕ → ℕ → List ℕ → List ℕ → ChoiceCall
+choice f o start limit ds da = choiceOf f ds da (asked (assertEntries f) o start limit (min (length ds) (length da)))

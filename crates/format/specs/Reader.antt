@@ -1,0 +1,102 @@
+-- Readers: functions of the whole octets and a place. A reader gives a value and the next place, or a number of 01's table
+-- and the place of the field at fault. In a `do` each line reads where the line before it stopped, so the order of the lines is
+-- "faults in octet order".
+--     Read, Reader            what reading comes to; a reader
+--     give, here              a value without reading; the present place
+--     octets, number          k octets, and the number they spell: 6 where "input ends in or before a due field"
+--     must                    a field that has to pass a test: "at one field 6 before the rest"
+--     refuse                  a refusal at a place already passed, if a test holds
+--     placed, inRecord        which place a record's reader hands up
+--     times                   a counted list
+--     toEnd, records          the records up to the end of the octets, one at least
+--     nothingMore             the octets end here
+--     from                    what a reader comes to at a place, the next place left out
+-- Assumes nothing: these are definitions.
+use Prim.Native.Nat.{ℕ, zero, suc, _+_}
+use mathlib.Core.Bool.{Bool, cond}
+use mathlib.Core.List.{List, [], _∷_}
+use lib.ListN.{length, take, drop}
+use lib.Dec.{leb}
+use Rattle.octets.specs.Octets.{value}
+use Rattle.format.specs.Outcome.{Outcome, gives, refuses}
+
+pub data Read (A : Type 0) : Type 0 where
+  -- the value, and the place past it
+  got : A → ℕ → Read A
+  -- 01's number, and the place of the field at fault
+  bad : ℕ → ℕ → Read A
+
+abbrev pub Reader : Type 0 → Type 0
+Reader A = List ℕ → ℕ → Read A
+
+unfoldable pub continue : {A B : Type 0} → Read A → (A → ℕ → Read B) → Read B
+continue (got a next) k = k a next
+continue (bad n p) k = bad n p
+
+unfoldable pub _>>=_ : {A B : Type 0} → Reader A → (A → Reader B) → Reader B
+_>>=_ r k o at = continue (r o at) (λ a next. k a o next)
+
+unfoldable pub _>>_ : {A B : Type 0} → Reader A → Reader B → Reader B
+_>>_ r s o at = continue (r o at) (λ a next. s o next)
+
+unfoldable pub give : {A : Type 0} → A → Reader A
+give a o at = got a at
+
+unfoldable pub here : Reader ℕ
+here o at = got at at
+
+unfoldable pub octets : ℕ → Reader (List ℕ)
+octets k o at = cond (leb (at + k) (length o)) (got (take k (drop at o)) (at + k)) (bad 6 at)
+
+unfoldable pub number : ℕ → Reader ℕ
+number k = do
+  x ← octets k
+  give (value x)
+
+unfoldable pub must : {A : Type 0} → ℕ → (A → Bool) → Reader A → Reader A
+must n test r o at = continue (r o at) (λ a next. cond (test a) (got a next) (bad n at))
+
+unfoldable pub refuse : Bool → ℕ → ℕ → Reader (Unit {0})
+refuse test n p o at = cond test (bad n p) (got tt at)
+
+-- "The place is the first octet of the record (in an aggregated message, of the aggregated one), option or attribute at
+-- fault": of a fault's number, the record's first octet and the field's, the record's. (E3 changes this line alone.)
+unfoldable pub placed : ℕ → ℕ → ℕ → ℕ
+placed n first field = first
+
+unfoldable pub handUp : {A : Type 0} → ℕ → Read A → Read A
+handUp first (got a next) = got a next
+handUp first (bad n p) = bad n (placed n first p)
+
+unfoldable pub inRecord : {A : Type 0} → Reader A → Reader A
+inRecord r o at = handUp at (r o at)
+
+unfoldable pub times : {A : Type 0} → ℕ → Reader A → Reader (List A)
+times zero r = give []
+times (suc n) r = do
+  a ← r
+  l ← times n r
+  give (a ∷ l)
+
+-- The first argument only bounds the recursion: a record has an octet at least, so no message has more records than octets.
+unfoldable pub toEnd : {A : Type 0} → ℕ → Reader A → Reader (List A)
+toEnd zero r o at = got [] at
+toEnd (suc n) r o at =
+    cond (leb (length o) at)
+    (got [] at)
+    (continue (r o at) (λ a next. continue (toEnd n r o next) (λ l end. got (a ∷ l) end)))
+
+-- "no record (a packed message ends where its first would begin)", found "where the record should be"
+unfoldable pub records : {A : Type 0} → Reader A → Reader (List A)
+records r o at = cond (leb (length o) at) (bad 5 at) (toEnd (length o) r o at)
+
+-- "octets follow a plain assert", found where they begin
+unfoldable pub nothingMore : Reader (Unit {0})
+nothingMore o at = cond (leb (length o) at) (got tt at) (bad 6 at)
+
+unfoldable pub outcome : {A : Type 0} → Read A → Outcome A
+outcome (got a next) = gives a
+outcome (bad n p) = refuses n p
+
+unfoldable pub from : {A : Type 0} → ℕ → Reader A → List ℕ → Outcome A
+from at r o = outcome (r o at)

@@ -1,0 +1,6 @@
+pub mod Every
+pub mod Records
+pub mod Runs
+pub mod Joining
+pub mod Sizes
+pub mod Most
