@@ -2,9 +2,11 @@
 --     Family            what tells one family from another
 --     ipv4              address family 1 of RFC 7761, 4.9.1
 --     mayBeSource       an address that a source field may hold
+--     Lawful            what the theorems ask of a family
 -- Assumes nothing: these are definitions.
-use Prim.Native.Nat.{ℕ, _^_, _*_}
-use mathlib.Core.Bool.{Bool, not, _&&_, _||_}
+use Prim.Native.Nat.{ℕ, _*_, _<_}
+use mathlib.Core.Path.{_≡_}
+use mathlib.Core.Bool.{Bool, false, not, _&&_, _||_}
 use lib.Dec.{leb, ltb, eqb}
 
 pub record Family : Type 0 where
@@ -32,3 +34,9 @@ ipv4 = record {
 -- the address 0 where the place allows it, and any address that a source may have
 unfoldable pub mayBeSource : Family → Bool → ℕ → Bool
 mayBeSource f zeroAllowed a = f .isSource a || (zeroAllowed && eqb a 0)
+
+-- what the theorems ask of a family, and every family here has: its encoded addresses are octets, and 0 is no address that a source may have
+pub record Lawful (f : Family) : Type 0 where
+  pub familyOctet : f .family < 256
+  pub maskOctet : maskLength f < 256
+  pub zeroIsNone : f .isSource 0 ≡ false

@@ -5,6 +5,8 @@
 use Prim.Native.Nat.{ℕ}
 use mathlib.Core.Bool.{Bool, cond}
 
+infixl 20 _>>=_
+infixl 20 _>>_
 pub data Outcome (A : Type 0) : Type 0 where
   gives : A → Outcome A
   -- 01's number, and the place
@@ -12,12 +14,12 @@ pub data Outcome (A : Type 0) : Type 0 where
 
 -- the order of the lines of a `do` is the order of the checks: the first refusal stands
 unfoldable pub _>>=_ : {A B : Type 0} → Outcome A → (A → Outcome B) → Outcome B
-_>>=_ (gives a) k = k a
-_>>=_ (refuses n p) k = refuses n p
+gives a >>= k = k a
+refuses n p >>= k = refuses n p
 
 unfoldable pub _>>_ : {A B : Type 0} → Outcome A → Outcome B → Outcome B
-_>>_ (gives a) b = b
-_>>_ (refuses n p) b = refuses n p
+gives a >> b = b
+refuses n p >> b = refuses n p
 
 unfoldable pub refuseIf : Bool → ℕ → ℕ → Outcome (Unit {0})
 refuseIf test n p = cond test (refuses n p) (gives tt)

@@ -20,6 +20,8 @@ use lib.Dec.{leb}
 use Rattle.octets.specs.Octets.{value}
 use Rattle.format.specs.Outcome.{Outcome, gives, refuses}
 
+infixl 20 _>>=_
+infixl 20 _>>_
 pub data Read (A : Type 0) : Type 0 where
   -- the value, and the place past it
   got : A → ℕ → Read A

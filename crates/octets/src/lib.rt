@@ -1,6 +1,10 @@
 // Field readers and writers at any place of a slice: numbers of 8, 16 and 32 bits, big-endian. Each is
 // total: a place from which the field does not fit is answered, and never reached.
-//
+ghost use mathlib.Core.Path.{_≡_};
+ghost use Prim.Native.Nat.{_-_, _<_};
+ghost use Rattle.octets.specs.Octets.{be};
+ghost use Rattle.octets.specs.Field.{fieldAt, writtenAt, fitted};
+
 // What reading a field finds.
 pub enum Field {
     // The number, and the place past it.
@@ -15,4 +19,100 @@ pub enum Written {
     Next(usize),
     // It does not fit at this place, and nothing was written.
     Full(usize),
+}
+
+// An octet as a wider number.
+fn wide(x: u8) -> u32
+    ensures { λ r. ⌜ (r ≡ x) × (r < 256) ⌝ }
+{
+    x as u32
+}
+
+// How many of n octets stand at a place and past it: none where the place is past the end.
+fn left(n: usize, at: usize) -> usize
+    ensures { λ r. ⌜ r ≡ n - at ⌝ }
+{
+    if n < at {
+        return 0;
+    }
+    n - at
+}
+
+pub fn read8(s: &[u8], at: usize) -> Field
+    ensures { λ r. ⌜ r ≡ fieldAt 1 (now (s .entry)) at ⌝ }
+{
+    if left(s.len(), at) < 1 {
+        return Field::Short { place: at };
+    }
+    Field::Got {
+        value: wide(s[at]),
+        next: at + 1,
+    }
+}
+
+pub fn read16(s: &[u8], at: usize) -> Field
+    ensures { λ r. ⌜ r ≡ fieldAt 2 (now (s .entry)) at ⌝ }
+{
+    if left(s.len(), at) < 2 {
+        return Field::Short { place: at };
+    }
+    let a = wide(s[at]);
+    let b = wide(s[at + 1]);
+    Field::Got {
+        value: a * 256 + b,
+        next: at + 2,
+    }
+}
+
+pub fn read32(s: &[u8], at: usize) -> Field
+    ensures { λ r. ⌜ r ≡ fieldAt 4 (now (s .entry)) at ⌝ }
+{
+    if left(s.len(), at) < 4 {
+        return Field::Short { place: at };
+    }
+    let a = wide(s[at]);
+    let b = wide(s[at + 1]);
+    let c = wide(s[at + 2]);
+    let d = wide(s[at + 3]);
+    Field::Got {
+        value: ((a * 256 + b) * 256 + c) * 256 + d,
+        next: at + 4,
+    }
+}
+
+pub fn write8(d: &mut [u8], at: usize, n: u8) -> Written
+    ensures answer { λ r. ⌜ r ≡ writtenAt 1 (now (d .entry)) at ⌝ }
+    ensures buffer { λ _. ⌜ now (d .exit) ≡ fitted (now (d .entry)) at (be 1 n) ⌝ }
+{
+    if left(d.len(), at) < 1 {
+        return Written::Full(at);
+    }
+    d[at] = n;
+    Written::Next(at + 1)
+}
+
+pub fn write16(d: &mut [u8], at: usize, n: u16) -> Written
+    ensures answer { λ r. ⌜ r ≡ writtenAt 2 (now (d .entry)) at ⌝ }
+    ensures buffer { λ _. ⌜ now (d .exit) ≡ fitted (now (d .entry)) at (be 2 n) ⌝ }
+{
+    if left(d.len(), at) < 2 {
+        return Written::Full(at);
+    }
+    d[at] = (n / 256) as u8;
+    d[at + 1] = (n % 256) as u8;
+    Written::Next(at + 2)
+}
+
+pub fn write32(d: &mut [u8], at: usize, n: u32) -> Written
+    ensures answer { λ r. ⌜ r ≡ writtenAt 4 (now (d .entry)) at ⌝ }
+    ensures buffer { λ _. ⌜ now (d .exit) ≡ fitted (now (d .entry)) at (be 4 n) ⌝ }
+{
+    if left(d.len(), at) < 4 {
+        return Written::Full(at);
+    }
+    d[at] = (n / 16777216) as u8;
+    d[at + 1] = (n / 65536 % 256) as u8;
+    d[at + 2] = (n / 256 % 256) as u8;
+    d[at + 3] = (n % 256) as u8;
+    Written::Next(at + 4)
 }

@@ -1,0 +1,312 @@
+-- The laws of octets, each stated once, over the width or over the list. Another crate cites them as Rattle.octets.proofs.Laws.
+--     octets-nil, octets-cons, octets-head, octets-tail     a list is of octets where its head is one and its tail is of them, and back
+--     octets-append, octets-take, octets-drop, octets-be    octets are two lists of them in a row, a part, and those of a number
+--     value-cons, value-append, value-lt                    the number that octets spell: by the first, in two parts, below 256 ^ length
+--     be-suc, length-be, be-above                           the octets of a number: by the first, how many, and that what stands above them does not show
+--     value-be, value-be-mod, be-value                      both ways: from a number and back, of any number the rest, from octets and back
+--     put-nil, length-put, octets-put                       a write of nothing; a write keeps the length, and a list of octets
+--     put-put, put-next                                     two writes in a row are one; the same for two calls, by what each promised
+--     take-put, drop-put, take-put-end, drop-put-end        what stands up to the end of a write and past it: at the start, and at any place
+--     part-put, field-put                                   what was written is read back: octets, and a field
+--     stores-put, taken-be                                  stores one by one are a write; the octets as code takes them are those of the number
+--     field-got, field-short, write-next, write-full        what a reader or a writer answers, by the test that its code made
+--     field-back, field-lt, write-back, length-fitted       what a caller learns from an answer
+-- Assumes nothing.
+use mathlib.Core.Path.{_≡_, refl, sym, ap, ap₂, _∙_}
+use mathlib.Core.Bool.{Bool, true, false, cond}
+use mathlib.Core.List.{List, [], _∷_, _++_, append-assoc, append-nil}
+use Prim.Native.Nat.{ℕ, zero, suc, _+_, _*_, _/_, _%_, _^_, _≤_, _<_}
+use native.Mathlib.Nat.{add-zero, add-suc, zero-add, mul-assoc, add-mul, add-assoc, one-le-pow, zero-lt-suc, pow-succ', mod-one, mod-lt, mod-eq-of-lt, div-one, div-lt-iff-lt-mul, mul-add-div-right, mul-add-mod-self-right}
+use native.Mathlib.Decide.{decLe}
+use native.Mathlib.Omega.{arith}
+use lib.Arith.{digits-lt, digits-div, mod-mul}
+use lib.Dec.{leb, lit<}
+use lib.Pow.{pow-add}
+use lib.ListN.{length, getD, set, take, drop, length-append, length-take, length-drop, take-append-drop, drop-of-length-le}
+use lib.Seq.{sets, sets-eq, take-all, take-at, drop-at, drop-cons, drop-drop, getD-drop, length-take-le}
+use borrow.Author.Tests.{le-leb, lt-leb, leb-true}
+use Rattle.octets.specs.Octets.{Octets, value, be, put}
+use Rattle.octets.specs.Field.{fieldAt, writtenAt, fitted}
+use Rattle.octets.specs.declared.Field.the-variants.{Got, Short}
+use Rattle.octets.specs.declared.Written.the-variants.{Next, Full}
+
+-- ---- octets
+
+pub octets-nil : Octets []
+octets-nil i = lit< tt
+
+pub octets-cons : (x : ℕ) (o : List ℕ) → x < 256 → Octets o → Octets (x ∷ o)
+octets-cons x o h t zero = h
+octets-cons x o h t (suc i) = t i
+
+pub octets-head : (x : ℕ) (o : List ℕ) → Octets (x ∷ o) → x < 256
+octets-head x o h = h 0
+
+pub octets-tail : (x : ℕ) (o : List ℕ) → Octets (x ∷ o) → Octets o
+octets-tail x o h i = h (suc i)
+
+pub octets-append : (a b : List ℕ) → Octets a → Octets b → Octets (a ++ b)
+octets-append [] b ha hb = hb
+octets-append (x ∷ a) b ha hb = octets-cons x (a ++ b) (ha 0) (octets-append a b (octets-tail x a ha) hb)
+
+pub octets-take : (k : ℕ) (o : List ℕ) → Octets o → Octets (take k o)
+octets-take zero o h = octets-nil
+octets-take (suc k) [] h = octets-nil
+octets-take (suc k) (x ∷ o) h = octets-cons x (take k o) (h 0) (octets-take k o (octets-tail x o h))
+
+pub octets-drop : (k : ℕ) (o : List ℕ) → Octets o → Octets (drop k o)
+octets-drop k o h i = rw getD-drop (h (k + i))
+
+pub octets-be : (k n : ℕ) → Octets (be k n)
+unfolding be
+octets-be zero n = octets-nil
+octets-be (suc k) n = octets-cons _ (be k n) (mod-lt _ (zero-lt-suc 255)) (octets-be k n)
+
+-- ---- numbers and octets, both ways
+
+pow-pos : (k : ℕ) → 0 < 256 ^ k
+pow-pos k = one-le-pow k 256 (zero-lt-suc 255)
+
+value-nil : value [] ≡ 0
+unfolding value
+value-nil = refl
+
+pub value-cons : (x : ℕ) (o : List ℕ) → value (x ∷ o) ≡ x * 256 ^ length o + value o
+unfolding value
+value-cons x o = refl
+
+be-zero : (n : ℕ) → be 0 n ≡ []
+unfolding be
+be-zero n = refl
+
+pub be-suc : (k n : ℕ) → be (suc k) n ≡ (n / 256 ^ k % 256) ∷ be k n
+unfolding be
+be-suc k n = refl
+
+pub length-be : (k n : ℕ) → length (be k n) ≡ k
+unfolding be
+length-be zero n = refl
+length-be (suc k) n = ap suc (length-be k n)
+
+-- of any number the octets spell what is left of it below 256 ^ k
+pub value-be-mod : (k n : ℕ) → value (be k n) ≡ n % 256 ^ k
+value-be-mod zero n = rw (be-zero, value-nil) (sym (mod-one n))
+value-be-mod (suc k) n =
+    rw (be-suc, value-cons, length-be, value-be-mod k n, pow-succ', mod-mul n {m = 256} {c = 256 ^ k} (zero-lt-suc 255) (pow-pos k))
+
+pub value-be : (k n : ℕ) → n < 256 ^ k → value (be k n) ≡ n
+value-be k n h = value-be-mod k n ∙ mod-eq-of-lt h
+
+pub value-lt : (o : List ℕ) → Octets o → value o < 256 ^ length o
+unfolding value
+value-lt [] h = lit< tt
+value-lt (x ∷ o) h = rw pow-succ' (digits-lt (h 0) (value-lt o (octets-tail x o h)))
+
+-- what stands above the k octets does not show in them
+pub be-above : (k x n : ℕ) → be k (x * 256 ^ k + n) ≡ be k n
+unfolding be
+be-above zero x n = refl
+be-above (suc k) x n =
+    rw (pow-succ', ← mul-assoc)
+    (ap₂ (λ (y : ℕ) (o : List ℕ). y ∷ o)
+    (rw (mul-add-div-right (pow-pos k) (x * 256) n, mul-add-mod-self-right))
+    (be-above k (x * 256) n))
+
+pub be-value : (o : List ℕ) → Octets o → be (length o) (value o) ≡ o
+unfolding be value
+be-value [] h = refl
+be-value (x ∷ o) h =
+    let t : Octets o = octets-tail x o h in
+    ap₂ (λ (y : ℕ) (l : List ℕ). y ∷ l)
+    (rw (digits-div x (value-lt o t)) (mod-eq-of-lt (h 0)))
+    (be-above (length o) x (value o) ∙ be-value o t)
+
+pub value-append : (a b : List ℕ) → value (a ++ b) ≡ value a * 256 ^ length b + value b
+value-append [] b = rw value-nil (omega arith)
+value-append (x ∷ a) b = rw (value-cons x (a ++ b), value-cons x a, length-append, pow-add, value-append a b, add-mul, mul-assoc, add-assoc)
+
+-- ---- put
+
+put-eq : (d : List ℕ) (at : ℕ) (e : List ℕ) → put d at e ≡ take at d ++ (e ++ drop (at + length e) d)
+unfolding put
+put-eq d at e = refl
+
+pub put-nil : (d : List ℕ) (at : ℕ) → put d at [] ≡ d
+unfolding put
+put-nil d at = rw add-zero (take-append-drop at d)
+
+pub length-put : (d : List ℕ) (at : ℕ) (e : List ℕ) → at + length e ≤ length d → length (put d at e) ≡ length d
+unfolding put
+length-put d at e h = simp (length-append, length-take, length-drop) (omega arith)
+
+-- the place lies past the end: nothing stands past what is written
+past : (d : List ℕ) (at : ℕ) (e : List ℕ) → (at ≤ length d → ⊥) → drop (at + length e) d ≡ []
+past d at e h = drop-of-length-le d {i = at + length e} (omega arith)
+
+-- up to the end of what is written: what stood before, and what is written
+pub take-put-end : (d : List ℕ) (at : ℕ) (e : List ℕ) → take (at + length e) (put d at e) ≡ take at d ++ e
+unfolding put
+take-put-end d at e = go (decLe at (length d))
+  where
+    go : Dec (at ≤ length d) → take (at + length e) (take at d ++ (e ++ drop (at + length e) d)) ≡ take at d ++ e
+    go (yes h) = rw (← append-assoc) (take-at (take at d ++ e) (drop (at + length e) d) (at + length e) (simp (length-append, length-take) (omega arith)))
+    go (no h) = rw (past d at e h, append-nil) (take-all (at + length e) (take at d ++ e) (simp (length-append, length-take) (omega arith)))
+
+-- past what is written the buffer is as it was
+pub drop-put-end : (d : List ℕ) (at : ℕ) (e : List ℕ) → drop (at + length e) (put d at e) ≡ drop (at + length e) d
+unfolding put
+drop-put-end d at e = go (decLe at (length d))
+  where
+    go : Dec (at ≤ length d) → drop (at + length e) (take at d ++ (e ++ drop (at + length e) d)) ≡ drop (at + length e) d
+    go (yes h) = rw (← append-assoc) (drop-at (take at d ++ e) (drop (at + length e) d) (at + length e) (simp (length-append, length-take) (omega arith)))
+    go (no h) = rw (past d at e h, append-nil) (drop-of-length-le (take at d ++ e) {i = at + length e} (simp (length-append, length-take) (omega arith)))
+
+pub take-put : (d e : List ℕ) → take (length e) (put d 0 e) ≡ e
+take-put d e = rw zero-add at (take-put-end d 0 e)
+
+pub drop-put : (d e : List ℕ) → drop (length e) (put d 0 e) ≡ drop (length e) d
+drop-put d e = rw zero-add at (drop-put-end d 0 e)
+
+-- what was written is read back
+pub part-put : (d : List ℕ) (at : ℕ) (e : List ℕ) → at ≤ length d → take (length e) (drop at (put d at e)) ≡ e
+unfolding put
+part-put d at e h = rw (drop-at (take at d) (e ++ drop (at + length e) d) at (length-take-le at d h)) (take-at e _ _ refl)
+
+-- octets, and further octets where they end: both, in one
+pub put-put : (d : List ℕ) (at : ℕ) (e f : List ℕ) → put (put d at e) (at + length e) f ≡ put d at (e ++ f)
+put-put d at e f =
+    rw (put-eq (put d at e) (at + length e) f, take-put-end, ← drop-drop, drop-put-end, drop-drop, append-assoc, put-eq d at (e ++ f), append-assoc, length-append, add-assoc)
+
+-- a call's octets after those of the call before
+pub put-next : (l : List ℕ) (at : ℕ) (e f : List ℕ) {m n : List ℕ} {k : ℕ} → m ≡ put l at e → n ≡ put m k f → k ≡ at + length e → n ≡ put l at (e ++ f)
+put-next l at e f p q r = q ∙ rw (p, r) (put-put l at e f)
+
+pub octets-put : (d : List ℕ) (at : ℕ) (e : List ℕ) → Octets d → Octets e → Octets (put d at e)
+unfolding put
+octets-put d at e hd he = octets-append (take at d) (e ++ drop (at + length e) d) (octets-take at d hd) (octets-append e (drop (at + length e) d) he (octets-drop (at + length e) d hd))
+
+-- ---- what the readers and the writers share: octets at a place, one by one
+
+-- the j-th place from a place, as code has it
+abbrev pub place : ℕ → ℕ → ℕ
+place at zero = at
+place at (suc j) = at + suc j
+
+place-add : (at j : ℕ) → place at j ≡ at + j
+place-add at zero = sym (add-zero at)
+place-add at (suc j) = refl
+
+-- the k octets from the j-th on
+abbrev pub octetsFrom : List ℕ → ℕ → ℕ → ℕ → List ℕ
+octetsFrom o at j zero = []
+octetsFrom o at j (suc k) = getD o (place at j) 0 ∷ octetsFrom o at (suc j) k
+
+from-part : (o : List ℕ) (at j k : ℕ) → at + j + k ≤ length o → octetsFrom o at j k ≡ take k (drop (at + j) o)
+from-part o at j zero h = refl
+from-part o at j (suc k) h =
+    let l : at + j < length o = omega arith in
+    rw (place-add, drop-cons o (at + j) 0, ← add-suc, from-part o at (suc j) k (omega arith))
+
+-- octets stored one by one from the j-th place on
+abbrev pub stores : List ℕ → ℕ → ℕ → List ℕ → List ℕ
+stores d at j [] = d
+stores d at j (x ∷ e) = stores (set d (place at j) x) at (suc j) e
+
+stores-sets : (d : List ℕ) (at j : ℕ) (e : List ℕ) → stores d at j e ≡ sets d (at + j) e
+stores-sets d at j [] = refl
+stores-sets d at j (x ∷ e) = rw (place-add, stores-sets _ at (suc j) e, add-suc)
+
+pub stores-put : (d : List ℕ) (at : ℕ) (e : List ℕ) → at + length e ≤ length d → stores d at 0 e ≡ put d at e
+unfolding put
+stores-put d at e h = rw (stores-sets, add-zero, sets-eq, append-assoc)
+
+-- the lowest k octets of a number as code takes them: the last by the remainder alone
+abbrev pub lows : ℕ → ℕ → List ℕ
+lows zero n = []
+lows (suc zero) n = n % 256 ∷ []
+lows (suc (suc k)) n = (n / 256 ^ suc k % 256) ∷ lows (suc k) n
+
+-- the octets of a number below 256 ^ k as code takes them: besides, the first by the division alone
+abbrev pub taken : ℕ → ℕ → List ℕ
+taken zero n = []
+taken (suc zero) n = n ∷ []
+taken (suc (suc k)) n = n / 256 ^ suc k ∷ lows (suc k) n
+
+lows-be : (k n : ℕ) → lows k n ≡ be k n
+unfolding be
+lows-be zero n = refl
+lows-be (suc zero) n = rw div-one
+lows-be (suc (suc k)) n = rw (lows-be (suc k) n, be-suc)
+
+pub taken-be : (k n : ℕ) → n < 256 ^ k → taken k n ≡ be k n
+taken-be zero n h = sym (be-zero n)
+taken-be (suc zero) n h = rw (← lows-be, mod-eq-of-lt h)
+taken-be (suc (suc k)) n h =
+    let l : n / 256 ^ suc k < 256 = div-lt-iff-lt-mul (pow-pos (suc k)) .1 (rw pow-succ' at h) in
+    rw (lows-be (suc k) n, be-suc (suc k) n, mod-eq-of-lt l)
+
+-- ---- the answers, from the tests that the code made
+
+pub field-got : (k : ℕ) (o : List ℕ) (at : ℕ) {v : ℕ} → at + k ≤ length o → v ≡ value (octetsFrom o at 0 k) → Got v (at + k) ≡ fieldAt k o at
+unfolding fieldAt
+field-got k o at h e = rw (le-leb _ _ h, e, from-part o at 0 k (omega arith), add-zero)
+
+pub field-short : (k : ℕ) (o : List ℕ) (at : ℕ) → length o < at + k → Short at ≡ fieldAt k o at
+unfolding fieldAt
+field-short k o at h = rw (lt-leb _ _ h)
+
+pub write-next : (k : ℕ) (d : List ℕ) (at n : ℕ) → at + k ≤ length d → n < 256 ^ k
+    → (Next (at + k) ≡ writtenAt k d at) × (stores d at 0 (taken k n) ≡ fitted d at (be k n))
+unfolding writtenAt fitted
+write-next k d at n h s =
+    let r : at + length (be k n) ≤ length d = rw length-be h in
+    (rw (le-leb _ _ h), rw (le-leb _ _ r, taken-be k n s, stores-put d at (be k n) r))
+
+pub write-full : (k : ℕ) (d : List ℕ) (at n : ℕ) → length d < at + k → (Full at ≡ writtenAt k d at) × (d ≡ fitted d at (be k n))
+unfolding writtenAt fitted
+write-full k d at n h = (rw (lt-leb _ _ h), rw (length-be, lt-leb _ _ h))
+
+-- ---- and back: what a caller learns from an answer
+
+pub field-back : (k : ℕ) (o : List ℕ) (at : ℕ) {v n : ℕ} → fieldAt k o at ≡ Got v n
+    → (at + k ≤ length o) × (v ≡ value (take k (drop at o))) × (n ≡ at + k)
+unfolding fieldAt
+field-back k o at {v} {n} e = go (leb (at + k) (length o)) refl e
+  where
+    go : (b : Bool) → leb (at + k) (length o) ≡ b → cond b (Got (value (take k (drop at o))) (at + k)) (Short at) ≡ Got v n
+        → (at + k ≤ length o) × (v ≡ value (take k (drop at o))) × (n ≡ at + k)
+    go true t p = (leb-true _ _ t, cc, cc)
+    go false t p = let z : _≡_ {A = ℕ} 0 1 = cc in absurd (omega arith)
+
+pub field-lt : (k : ℕ) (o : List ℕ) (at : ℕ) {v n : ℕ} → fieldAt k o at ≡ Got v n → Octets o → v < 256 ^ k
+field-lt k o at e h =
+    let b = field-back k o at e in
+    let l : length (take k (drop at o)) ≡ k = length-take-le k (drop at o) (simp length-drop (omega arith)) in
+    rw (b .1) (rw l at (value-lt (take k (drop at o)) (octets-take k (drop at o) (octets-drop at o h))))
+
+pub write-back : (k : ℕ) (d : List ℕ) (at n : ℕ) {m : ℕ} → writtenAt k d at ≡ Next m
+    → (at + k ≤ length d) × (m ≡ at + k) × (fitted d at (be k n) ≡ put d at (be k n))
+unfolding writtenAt fitted
+write-back k d at n {m} e = go (leb (at + k) (length d)) refl e
+  where
+    go : (b : Bool) → leb (at + k) (length d) ≡ b → cond b (Next (at + k)) (Full at) ≡ Next m
+        → (at + k ≤ length d) × (m ≡ at + k) × (cond (leb (at + length (be k n)) (length d)) (put d at (be k n)) d ≡ put d at (be k n))
+    go true t p = (leb-true _ _ t, cc, rw (length-be, t))
+    go false t p = let z : _≡_ {A = ℕ} 0 1 = cc in absurd (omega arith)
+
+pub length-fitted : (d : List ℕ) (at : ℕ) (e : List ℕ) → length (fitted d at e) ≡ length d
+unfolding fitted
+length-fitted d at e = go (leb (at + length e) (length d)) refl
+  where
+    go : (b : Bool) → leb (at + length e) (length d) ≡ b → length (cond b (put d at e) d) ≡ length d
+    go true t = length-put d at e (leb-true _ _ t)
+    go false t = refl
+
+-- a field that was written is read back
+pub field-put : (k : ℕ) (d : List ℕ) (at n : ℕ) → at + k ≤ length d → n < 256 ^ k → fieldAt k (put d at (be k n)) at ≡ Got n (at + k)
+unfolding fieldAt
+field-put k d at n h s =
+    let r : at + length (be k n) ≤ length d = rw length-be h in
+    let l : at + k ≤ length (put d at (be k n)) = rw (length-put d at (be k n) r) h in
+    let p : take k (drop at (put d at (be k n))) ≡ be k n = rw length-be at (part-put d at (be k n) (omega arith)) in
+    rw (le-leb _ _ l, p, value-be k n s)
