@@ -1,2 +1,3 @@
 pub mod Readers
 pub mod Records
+pub mod Lengths

@@ -23,17 +23,11 @@ use Rattle.format.specs.Family.{Family, maskLength, mayBeSource, Lawful}
 use Rattle.format.specs.Address.{groupForm, groupField, groupOctets, sourceForm, sourceField, sourceOctets}
 use Rattle.format.specs.Record.{each, assertRecord, assertOctets, pairRecord, pairOctets, positive, groupRecord, groupRecordOctets, sourceAggregated, rpAggregated, aggregatedRecord, aggregatedOctets, reserved2}
 use Rattle.format.specs.Entry.{allowedAssert, allowedPair}
+use Rattle.records.proofs.Every.{every-map}
+use Rattle.format.proofs.Lengths.{length-group, length-source}
 use Rattle.format.proofs.Readers.{Reads, reads-give, reads-bind, reads-then, reads-last, reads-here, reads-refuse, reads-octets, reads-number, reads-must, reads-inRecord, reads-times}
 
 -- ---- addresses
-
-pub length-group : (f : Family) (g : ℕ) → length (groupOctets f g) ≡ groupSize (f .width)
-unfolding groupOctets
-length-group f g = omega (arith, length-be (f .width) g)
-
-pub length-source : (f : Family) (s : ℕ) → length (sourceOctets f s) ≡ sourceSize (f .width)
-unfolding sourceOctets
-length-source f s = omega (arith, length-be (f .width) s)
 
 -- a test that has passed stays out of the way
 same : (n : ℕ) → eqb n n ≡ true
@@ -163,11 +157,6 @@ unfoldable pub AggregatedFits : Family → AggregatedRecord → Type 0
 AggregatedFits f (ofSource v m s gs) = SourceAggregatedFits f v m s gs
 AggregatedFits f (ofRp v m rs) = RpAggregatedFits f v m rs
 
-pub every-map : {A : Type 0} {P Q : A → Type 0} → ((a : A) → P a → Q a) → (l : List A) → Every P l → Every Q l
-unfolding Every
-every-map h [] p = tt
-every-map h (a ∷ l) p = (h a (p .0), every-map h l (p .1))
-
 positive-count : (n : ℕ) → 0 < n → n < 256 ^ 2 → Reads positive n (be 2 n)
 unfolding positive
 positive-count n some small =
@@ -185,7 +174,7 @@ module _ (f : Family) where
       (reads-then reads-reserved
       (reads-last (λ (ss : List ℕ). ofGroup g ss)
       (reads-times (sourceField f true) (sourceOctets f) ss
-      (every-map (λ (s : ℕ) h. reads-source f true s (h .0) (h .1)) ss (fits .sources))))))
+      (every-map _ _ (λ (s : ℕ) h. reads-source f true s (h .0) (h .1)) ss (fits .sources))))))
 
   pub reads-aggregated : (r : AggregatedRecord) → AggregatedFits f r → Reads (aggregatedRecord f) r (aggregatedOctets f r)
   unfolding aggregatedRecord aggregatedOctets AggregatedFits sourceAggregated rpAggregated
@@ -199,7 +188,7 @@ module _ (f : Family) where
       (reads-then reads-reserved
       (reads-last (λ (gs : List ℕ). ofSource v m s gs)
       (reads-times (groupField f) (groupOctets f) gs
-      (every-map (λ (g : ℕ) h. reads-group f g (h .0) (h .1)) gs (fits .groups))))))))))
+      (every-map _ _ (λ (g : ℕ) h. reads-group f g (h .0) (h .1)) gs (fits .groups))))))))))
   reads-aggregated (ofRp v m rs) fits =
       reads-inRecord
       (reads-bind _ (reads-number v 4 (fits .rPreference))
@@ -208,4 +197,4 @@ module _ (f : Family) where
       (reads-bind _ (positive-count (length rs) (fits .some) (fits .count))
       (reads-then reads-reserved
       (reads-last (λ (rs : List GroupRecord). ofRp v m rs)
-      (reads-times (groupRecord f) (groupRecordOctets f) rs (every-map reads-groupRecord rs (fits .records)))))))))
+      (reads-times (groupRecord f) (groupRecordOctets f) rs (every-map _ _ reads-groupRecord rs (fits .records)))))))))

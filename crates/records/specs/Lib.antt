@@ -4,3 +4,4 @@ pub mod Runs
 pub mod Joining
 pub mod Sizes
 pub mod Most
+pub mod Train
