@@ -77,20 +77,20 @@ module _ (f : Family) where
 pub record AreOctets (o : List ℕ) : Type 0 where
   pub below : Octets o
 
-no-octets : AreOctets []
+pub no-octets : AreOctets []
 no-octets = record { below = octets-nil }
 
-octet : {x : ℕ} {o : List ℕ} → x < 256 → AreOctets o → AreOctets (x ∷ o)
+pub octet : {x : ℕ} {o : List ℕ} → x < 256 → AreOctets o → AreOctets (x ∷ o)
 octet {x} {o} h t = record { below = octets-cons x o h (t .below) }
 
-zero-octet : {o : List ℕ} → AreOctets o → AreOctets (0 ∷ o)
+pub zero-octet : {o : List ℕ} → AreOctets o → AreOctets (0 ∷ o)
 zero-octet t = octet (lit< tt) t
 
 infixr 60 _then_
-_then_ : {a b : List ℕ} → AreOctets a → AreOctets b → AreOctets (a ++ b)
+pub _then_ : {a b : List ℕ} → AreOctets a → AreOctets b → AreOctets (a ++ b)
 _then_ {a} {b} h t = record { below = octets-append a b (h .below) (t .below) }
 
-number : (k n : ℕ) → AreOctets (be k n)
+pub number : (k n : ℕ) → AreOctets (be k n)
 number k n = record { below = octets-be k n }
 
 pub octets-each : {A : Type 0} (octetsOf : A → List ℕ) → ((a : A) → AreOctets (octetsOf a)) → (l : List A) → AreOctets (each octetsOf l)

@@ -1,3 +1,6 @@
 pub mod Readers
-pub mod Records
 pub mod Lengths
+pub mod Records
+pub mod Messages
+pub mod Joined
+pub mod Taken

@@ -86,6 +86,11 @@ pub reads-last : {A B : Type 0} {r : Reader A} {a : A} {x : List ℕ} (g : A →
 unfolding _>>=_ continue give
 reads-last g hr = record { read = λ o at h. rw (hr .read o at h) }
 
+-- the last line, where the value is known already
+pub reads-done : {A B : Type 0} {r : Reader A} {a : A} {x : List ℕ} (b : B) → Reads r a x → Reads (r >> give b) b x
+unfolding _>>_ continue give
+reads-done b hr = record { read = λ o at h. rw (hr .read o at h) }
+
 -- a line that reads nothing, whatever it gives
 pub reads-here : {B : Type 0} {k : ℕ → Reader B} {b : B} {x : List ℕ} → ((n : ℕ) → Reads (k n) b x) → Reads (here >>= k) b x
 unfolding _>>=_ continue here

@@ -69,11 +69,11 @@ pub record PairFits (f : Family) (e : PairRecord) : Type 0 where
   pub group : e .group < 256 ^ f .width
   pub source : e .source < 256 ^ f .width
 
-both-left : (a b : Bool) → (a && b) ≡ true → a ≡ true
+pub both-left : (a b : Bool) → (a && b) ≡ true → a ≡ true
 both-left true b e = refl
 both-left false b e = e
 
-both-right : (a b : Bool) → (a && b) ≡ true → b ≡ true
+pub both-right : (a b : Bool) → (a && b) ≡ true → b ≡ true
 both-right true b e = e
 both-right false b e = absurd (let z : _≡_ {A = ℕ} 0 1 = cc in omega arith)
 
@@ -88,7 +88,7 @@ only-source f s e = or-false (f .isSource s) e
 
 module _ (f : Family) (lawful : Lawful f) where
   -- a source that R allows may stand in the record, and with R=0 it is not 0
-  source-any : (r : Bool) (s : ℕ) → mayBeSource f r s ≡ true → mayBeSource f true s ≡ true
+  pub source-any : (r : Bool) (s : ℕ) → mayBeSource f r s ≡ true → mayBeSource f true s ≡ true
   unfolding mayBeSource
   source-any true s e = e
   source-any false s e = rw (only-source f s e)

@@ -3,11 +3,15 @@
 --     every-both     two such facts together
 --     every-append   of every element of two lists
 --     every-of-map   of every element of a mapped list
+--     every-mapped   and if the fact is only of the list's own
+--     every-replicate    of every copy of an element
 --     every-middle   of an element that is followed by others
 --     map-back       a map that another undoes on every element
 -- Assumes nothing.
 use mathlib.Core.Path.{_≡_, refl, ap₂}
 use mathlib.Core.List.{List, [], _∷_, _++_, map}
+use lib.ListN.{replicate}
+use Prim.Native.Nat.{ℕ, zero, suc}
 use Rattle.records.specs.Every.{Every}
 
 module _ {A : Type 0} where
@@ -30,6 +34,16 @@ module _ {A : Type 0} where
   unfolding Every
   every-of-map P f h [] = tt
   every-of-map P f h (a ∷ l) = (h a, every-of-map P f h l)
+
+  pub every-mapped : {B : Type 0} (P : B → Type 0) (f : A → B) (l : List A) → Every (λ a. P (f a)) l → Every P (map f l)
+  unfolding Every
+  every-mapped P f [] h = tt
+  every-mapped P f (a ∷ l) h = (h .0, every-mapped P f l (h .1))
+
+  pub every-replicate : (P : A → Type 0) (n : ℕ) (a : A) → P a → Every P (replicate n a)
+  unfolding Every
+  every-replicate P zero a h = tt
+  every-replicate P (suc n) a h = (h, every-replicate P n a h)
 
   pub every-middle : (P : A → Type 0) (l : List A) (b : A) (m : List A) → Every P (l ++ b ∷ m) → P b
   unfolding Every

@@ -24,17 +24,21 @@ module _ {A : Type 0} (Fits : List A → Type 0) (closed : (k : ℕ) (l : List A
   ahead : (q i : ℕ) (b l : List A) → q ≤ i → i ≤ length es → Fits b → drop q es ≡ b ++ l → q + length b ≤ i + next i
   ahead q i b l h n f e = go (decLe (q + length b) i)
     where
+      k : ℕ
+      k = i - q
+
+      past : k ≤ length b → i ≡ q + k → drop i es ≡ drop k b ++ l
+      past g p = ap (λ (x : ℕ). drop x es) p ∙ sym (drop-drop k q es) ∙ ap (drop k) e ∙ drop-append-le k b l g
+
       go : Dec (q + length b ≤ i) → q + length b ≤ i + next i
       go (yes g) = omega arith
       go (no g) =
-          let k = i - q in
-          let place : i ≡ q + k = omega arith in
-          let rest : drop i es ≡ drop k b ++ l =
-          ap (λ (x : ℕ). drop x es) place ∙ sym (drop-drop k q es) ∙ ap (drop k) e ∙ drop-append-le k b l (omega arith) in
-          let left : length (drop k b) ≡ length b - k = length-drop k b in
+          let rest = past (omega arith) (omega arith) in
+          let left = length-drop k b in
           let long = simp (length-drop, length-append) at (ap length rest) in
           omega (arith, greedy i (length (drop k b)) (omega arith) (rw (rest, take-append-seam) (closed k b f)))
 
+  -- so it stays ahead, and is done when the other train is
   frontier : {p i j : ℕ} (bs : List (List A)) → Every Fits bs → (q : ℕ) → q ≤ i → p ≤ length es → Steps next i p j
       → drop q es ≡ flatten bs ++ drop p es → j ≤ length bs
   unfolding Every flatten

@@ -1,11 +1,11 @@
 -- Laws of the two tests by which entries are joined, and of the records that a run becomes.
---     Together, together-to, to-together     what the test `together` says of two entries
 --     Shares                                 an entry of a preference and metric
+--     Together, together-to, to-together     what the test `together` says of two entries
 --     together-cong, sameGroup-cong          entries that go together go with the same entries
 --     aggregated-rp, aggregated-source       the aggregated record for a run, by its R bit
 --     group-many, group-few, group-other     the group records for a run of one group: p=0 is written for sources that are all
 --                                            0 and fewer than (w + 8) / 6, and for no others
---     group-cases                            so there are three cases
+--     groupRecords-elim                      so there are three cases
 -- Assumes nothing.
 use Prim.Native.Nat.{ℕ, _+_, _*_, _≤_, _<_}
 use native.Mathlib.Omega.{arith}
@@ -16,14 +16,16 @@ use mathlib.Core.List.{List, [], _∷_, map}
 use lib.ListN.{length, replicate}
 use borrow.Author.Tests.{eqb-true, eq-eqb, lt-ltb, le-ltb}
 use lib.Dec.{eqb}
-use Rattle.records.specs.Records.{AssertRecord, ofGroup, ofSource, ofRp, rBit}
+use Rattle.records.specs.Records.{AssertRecord, GroupRecord, ofGroup, ofSource, ofRp, rBit}
 use Rattle.records.specs.Runs.{run, runs}
 use Rattle.records.specs.Joining.{together, sameGroup, allZero, groupRecords, allGroupRecords, aggregated}
 use Rattle.records.specs.Sizes.{groupRecordSize}
 
+-- an entry of this preference and metric
 abbrev pub Shares : ℕ → ℕ → AssertRecord → Type 0
 Shares v m e = (e .rPreference ≡ v) × (e .metric ≡ m)
 
+-- what entries that are joined have in common
 pub record Together (a b : AssertRecord) : Type 0 where
   pub rPreference : a .rPreference ≡ b .rPreference
   pub metric : a .metric ≡ b .metric
@@ -89,10 +91,13 @@ module _ (w g : ℕ) (ss : List ℕ) where
   unfolding groupRecords
   group-other z = rw z
 
-  pub group-cases : {X : Type 0} → (allZero ss ≡ true → 6 * length ss < w + 8 → X) → (allZero ss ≡ true → w + 8 ≤ 6 * length ss → X)
-      → (allZero ss ≡ false → X) → X
-  group-cases {X} few many other = go (allZero ss) refl
+  pub groupRecords-elim : (P : List GroupRecord → Type 0)
+      → (allZero ss ≡ true → 6 * length ss < w + 8 → P (replicate (length ss) (ofGroup g [])))
+      → (allZero ss ≡ true → w + 8 ≤ 6 * length ss → P (ofGroup g ss ∷ []))
+      → (allZero ss ≡ false → P (ofGroup g ss ∷ [])) → P (groupRecords w g ss)
+  groupRecords-elim P few many other = go (allZero ss) refl (decLe (w + 8) (6 * length ss))
     where
-      go : (z : Bool) → allZero ss ≡ z → X
-      go true z = elim (decLe (w + 8) (6 * length ss)) [ yes h ↦ many z h | no h ↦ few z (omega arith) ]
-      go false z = other z
+      go : (z : Bool) → allZero ss ≡ z → Dec (w + 8 ≤ 6 * length ss) → P (groupRecords w g ss)
+      go true z (yes h) = rw (group-many z h) (many z h)
+      go true z (no h) = let k : 6 * length ss < w + 8 = omega arith in rw (group-few z k) (few z k)
+      go false z d = rw (group-other z) (other z)

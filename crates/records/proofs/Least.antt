@@ -1,13 +1,16 @@
 -- Joined records take the fewest octets, for addresses of any length w.
---     joined-parts      the octets of two lists of entries, joined apart and joined together
---     subadditive, cut, drop-front, drop-back
---                       what joined-parts says, one fact each: joining all at once is never longer, a cut adds at most w + 20
---                       octets, and fewer entries never take more
---     least             no records that stand for the same entries take fewer octets than the joined ones
+--     groupRunSize, group-size             the octets of a run of one group
+--     groupCost, groupsCost, recordCost    the octets of a run of one group, of the runs by group and of a run, as costs of runs
+--     rp-cost, source-cost, joined-size    what a run costs, by its R bit, and that joined records cost what their runs cost
+--     joined-parts                         the octets of two lists of entries, joined apart and joined together, from which
+--         subadditive                          joining all at once is never longer
+--         cut                                  a cut adds at most w + 20 octets
+--         drop-front, drop-back, take-mono     fewer entries never take more
+--     least                                no records that stand for the same entries take fewer octets
 -- Assumes nothing.
 use Prim.Native.Nat.{ℕ, zero, suc, _+_, _*_, _≤_, min}
 use native.Mathlib.Omega.{arith}
-use mathlib.Core.Path.{_≡_, refl, sym, ap, _∙_}
+use mathlib.Core.Path.{_≡_, refl, sym, _∙_}
 use mathlib.Core.Bool.{Bool, true, false, cond, _&&_}
 use mathlib.Core.List.{List, [], _∷_, _++_, map, map-append}
 use lib.ListN.{length, replicate, take, drop, length-append, length-map, take-append-drop}
@@ -21,7 +24,7 @@ use Rattle.records.specs.Joining.{together, sameGroup, allZero, groupRec
 use Rattle.records.specs.Sizes.{groupRecordSize, groupRecordsSize, aggregatedSize, allSize}
 use Rattle.records.proofs.Every.{every-map, every-of-map, every-middle}
 use Rattle.records.proofs.Runs.{Block, total, Parts, parts, runs-one}
-use Rattle.records.proofs.Joining.{Shares, together-to, to-together, together-cong, sameGroup-cong, aggregated-rp, aggregated-source, group-few, group-many, group-other, group-cases}
+use Rattle.records.proofs.Joining.{Shares, together-to, to-together, together-cong, sameGroup-cong, aggregated-rp, aggregated-source, groupRecords-elim}
 use Rattle.records.proofs.Lossless.{groups-share}
 
 -- ---- group records
@@ -59,10 +62,8 @@ zero-size w g (suc n) = omega (arith, zero-size w g n)
 pub group-size : (w g : ℕ) (ss : List ℕ) → groupRecordsSize w (groupRecords w g ss) ≡ groupRunSize w (allZero ss) (length ss)
 unfolding groupRecordsSize groupRunSize
 group-size w g ss =
-    group-cases w g ss
-    (λ z h. rw (group-few w g ss z h, z, zero-size) (omega arith))
-    (λ z h. rw (group-many w g ss z h, z) (omega arith))
-    (λ z. rw (group-other w g ss z, z) (omega arith))
+    groupRecords-elim w g ss (λ rs. groupRecordsSize w rs ≡ groupRunSize w (allZero ss) (length ss))
+    (λ z h. rw (z, zero-size) (omega arith)) (λ z h. rw z (omega arith)) (λ z. rw z (omega arith))
 
 groupRecordsSize-append : (w : ℕ) (a b : List GroupRecord) → groupRecordsSize w (a ++ b) ≡ groupRecordsSize w a + groupRecordsSize w b
 unfolding groupRecordsSize
@@ -72,7 +73,6 @@ groupRecordsSize-append w (ofGroup g ss ∷ a) b = omega (arith, groupRecordsSiz
 abbrev sources : List AssertRecord → List ℕ
 sources es = map (λ (x : AssertRecord). x .source) es
 
--- the octets of a run of one group, and of the runs by group of entries
 unfoldable pub groupCost : ℕ → Run AssertRecord → ℕ
 groupCost w (run e es) = let ss = sources (e ∷ es) in groupRunSize w (allZero ss) (length ss)
 
@@ -98,11 +98,12 @@ groups-parts w = parts sameGroup sameGroup-cong (groupCost w) (w + 8) (λ a b l 
 unfoldable pub recordCost : ℕ → Run AssertRecord → ℕ
 recordCost w r = aggregatedSize w (aggregated w r)
 
-rp-cost : (w : ℕ) (e : AssertRecord) (es : List AssertRecord) → rBit (e .rPreference) ≡ true → recordCost w (run e es) ≡ 12 + groupsCost w (e ∷ es)
+pub rp-cost : (w : ℕ) (e : AssertRecord) (es : List AssertRecord) → rBit (e .rPreference) ≡ true
+    → recordCost w (run e es) ≡ 12 + groupsCost w (e ∷ es)
 unfolding recordCost aggregatedSize groupsCost
 rp-cost w e es r = rw (aggregated-rp w e es r, group-runs-size)
 
-source-cost : (w : ℕ) (e : AssertRecord) (es : List AssertRecord) → rBit (e .rPreference) ≡ false
+pub source-cost : (w : ℕ) (e : AssertRecord) (es : List AssertRecord) → rBit (e .rPreference) ≡ false
     → recordCost w (run e es) ≡ 12 + (w + 2) + (w + 4) * length (e ∷ es)
 unfolding recordCost aggregatedSize
 source-cost w e es r = rw (aggregated-source w e es r, length-map)
@@ -115,8 +116,10 @@ record-cost-parts w a b l m h = go (rBit (a .rPreference)) refl
     agree : a .rPreference ≡ b .rPreference
     agree = together-to a b (every-middle _ l b m h) .rPreference
 
-    go : (t : Bool) → rBit (a .rPreference) ≡ t → Parts (w + 8 + 12) (recordCost w (run a l)) (recordCost w (run b m)) (recordCost w (run a (l ++ b ∷ m)))
-    go true r = rw (rp-cost w a l r, rp-cost w b m (rw agree at r), rp-cost w a (l ++ b ∷ m) r) (omega (arith, groups-parts w (a ∷ l) (b ∷ m)))
+    go : (t : Bool) → rBit (a .rPreference) ≡ t
+        → Parts (w + 8 + 12) (recordCost w (run a l)) (recordCost w (run b m)) (recordCost w (run a (l ++ b ∷ m)))
+    go true r =
+        rw (rp-cost w a l r, rp-cost w b m (rw agree at r), rp-cost w a (l ++ b ∷ m) r) (omega (arith, groups-parts w (a ∷ l) (b ∷ m)))
     go false r =
         rw (source-cost w a l r, source-cost w b m (rw agree at r), source-cost w a (l ++ b ∷ m) r, length-append) (omega arith)
 
@@ -125,10 +128,13 @@ unfolding allSize total recordCost
 run-sizes w [] = refl
 run-sizes w (r ∷ rs) = rw (run-sizes w rs)
 
+pub joined-size : (w : ℕ) (es : List AssertRecord) → allSize w (joined w es) ≡ total (recordCost w) (runs together es)
+unfolding joined
+joined-size w es = run-sizes w (runs together es)
+
 pub joined-parts : (w : ℕ) (a b : List AssertRecord)
     → Parts (w + 8 + 12) (allSize w (joined w a)) (allSize w (joined w b)) (allSize w (joined w (a ++ b)))
-unfolding joined
-joined-parts w a b = simp run-sizes (parts together together-cong (recordCost w) (w + 8 + 12) (record-cost-parts w) a b)
+joined-parts w a b = simp joined-size (parts together together-cong (recordCost w) (w + 8 + 12) (record-cost-parts w) a b)
 
 pub subadditive : (w : ℕ) (a b : List AssertRecord) → allSize w (joined w (a ++ b)) ≤ allSize w (joined w a) + allSize w (joined w b)
 subadditive w a b = joined-parts w a b .joined
@@ -142,13 +148,14 @@ drop-front w k es = rw (take-append-drop k es) at (joined-parts w (take k es) (d
 pub drop-back : (w k : ℕ) (es : List AssertRecord) → allSize w (joined w (take k es)) ≤ allSize w (joined w es)
 drop-back w k es = rw (take-append-drop k es) at (joined-parts w (take k es) (drop k es) .front)
 
-pub take-mono : (w : ℕ) {j k : ℕ} (es : List AssertRecord) → j ≤ k → allSize w (joined w (take j es)) ≤ allSize w (joined w (take k es))
-take-mono w {j} {k} es h = rw (take-take j k es h) at (drop-back w j (take k es))
+pub take-mono : (w j k : ℕ) (es : List AssertRecord) → j ≤ k → allSize w (joined w (take j es)) ≤ allSize w (joined w (take k es))
+take-mono w j k es h = rw (take-take j k es h) at (drop-back w j (take k es))
 
 -- ---- the least
 
 -- a run of one group takes at most what one group record takes
-group-one : (w : ℕ) (e : AssertRecord) (es : List AssertRecord) → Block sameGroup (run e es) → groupsCost w (e ∷ es) ≤ groupRecordSize w (length (e ∷ es))
+group-one : (w : ℕ) (e : AssertRecord) (es : List AssertRecord) → Block sameGroup (run e es)
+    → groupsCost w (e ∷ es) ≤ groupRecordSize w (length (e ∷ es))
 unfolding groupsCost total groupCost
 group-one w e es h =
     rw (runs-one sameGroup sameGroup-cong e es h)
@@ -157,7 +164,8 @@ group-one w e es h =
 group-least : (w v m : ℕ) (r : GroupRecord) → groupsCost w (groupEntries v m r) ≤ groupRecordsSize w (r ∷ [])
 unfolding groupEntries groupRecordsSize groupsCost runs glue total groupCost groupRunSize allZero sameGroup Block
 group-least w v m (ofGroup g []) = omega arith
-group-least w v m (ofGroup g (s ∷ ss)) = omega (arith, simp length-map at (group-one w (assert g s v m) (map of ss) (every-of-map _ of (λ x. eq-eqb g g refl) ss)))
+group-least w v m (ofGroup g (s ∷ ss)) =
+    omega (arith, simp length-map at (group-one w (assert g s v m) (map of ss) (every-of-map _ of (λ x. eq-eqb g g refl) ss)))
   where
     of : ℕ → AssertRecord
     of x = assert g x v m
@@ -168,24 +176,28 @@ groups-least w v m [] = omega arith
 groups-least w v m (ofGroup g ss ∷ rs) =
     omega (arith, groups-parts w (groupEntries v m (ofGroup g ss)) (allGroupEntries v m rs), group-least w v m (ofGroup g ss), groups-least w v m rs)
 
-joined-one : (w : ℕ) (e : AssertRecord) (es : List AssertRecord) → Block together (run e es) → allSize w (joined w (e ∷ es)) ≡ recordCost w (run e es)
-unfolding joined recordCost allSize
-joined-one w e es h = ap (λ (rs : List (Run AssertRecord)). allSize w (map (aggregated w) rs)) (runs-one together together-cong e es h) ∙ omega arith
+joined-one : (w : ℕ) (e : AssertRecord) (es : List AssertRecord) → Block together (run e es)
+    → allSize w (joined w (e ∷ es)) ≡ recordCost w (run e es)
+unfolding total
+joined-one w e es h = rw (joined-size, runs-one together together-cong e es h) (omega arith)
 
 -- what an aggregated record stands for is one run
 rp-least : (w v m : ℕ) (es : List AssertRecord) → rBit v ≡ true → Every (Shares v m) es → allSize w (joined w es) ≤ 12 + groupsCost w es
 unfolding joined runs allSize Every Block
 rp-least w v m [] r h = omega arith
-rp-least w v m (e ∷ es) r h =
-    let s : rBit (e .rPreference) ≡ true = rw (h .0 .0) r in
-    let block = every-map (Shares v m) (λ x. together e x ≡ true)
-    (λ x j. to-together e x (record { rPreference = h .0 .0 ∙ sym (j .0); metric = h .0 .1 ∙ sym (j .1); source = λ f. cc })) es (h .1) in
-    omega (arith, rp-cost w e es s, joined-one w e es block)
+rp-least w v m (e ∷ es) r h = omega (arith, rp-cost w e es has-r, joined-one w e es (every-map _ _ agree es (h .1)))
+  where
+    has-r : rBit (e .rPreference) ≡ true
+    has-r = rw (h .0 .0) r
+
+    agree : (x : AssertRecord) → Shares v m x → together e x ≡ true
+    agree x j = to-together e x (record { rPreference = h .0 .0 ∙ sym (j .0); metric = h .0 .1 ∙ sym (j .1); source = λ f. cc has-r })
 
 record-least : (w : ℕ) (r : AggregatedRecord) → Formed r → allSize w (joined w (entries r)) ≤ aggregatedSize w r
 unfolding entries aggregatedSize Formed joined runs allSize Block
 record-least w (ofSource v m s []) h = omega arith
-record-least w (ofSource v m s (g ∷ gs)) h = omega (arith, simp length-map at (source-cost w (of g) (map of gs) h), joined-one w (of g) (map of gs) block)
+record-least w (ofSource v m s (g ∷ gs)) h =
+    omega (arith, simp length-map at (source-cost w (of g) (map of gs) h), joined-one w (of g) (map of gs) block)
   where
     of : ℕ → AssertRecord
     of x = assert x s v m

@@ -1,4 +1,5 @@
 -- Joining loses nothing.
+--     groups-share        the entries that group records stand for have one preference and metric
 --     lossless            the joined records stand for the entries that were joined, in their order
 --     joined-formed       the R bit of each joined record says what it is
 --     joined-nonempty     entries join to at least one record
@@ -16,7 +17,7 @@ use Rattle.records.specs.Runs.{Run, run, ofRun, runs}
 use Rattle.records.specs.Joining.{together, sameGroup, allZero, groupRecords, allGroupRecords, aggregated, joined}
 use Rattle.records.proofs.Every.{every-map, every-both, every-append, every-of-map, map-back}
 use Rattle.records.proofs.Runs.{Block, runs-spread, runs-every, runs-block, glue-elim}
-use Rattle.records.proofs.Joining.{Shares, Together, together-to, together-cong, sameGroup-cong, aggregated-rp, aggregated-source, group-few, group-many, group-other, group-cases}
+use Rattle.records.proofs.Joining.{Shares, Together, together-to, together-cong, sameGroup-cong, aggregated-rp, aggregated-source, groupRecords-elim}
 
 -- ---- group records
 
@@ -30,12 +31,13 @@ unfolding groupEntries Every
 group-shares v m (ofGroup g []) = omega arith
 group-shares v m (ofGroup g (s ∷ ss)) = every-of-map (Shares v m) (λ (x : ℕ). assert g x v m) (λ x. (refl, refl)) (s ∷ ss)
 
--- every entry that group records stand for has their preference and metric
 pub groups-share : (v m : ℕ) (rs : List GroupRecord) → Every (Shares v m) (allGroupEntries v m rs)
 unfolding allGroupEntries Every
 groups-share v m [] = tt
-groups-share v m (r ∷ rs) = every-append (Shares v m) (groupEntries v m r) (allGroupEntries v m rs) (group-shares v m r) (groups-share v m rs)
+groups-share v m (r ∷ rs) =
+    every-append (Shares v m) (groupEntries v m r) (allGroupEntries v m rs) (group-shares v m r) (groups-share v m rs)
 
+-- as many group records with p=0 as there are sources, all 0
 zero-entries : (v m g : ℕ) (ss : List ℕ) → allZero ss ≡ true
     → allGroupEntries v m (replicate (length ss) (ofGroup g [])) ≡ map (λ (x : ℕ). assert g x v m) ss
 unfolding allGroupEntries groupEntries allZero
@@ -48,10 +50,8 @@ zero-entries v m g (s ∷ ss) z =
 group-entries : (w v m g s : ℕ) (ss : List ℕ) → allGroupEntries v m (groupRecords w g (s ∷ ss)) ≡ map (λ (x : ℕ). assert g x v m) (s ∷ ss)
 unfolding allGroupEntries groupEntries
 group-entries w v m g s ss =
-    group-cases w g (s ∷ ss)
-    (λ z h. rw (group-few w g (s ∷ ss) z h) (zero-entries v m g (s ∷ ss) z))
-    (λ z h. rw (group-many w g (s ∷ ss) z h) (append-nil _))
-    (λ z. rw (group-other w g (s ∷ ss) z) (append-nil _))
+    groupRecords-elim w g (s ∷ ss) (λ rs. allGroupEntries v m rs ≡ map (λ (x : ℕ). assert g x v m) (s ∷ ss))
+    (λ z h. zero-entries v m g (s ∷ ss) z) (λ z h. append-nil _) (λ z. append-nil _)
 
 -- the group records of the runs of one preference and metric stand for them
 all-group-entries : (w v m : ℕ) (rs : List (Run AssertRecord)) → Every (Block sameGroup) rs
@@ -71,6 +71,7 @@ all-group-entries w v m (run e es ∷ rs) h k =
 
 -- ---- aggregated records
 
+-- the aggregated record of a run stands for it
 run-entries : (w : ℕ) (r : Run AssertRecord) → Block together r → entries (aggregated w r) ≡ ofRun r
 unfolding Every ofRun Block entries
 run-entries w (run e es) h = go (rBit (e .rPreference)) refl

@@ -1,9 +1,9 @@
 -- Laws of the largest number up to n that passes a test.
 --     most-yes, most-no     it is suc n if that passes, else what it is at n
---     most-le it is at most n
---     most-fits if it is not 0, it passes
---     most-ge no number from 1 to n that passes is larger
---     most-unique where a number passes only if the one below does: the number at which a scan from 0 stops is it
+--     most-le               it is at most n
+--     most-fits             if it is not 0, it passes
+--     most-ge               no number from 1 to n that passes is larger
+--     most-unique           where a number passes only if the one below does: it is the number at which a scan from 0 stops
 -- Assumes nothing.
 use Prim.Native.Nat.{ℕ, zero, suc, _≤_, _<_}
 use native.Mathlib.Omega.{arith}
@@ -25,7 +25,8 @@ module _ (fits : ℕ → Bool) where
   unfolding most
   most-no n e = rw e
 
-  most-elim : (P : ℕ → Type 0) (n : ℕ) → (fits (suc n) ≡ true → P (suc n)) → (fits (suc n) ≡ false → P (most fits n)) → P (most fits (suc n))
+  most-elim : (P : ℕ → Type 0) (n : ℕ) → (fits (suc n) ≡ true → P (suc n)) → (fits (suc n) ≡ false → P (most fits n))
+      → P (most fits (suc n))
   most-elim P n passes fails = go (fits (suc n)) refl
     where
       go : (t : Bool) → fits (suc n) ≡ t → P (most fits (suc n))

@@ -6,7 +6,7 @@
 --     runs-one                    a block alone is one run
 --     Cut, runs-cut               the runs of two lists and of the two lists joined: at most one run is cut in two
 --     total, Parts, parts         what a cut does to the cost of one run it does to the cost of a list
---     least                       the runs cost at most what any other blocks of the same list cost
+--     runs-least                  the runs cost at most what any other blocks of the same list cost
 -- Assumes nothing.
 use Prim.Native.Nat.{ℕ, _+_, _≤_}
 use native.Mathlib.Omega.{arith}
@@ -22,18 +22,19 @@ use Rattle.records.specs.Runs.{Run, run, ofRun, glue, runs}
 unfoldable pub Block : {A : Type 0} → (A → A → Bool) → Run A → Type 0
 Block same (run a l) = Every (λ b. same a b ≡ true) l
 
--- a run before runs
+-- a run before runs: it joins the first if it goes with that one's first element
 unfoldable pub joinRun : {A : Type 0} → (A → A → Bool) → Run A → List (Run A) → List (Run A)
 joinRun same (run a l) [] = run a l ∷ []
 joinRun same (run a l) (run b m ∷ rs) = cond (same a b) (run a (l ++ b ∷ m) ∷ rs) (run a l ∷ run b m ∷ rs)
 
--- the third list is the first two, one after the other, but that the last run of the first and the first of the second may
--- be one
+-- the third list is the first two, one after the other, save that the last run of the first and the first of the second may
+-- have become one
 pub data Cut {A : Type 0} : List (Run A) → List (Run A) → List (Run A) → Type 0 where
   between : {rs : List (Run A)} → Cut [] rs rs
   within : {a b : A} {l m : List A} {rs : List (Run A)} → Cut (run a l ∷ []) (run b m ∷ rs) (run a (l ++ b ∷ m) ∷ rs)
   after : {r : Run A} {ps qs rs : List (Run A)} → Cut ps qs rs → Cut (r ∷ ps) qs (r ∷ rs)
 
+-- the cost of runs
 unfoldable pub total : {A : Type 0} → (Run A → ℕ) → List (Run A) → ℕ
 total c [] = 0
 total c (r ∷ rs) = c r + total c rs
@@ -117,10 +118,10 @@ module _ {A : Type 0} (same : A → A → Bool) (cong : (a b : A) → same a b �
   glue-join a b l (run c m ∷ rs) e =
       rw (cong a b e)
       (elim (same b c)
-      as (λ t. glue same a (cond t (run b (l ++ c ∷ m) ∷ rs) (run b l ∷ run c m ∷ rs)) ≡ cond t (run a (b ∷ l ++ c ∷ m) ∷ rs) (run a (b ∷ l) ∷ run c m ∷ rs))
+      as (λ t. glue same a (cond t (run b (l ++ c ∷ m) ∷ rs) (run b l ∷ run c m ∷ rs))
+      ≡ cond t (run a (b ∷ l ++ c ∷ m) ∷ rs) (run a (b ∷ l) ∷ run c m ∷ rs))
       [ true ↦ rw e | false ↦ rw e ])
 
-  -- a block before a list becomes one run, joined to the list's first run where they go together
   pub runs-join : (a : A) (l m : List A) → Block same (run a l) → runs same (a ∷ l ++ m) ≡ joinRun same (run a l) (runs same m)
   unfolding runs Every Block joinRun glue
   runs-join a [] m h = elim (runs same m) as (λ rs. glue same a rs ≡ joinRun same (run a []) rs) [ [] ↦ refl | run b l ∷ rs ↦ refl ]
@@ -144,11 +145,8 @@ module _ {A : Type 0} (same : A → A → Bool) (cong : (a b : A) → same a b �
     pub parts : (l m : List A) → Parts d (total c (runs same l)) (total c (runs same m)) (total c (runs same (l ++ m)))
     parts l m = cut-parts (runs-cut same l m) (runs-block (l ++ m))
 
-    pub least : (rs : List (Run A)) → Every (Block same) rs → total c (runs same (flatMap ofRun rs)) ≤ total c rs
+    pub runs-least : (rs : List (Run A)) → Every (Block same) rs → total c (runs same (flatMap ofRun rs)) ≤ total c rs
     unfolding total Every flatMap ofRun runs
-    least [] h = omega arith
-    least (run a l ∷ rs) h =
-        let k = parts (a ∷ l) (flatMap ofRun rs) .joined in
-        let one : total c (runs same (a ∷ l)) ≡ c (run a l) + 0 = ap (total c) (runs-one a l (h .0)) in
-        let ih = least rs (h .1) in
-        omega arith
+    runs-least [] h = omega arith
+    runs-least (run a l ∷ rs) h =
+        omega (arith, parts (a ∷ l) (flatMap ofRun rs), ap (total c) (runs-one a l (h .0)), runs-least rs (h .1))

@@ -1,0 +1,148 @@
+-- A message unpacks to the records of its body.
+--     message-octets, length-message     a message is octets, four more than its body
+--     message-holds                      its checksum holds
+--     header-message                     its header says its kind
+--     unpack-plain, unpack-simple, unpack-aggregated, unpack-pairs     what each kind unpacks to
+-- Assumes nothing.
+use Prim.Native.Nat.{ℕ, suc, _+_, _*_, _/_, _%_, _<_, _≤_}
+use native.Mathlib.Omega.{arith}
+use mathlib.Core.Path.{_≡_, refl, sym, ap, _∙_}
+use mathlib.Core.Bool.{Bool, true, false, not, _||_, cond}
+use mathlib.Core.List.{List, [], _∷_, _++_}
+use borrow.Author.Tests.{eq-eqb, le-ltb, le-leb}
+use lib.ListN.{length, getD, take, drop, length-append}
+use lib.Seq.{take-length}
+use lib.Dec.{eqb, ltb, lit<, lit≤}
+use Rattle.octets.specs.Octets.{Octets, be}
+use Rattle.octets.proofs.Laws.{length-be, octets-be, octets-cons, octets-append}
+use Rattle.checksum.specs.Sum.{holds, checksum}
+use Rattle.checksum.proofs.Laws.{sum-checksum, checksum-le, holds-true}
+use Rattle.records.specs.Every.{Every}
+use Rattle.records.specs.Records.{AssertRecord, PairRecord, AggregatedRecord, allEntries}
+use Rattle.format.specs.Outcome
+use Rattle.format.specs.Outcome.{Outcome, gives, refuses, refuseIf}
+use Rattle.format.specs.Reader
+use Rattle.format.specs.Reader.{Reader, got, continue, records, nothingMore, outcome, from, octets, number, must}
+use Rattle.format.specs.Family.{Family}
+use Rattle.format.specs.Header.{assertKind, registerKind, kindOf, octet0, octet1, header, message, longest}
+use Rattle.format.specs.Record.{each, assertRecord, pairRecord, aggregatedRecord}
+use Rattle.format.specs.Body.{zeroReserved, zeros, assertsBody, pairsBody}
+use Rattle.format.specs.Unpacking.{unpacked, unpackAsserts, unpackPairs}
+use Rattle.format.specs.declared.Kind.{Kind}
+use Rattle.format.specs.declared.Kind.the-variants.{Hello, Assert, Simple, Aggregated, NullRegister, RegisterStop}
+use Rattle.format.proofs.Readers.{At, at-left, at-right, Reads, reads-give, reads-then, reads-last, reads-octets, reads-number, reads-must, reads-done, reads-inRecord, reads-records}
+use Rattle.format.proofs.Lengths.{AreOctets, octets-zeros, no-octets, octet, zero-octet, _then_, number as octets-number}
+
+-- ---- the header
+
+header-of : (o : List ℕ) (k : Kind) → 4 ≤ length o → length o ≤ longest → getD o 0 0 / 16 ≡ 2 → holds o ≡ true
+    → kindOf (getD o 0 0 % 16) (getD o 1 0) ≡ gives k → header o ≡ gives k
+unfolding header Outcome._>>_ refuseIf
+header-of o k least most version sum kind =
+    rw (le-ltb (length o) 4 least, le-ltb longest (length o) most, eq-eqb (getD o 0 0 / 16) 2 version, sum) kind
+
+-- the table of kinds: octets of version 2, read as they are written
+kind-row : (k : Kind) → (octet0 k < 256) × (octet1 k < 256) × (octet0 k / 16 ≡ 2) × (kindOf (octet0 k % 16) (octet1 k) ≡ gives k)
+unfolding octet0 octet1 kindOf assertKind registerKind
+kind-row Hello = (lit< tt, lit< tt, refl, refl)
+kind-row Assert = (lit< tt, lit< tt, refl, refl)
+kind-row Simple = (lit< tt, lit< tt, refl, refl)
+kind-row Aggregated = (lit< tt, lit< tt, refl, refl)
+kind-row NullRegister = (lit< tt, lit< tt, refl, refl)
+kind-row RegisterStop = (lit< tt, lit< tt, refl, refl)
+
+module _ (k : Kind) (rest : List ℕ) where
+  field : ℕ
+  field = checksum (octet0 k ∷ octet1 k ∷ 0 ∷ 0 ∷ rest)
+
+  -- the checksum as its two octets
+  message-is : message k rest ≡ octet0 k ∷ octet1 k ∷ (field / 256) ∷ (field % 256) ∷ rest
+  unfolding message field be
+  message-is =
+      let small : field ≤ 65535 = checksum-le (octet0 k ∷ octet1 k ∷ 0 ∷ 0 ∷ rest) in
+      let high : field / 256 % 256 ≡ field / 256 = omega arith in
+      let low : field / 1 % 256 ≡ field % 256 = omega arith in
+      rw (high, low)
+
+  pub length-message : length (message k rest) ≡ 4 + length rest
+  length-message = rw message-is (omega arith)
+
+  -- the body stands at octet 4
+  pub at-body : At (message k rest) 4 rest
+  at-body = rw message-is (record { stands = take-length rest; fits = omega arith })
+
+  module _ (o : AreOctets rest) where
+    pub message-octets : AreOctets (message k rest)
+    unfolding message
+    message-octets = octet (kind-row k .0) (octet (kind-row k .1) no-octets) then octets-number 2 (checksum (octet0 k ∷ octet1 k ∷ 0 ∷ 0 ∷ rest)) then o
+
+    pub message-holds : holds (message k rest) ≡ true
+    unfolding field
+    message-holds =
+        let whole : AreOctets (octet0 k ∷ octet1 k ∷ 0 ∷ 0 ∷ rest) = octet (kind-row k .0) (octet (kind-row k .1) (zero-octet (zero-octet o))) in
+        rw message-is (holds-true _ (sum-checksum (octet0 k) (octet1 k) 0 0 rest (whole .below)))
+
+    -- "message under 4 or over 65,515 octets" is no such message
+    pub header-message : length rest ≤ 65511 → header (message k rest) ≡ gives k
+    header-message small =
+        let sum : holds (octet0 k ∷ octet1 k ∷ (field / 256) ∷ (field % 256) ∷ rest) ≡ true = rw message-is at message-holds in
+        rw message-is (header-of _ k (omega arith) (omega arith) (kind-row k .2) sum (kind-row k .3))
+
+-- ---- bodies
+
+-- what the body reads as, the message unpacks to
+module _ (f : Family) (k : Kind) (rest : List ℕ) (o : AreOctets rest) (small : length rest ≤ 65511) where
+  unpack-asserts : (es : List AssertRecord) (next : ℕ) → assertsBody f k (message k rest) 4 ≡ got es next → unpackAsserts f (message k rest) ≡ gives (unpacked k es)
+  unfolding unpackAsserts Outcome._>>=_ from outcome
+  unpack-asserts es next e = rw (header-message k rest o small, e)
+
+  unpack-pairs : (es : List PairRecord) (next : ℕ) → pairsBody f k (message k rest) 4 ≡ got es next → unpackPairs f (message k rest) ≡ gives (unpacked k es)
+  unfolding unpackPairs Outcome._>>=_ from outcome
+  unpack-pairs es next e = rw (header-message k rest o small, e)
+
+reads-zeros : Reads zeroReserved tt zeros
+unfolding zeroReserved be
+reads-zeros =
+    reads-inRecord
+    (reads-then {x = 0 ∷ []} (reads-must 5 (λ (z : ℕ). eqb z 0) refl (reads-number 0 1 (lit< tt)))
+    (reads-done tt (reads-octets (0 ∷ 0 ∷ 0 ∷ []) 3 refl)))
+
+module _ (f : Family) where
+  -- one assert record, and nothing more
+  pub unpack-plain : (e : AssertRecord) (x : List ℕ) → AreOctets x → length x ≤ 65511 → Reads (assertRecord f) e x
+      → unpackAsserts f (message Assert x) ≡ gives (unpacked Assert (e ∷ []))
+  unfolding assertsBody Reader._>>=_ Reader._>>_ Reader.give continue nothingMore
+  unpack-plain e x o small r =
+      let all : length (message Assert x) ≤ 4 + length x = omega (arith, length-message Assert x) in
+      unpack-asserts f Assert x o small (e ∷ []) (4 + length x)
+      (rw (r .read (message Assert x) 4 (at-body Assert x), le-leb (length (message Assert x)) (4 + length x) all))
+
+  -- Zero, Reserved and records to the end
+  after-zeros : {A : Type 0} (r : Reader A) (octetsOf : A → List ℕ) (a : A) (l : List A) (k : Kind)
+      → Every (λ (a : A). Reads r a (octetsOf a)) (a ∷ l) → Every (λ (a : A). 0 < length (octetsOf a)) (a ∷ l)
+      → records r (message k (zeros ++ each octetsOf (a ∷ l))) 8 ≡ got (a ∷ l) (length (message k (zeros ++ each octetsOf (a ∷ l))))
+  after-zeros r octetsOf a l k h pos =
+      let x : List ℕ = each octetsOf (a ∷ l) in
+      reads-records r octetsOf a l h pos (message k (zeros ++ x)) 8 (at-right zeros x (at-body k (zeros ++ x))) (omega (arith, length-message k (zeros ++ x)))
+
+  pub unpack-simple : (octetsOf : AssertRecord → List ℕ) (e : AssertRecord) (es : List AssertRecord)
+      → Every (λ (e : AssertRecord). Reads (assertRecord f) e (octetsOf e)) (e ∷ es)
+      → Every (λ (e : AssertRecord). 0 < length (octetsOf e)) (e ∷ es)
+      → AreOctets (each octetsOf (e ∷ es)) → length (each octetsOf (e ∷ es)) ≤ 65507
+      → unpackAsserts f (message Simple (zeros ++ each octetsOf (e ∷ es))) ≡ gives (unpacked Simple (e ∷ es))
+  unfolding assertsBody Reader._>>_ continue
+  unpack-simple octetsOf e es h pos o small =
+      let x : List ℕ = each octetsOf (e ∷ es) in
+      unpack-asserts f Simple (zeros ++ x) (octets-zeros then o) (omega arith) (e ∷ es) (length (message Simple (zeros ++ x)))
+      (rw (reads-zeros .read (message Simple (zeros ++ x)) 4 (at-left zeros x (at-body Simple (zeros ++ x))), after-zeros (assertRecord f) octetsOf e es Simple h pos))
+
+  pub unpack-aggregated : (octetsOf : AggregatedRecord → List ℕ) (r : AggregatedRecord) (rs : List AggregatedRecord)
+      → Every (λ (r : AggregatedRecord). Reads (aggregatedRecord f) r (octetsOf r)) (r ∷ rs)
+      → Every (λ (r : AggregatedRecord). 0 < length (octetsOf r)) (r ∷ rs)
+      → AreOctets (each octetsOf (r ∷ rs)) → length (each octetsOf (r ∷ rs)) ≤ 65507
+      → unpackAsserts f (message Aggregated (zeros ++ each octetsOf (r ∷ rs))) ≡ gives (unpacked Aggregated (allEntries (r ∷ rs)))
+  unfolding assertsBody Reader._>>_ Reader._>>=_ Reader.give continue
+  unpack-aggregated octetsOf r rs h pos o small =
+      let x : List ℕ = each octetsOf (r ∷ rs) in
+      unpack-asserts f Aggregated (zeros ++ x) (octets-zeros then o) (omega arith) (allEntries (r ∷ rs)) (length (message Aggregated (zeros ++ x)))
+      (rw (reads-zeros .read (message Aggregated (zeros ++ x)) 4 (at-left zeros x (at-body Aggregated (zeros ++ x))), after-zeros (aggregatedRecord f) octetsOf r rs Aggregated h pos))
