@@ -1,6 +1,9 @@
+pub mod Outcomes
 pub mod Readers
 pub mod Lengths
 pub mod Records
 pub mod Messages
 pub mod Joined
 pub mod Taken
+pub mod Entries
+pub mod Calls

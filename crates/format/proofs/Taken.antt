@@ -4,13 +4,13 @@
 --     takes-times, takes-toEnd, takes-records   a counted list, and the records up to the end
 --     takes-group .. takes-aggregatedRecords    fields and records, by their sizes
 --     Records, takes-body                       a message as long as its records; the body of an aggregated one
---     no-refusal .. header-long                 what a call did that gives a value
+--     takes-from, header-long                   of what gives a value
 --     unpacked-records                          the theorem
 -- Assumes nothing.
 use Prim.Native.Nat.{ℕ, zero, suc, _+_, _*_, _-_, _≤_, _<_}
 use native.Mathlib.Omega.{arith}
 use mathlib.Core.Path.{_≡_, refl}
-use mathlib.Core.Bool.{Bool, true, false, not, cond}
+use mathlib.Core.Bool.{Bool, true, false, not, _||_, cond}
 use mathlib.Core.List.{List, [], _∷_}
 use borrow.Author.Tests.{leb-true, ltb-false}
 use lib.ListN.{length, take, drop, length-take, length-drop}
@@ -27,6 +27,7 @@ use Rattle.format.specs.Header.{header}
 use Rattle.format.specs.Body.{zeroReserved, assertsBody}
 use Rattle.format.specs.Unpacking.{unpacked, unpackAsserts}
 use Rattle.format.specs.declared.Kind.{Kind}
+use Rattle.format.proofs.Outcomes.{no-refusal, bind-gives, unless-gives}
 use Rattle.format.specs.declared.Kind.the-variants.{Aggregated}
 
 -- a value read satisfies Q with the number of octets past it; of a refusal nothing is asked
@@ -270,9 +271,6 @@ takes-body f m left e =
 
 -- ---- what gives a value
 
-no-refusal : {A : Type 0} {a : A} {n p : ℕ} → refuses n p ≡ gives a → ⊥
-no-refusal e = let never : _≡_ {A = ℕ} 0 1 = cc in omega arith
-
 -- what a reader comes to is what it took
 takes-from : {A : Type 0} {left : ℕ} {r : Reader A} {Q : A → ℕ → Type 0} → Takes left r Q
     → (at : ℕ) (o : List ℕ) (a : A) → at + left ≡ length o → from at r o ≡ gives a → (rest : ℕ) × Q a rest
@@ -283,28 +281,22 @@ takes-from {A} {r = r} {Q = Q} hr at o a e h = go (r o at) (hr .took o at e) h
     go (got b next) t g = let same : b ≡ a = cc in (t .0, rw same at (t .2))
     go (bad n p) t g = absurd (no-refusal g)
 
--- a call that gives a value got one from its first step
-first-gives : {A B : Type 0} (x : Outcome A) (k : A → Outcome B) (b : B) → Rattle.format.specs.Outcome._>>=_ x k ≡ gives b
-    → (a : A) × (x ≡ gives a) × (k a ≡ gives b)
-unfolding Rattle.format.specs.Outcome._>>=_
-first-gives (gives a) k b e = (a, refl, e)
-first-gives (refuses n p) k b e = absurd (no-refusal e)
+neither : (a b : Bool) → (a || b) ≡ false → a ≡ false
+neither true b e = e
+neither false b e = refl
 
 header-long : (o : List ℕ) (k : Kind) → header o ≡ gives k → 4 ≤ length o
-unfolding header refuseIf Rattle.format.specs.Outcome._>>_
-header-long o k h = go (ltb (length o) 4) refl
-  where
-    go : (b : Bool) → ltb (length o) 4 ≡ b → 4 ≤ length o
-    go true t = absurd (no-refusal (rw t at h))
-    go false t = ltb-false (length o) 4 t
+unfolding header
+header-long o k h =
+    unless-gives (ltb (length o) 4 || ltb 65515 (length o)) 1 0 _ _ h (λ long rest. ltb-false (length o) 4 (neither _ _ long))
 
 pub unpacked-records : (f : Family) (m : List ℕ) (es : List AssertRecord) → unpackAsserts f m ≡ gives (unpacked Aggregated es)
     → Records f m es
 unfolding unpackAsserts
 unpacked-records f m es h =
-    let (k, found, rest) = first-gives (header m) _ _ h in
-    let (es′, read, same) = first-gives (from 4 (assertsBody f k) m) _ _ rest in
+    bind-gives (header m) _ _ h (λ k found rest.
+    bind-gives (from 4 (assertsBody f k) m) _ _ rest (λ es′ read same.
     let whole : from 4 (assertsBody f Aggregated) m ≡ gives es = cc in
     let long : 4 ≤ length m = header-long m k found in
     let left : 4 + (length m - 4) ≡ length m = omega arith in
-    takes-from (takes-body f m (length m - 4) left) 4 m es left whole .1
+    takes-from (takes-body f m (length m - 4) left) 4 m es left whole .1))

@@ -13,7 +13,8 @@ use mathlib.Core.List.{List, [], _∷_}
 use lib.ListN.{length, take, drop}
 use lib.Dec.{eqb, leb, ltb}
 use Rattle.octets.specs.Octets.{put}
-use Rattle.records.specs.Sizes.{groupRecordSize}
+use Rattle.records.specs.Sizes.{assertSize, pairSize, groupRecordSize, allSize}
+use Rattle.records.specs.Joining.{joined}
 use Rattle.records.specs.Most.{most}
 use Rattle.format.specs.Outcome.{Outcome, gives, refuses, refuseIf, _>>=_, _>>_}
 use Rattle.format.specs.Family.{Family}
@@ -46,22 +47,24 @@ pub record Form (E : Entries) : Type 0 where
   -- of n entries, how many one message may take
   pub atMost : ℕ → ℕ
   pub body : List (E .Entry) → List ℕ
+  -- the octets of its message, from the sizes of the records
+  pub size : List (E .Entry) → ℕ
 
 -- "for a plain assert one"
 abbrev pub plain : (f : Family) → Form (assertEntries f)
-plain f = record { kind = Assert; atMost = λ n. min n 1; body = plainBody f }
+plain f = record { kind = Assert; atMost = λ n. min n 1; body = plainBody f; size = λ es. 4 + assertSize (f .width) * length es }
 
 abbrev pub simple : (f : Family) → Form (assertEntries f)
-simple f = record { kind = Simple; atMost = λ n. n; body = simpleBody f }
+simple f = record { kind = Simple; atMost = λ n. n; body = simpleBody f; size = λ es. 8 + assertSize (f .width) * length es }
 
 abbrev pub aggregated : (f : Family) → Form (assertEntries f)
-aggregated f = record { kind = Aggregated; atMost = λ n. n; body = aggregatedBody f }
+aggregated f = record { kind = Aggregated; atMost = λ n. n; body = aggregatedBody f; size = λ es. 8 + allSize (f .width) (joined (f .width) es) }
 
 abbrev pub nullRegister : (f : Family) → Form (pairEntries f false)
-nullRegister f = record { kind = NullRegister; atMost = λ n. n; body = pairBody f }
+nullRegister f = record { kind = NullRegister; atMost = λ n. n; body = pairBody f; size = λ es. 4 + pairSize (f .width) * length es }
 
 abbrev pub registerStop : (f : Family) → Form (pairEntries f true)
-registerStop f = record { kind = RegisterStop; atMost = λ n. n; body = pairBody f }
+registerStop f = record { kind = RegisterStop; atMost = λ n. n; body = pairBody f; size = λ es. 4 + pairSize (f .width) * length es }
 
 -- the one message of entries, in the one byte form
 unfoldable pub canonical : {E : Entries} → Form E → List (E .Entry) → List ℕ
