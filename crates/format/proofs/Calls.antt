@@ -10,7 +10,7 @@ use native.Mathlib.Decide.{decLe}
 use mathlib.Core.Path.{_≡_, refl, sym, ap, _∙_}
 use mathlib.Core.Bool.{Bool, true, false, not, _&&_, cond, and-eq-true-iff}
 use mathlib.Core.List.{List, [], _∷_, _++_}
-use borrow.Author.Tests.{lt-ltb, le-ltb, le-leb, ltb-false, not-false, leb-true, eqb-true}
+use borrow.Author.Tests.{lt-ltb, le-ltb, le-leb, ltb-false, not-false, leb-true, ne-eqb}
 use lib.ListN.{length, take, drop}
 use lib.Dec.{eqb, leb, ltb}
 use Rattle.octets.specs.Octets.{put}
@@ -23,7 +23,7 @@ use Rattle.format.specs.Outcome.{Outcome, gives, refuses, refuseIf}
 use Rattle.format.specs.Family.{Family}
 use Rattle.format.specs.Header.{longest}
 use Rattle.format.specs.Entry.{Entries, count, whole, entriesOf}
-use Rattle.format.proofs.Outcomes.{bind-gives, then-gives, unless-gives}
+use Rattle.format.proofs.Outcomes.{no-refusal, gives-same, bind-gives, then-gives, unless-gives}
 use Rattle.format.specs.Packing.{usualLimit, leastLimit, readLimit, Form, canonical, firstBad, Due, due, asked, taken, Packed, packed, pack, Wrote, wrote, PackingCall, written, packDue, packing}
 
 pub record Asked (E : Entries) (o : List ℕ) (start limit room l : ℕ) : Type 0 where
@@ -61,3 +61,117 @@ module _ (E : Entries) (o : List ℕ) (start limit room l : ℕ) where
         },
         cc,
       )))))
+
+-- ---- limits
+
+-- "Limits run from 38 to 65,515", and the usual one lies between
+pub limit-range : (f : Family) (limit l : ℕ) → readLimit f limit ≡ gives l → (leastLimit f ≤ usualLimit → leastLimit f ≤ l) × (l ≤ longest)
+unfolding readLimit usualLimit
+limit-range f limit l e = go (eqb limit 0) refl (leb (leastLimit f) limit) refl (leb limit longest) refl
+  where
+    go : (z : Bool) → eqb limit 0 ≡ z → (a : Bool) → leb (leastLimit f) limit ≡ a → (b : Bool) → leb limit longest ≡ b → (leastLimit f ≤ usualLimit → leastLimit f ≤ l) × (l ≤ longest)
+    go true z a ea b eb =
+        let same : 1480 ≡ l = gives-same (rw z at e) in
+        (λ usual. omega arith, omega arith)
+    go false z true ea true eb =
+        let same : limit ≡ l = gives-same (rw (z, ea, eb) at e) in
+        let low : leastLimit f ≤ limit = leb-true (leastLimit f) limit ea in
+        let high : limit ≤ longest = leb-true limit longest eb in
+        (λ usual. omega arith, omega arith)
+    go false z false ea b eb = absurd (no-refusal (rw (z, ea) at e))
+    go false z true ea false eb = absurd (no-refusal (rw (z, ea, eb) at e))
+
+-- ---- entries that are all allowed
+
+pub allowed-every : {A : Type 0} (allowed : A → Bool) (i : ℕ) (es : List A) → firstBad allowed i es ≡ gives tt → Every (λ (e : A). allowed e ≡ true) es
+unfolding firstBad Every
+allowed-every allowed i [] h = tt
+allowed-every {A} allowed i (e ∷ es) h = go (allowed e) refl (allowed-every allowed (suc i) es)
+  where
+    go : (b : Bool) → allowed e ≡ b → (firstBad allowed (suc i) es ≡ gives tt → Every (λ (e : A). allowed e ≡ true) es) → (allowed e ≡ true) × Every (λ (e : A). allowed e ≡ true) es
+    go true t rest = (t, rest (rw t at h))
+    go false t rest = absurd (no-refusal (rw t at h))
+
+pub every-allowed : {A : Type 0} (allowed : A → Bool) (i : ℕ) (es : List A) → Every (λ (e : A). allowed e ≡ true) es → firstBad allowed i es ≡ gives tt
+unfolding firstBad Every
+every-allowed allowed i [] h = refl
+every-allowed allowed i (e ∷ es) h = rw (h .0) (every-allowed allowed (suc i) es (h .1))
+
+-- ---- the message of a call
+
+module _ {E : Entries} (F : Form E) (l : ℕ) (es : List (E .Entry)) where
+  pub taken-most : taken F l es ≤ F .atMost (length es)
+  unfolding taken
+  taken-most = most-le _ (F .atMost (length es))
+
+  pub taken-fits : 0 < taken F l es → length (canonical F (take (taken F l es) es)) ≤ l
+  unfolding taken
+  taken-fits some = leb-true _ l (most-fits (λ (n : ℕ). leb (length (canonical F (take n es))) l) (F .atMost (length es)) some)
+
+  pub pack-none : taken F l es ≡ 0 → pack F l es ≡ packed [] 0
+  unfolding pack
+  pack-none e = rw e
+
+  pub pack-some : 0 < taken F l es → pack F l es ≡ packed (canonical F (take (taken F l es) es)) (taken F l es)
+  unfolding pack
+  pack-some some = rw (ne-eqb (taken F l es) 0 (λ z. omega arith))
+
+-- a call that is not refused
+pub packing-gives : {E : Entries} (F : Form E) (o : List ℕ) (start limit l : ℕ) (d m : List ℕ) (n : ℕ) → Asked E o start limit (length d) l
+    → pack F l (drop start (entriesOf E o)) ≡ packed m n
+    → packing F o start limit d ≡ record { answer = gives (wrote (length m) n); buffer = put d 0 m }
+unfolding packing packDue written Outcome._>>=_
+packing-gives {E} F o start limit l d m n h e = rw (asked-gives E o start limit (length d) l h, e)
+
+-- a call whose buffer is below the limit
+pub packing-short : {E : Entries} (F : Form E) (o : List ℕ) (start limit l : ℕ) (d : List ℕ) → readLimit (E .family) limit ≡ gives l → length d < l
+    → packing F o start limit d ≡ record { answer = refuses 8 0; buffer = d }
+unfolding packing written Outcome._>>=_
+packing-short {E} F o start limit l d e short = rw (asked-short E o start limit (length d) l e short)
+
+-- and what is known of any call that gives a message
+pub record Wrote-by {E : Entries} (F : Form E) (o : List ℕ) (start limit : ℕ) (d : List ℕ) (n k : ℕ) : Type 0 where
+  pub limitRead : ℕ
+  pub was : Asked E o start limit (length d) limitRead
+  pub isMessage : take n (packing F o start limit d .buffer) ≡ canonical F (take k (drop start (entriesOf E o)))
+  pub most : k ≤ F .atMost (length (drop start (entriesOf E o)))
+  pub within : length (canonical F (take k (drop start (entriesOf E o)))) ≤ limitRead
+
+not-asked : {E : Entries} (F : Form E) (o : List ℕ) (start limit : ℕ) (d : List ℕ) (n p : ℕ) → asked E o start limit (length d) ≡ refuses n p
+    → packing F o start limit d .answer ≡ refuses n p
+unfolding packing written Outcome._>>=_
+not-asked F o start limit d n p e = rw e
+
+module _ {E : Entries} (F : Form E) (o : List ℕ) (start limit : ℕ) (d : List ℕ) (n k : ℕ) (some : 0 < k) (e : packing F o start limit d .answer ≡ gives (wrote n k)) where
+  left : List (E .Entry)
+  left = drop start (entriesOf E o)
+
+  -- a call that took some entries took as many as its definition says
+  took-some : (l : ℕ) → Asked E o start limit (length d) l → (t : ℕ) → taken F l left ≡ t → Wrote-by F o start limit d n k
+  unfolding left
+  took-some l h zero none =
+      let call : packing F o start limit d ≡ _ = packing-gives F o start limit l d [] 0 h (pack-none F l left none) in
+      let answer : wrote 0 0 ≡ wrote n k = gives-same (sym (ap (λ c. c .answer) call) ∙ e) in
+      let zero : 0 ≡ k = cc in
+      absurd (omega arith)
+  took-some l h (suc t) more =
+      let m : List ℕ = canonical F (take (taken F l left) left) in
+      let pos : 0 < taken F l left = omega arith in
+      let call : packing F o start limit d ≡ _ = packing-gives F o start limit l d m (taken F l left) h (pack-some F l left pos) in
+      let answer : wrote (length m) (taken F l left) ≡ wrote n k = gives-same (sym (ap (λ c. c .answer) call) ∙ e) in
+      let long : length m ≡ n = cc in
+      let count : taken F l left ≡ k = cc in
+      record {
+        limitRead = l;
+        was = h;
+        isMessage = ap (take n) (ap (λ c. c .buffer) call) ∙ ap (λ j. take j (put d 0 m)) (sym long) ∙ take-put d m ∙ ap (λ j. canonical F (take j left)) count;
+        most = rw count at (taken-most F l left);
+        within = rw count at (taken-fits F l left pos);
+      }
+
+  was-asked : (x : Outcome (Due (E .Entry))) → asked E o start limit (length d) ≡ x → Wrote-by F o start limit d n k
+  was-asked (gives (due l es)) q = took-some l (gives-asked E o start limit (length d) l es q .0) (taken F l left) refl
+  was-asked (refuses a b) q = absurd (no-refusal (sym (not-asked F o start limit d a b q) ∙ e))
+
+  pub wrote-by : Wrote-by F o start limit d n k
+  wrote-by = was-asked (asked E o start limit (length d)) refl

@@ -7,3 +7,4 @@ pub mod Joined
 pub mod Taken
 pub mod Entries
 pub mod Calls
+pub mod RoundTrip

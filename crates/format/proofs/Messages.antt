@@ -2,7 +2,8 @@
 --     message-octets, length-message     a message is octets, four more than its body
 --     message-holds                      its checksum holds
 --     header-message                     its header says its kind
---     unpack-plain, unpack-simple, unpack-aggregated, unpack-pairs     what each kind unpacks to
+--     unpack-asserts, unpack-pairs       what the body reads as, the message unpacks to
+--     reads-zeros, Items, read-items     Zero and Reserved; records to the end of a body
 -- Assumes nothing.
 use Prim.Native.Nat.{ℕ, suc, _+_, _*_, _/_, _%_, _<_, _≤_}
 use native.Mathlib.Omega.{arith}
@@ -92,57 +93,30 @@ module _ (k : Kind) (rest : List ℕ) where
 
 -- what the body reads as, the message unpacks to
 module _ (f : Family) (k : Kind) (rest : List ℕ) (o : AreOctets rest) (small : length rest ≤ 65511) where
-  unpack-asserts : (es : List AssertRecord) (next : ℕ) → assertsBody f k (message k rest) 4 ≡ got es next → unpackAsserts f (message k rest) ≡ gives (unpacked k es)
+  pub unpack-asserts : (es : List AssertRecord) (next : ℕ) → assertsBody f k (message k rest) 4 ≡ got es next → unpackAsserts f (message k rest) ≡ gives (unpacked k es)
   unfolding unpackAsserts Outcome._>>=_ from outcome
   unpack-asserts es next e = rw (header-message k rest o small, e)
 
-  unpack-pairs : (es : List PairRecord) (next : ℕ) → pairsBody f k (message k rest) 4 ≡ got es next → unpackPairs f (message k rest) ≡ gives (unpacked k es)
+  pub unpack-pairs : (es : List PairRecord) (next : ℕ) → pairsBody f k (message k rest) 4 ≡ got es next → unpackPairs f (message k rest) ≡ gives (unpacked k es)
   unfolding unpackPairs Outcome._>>=_ from outcome
   unpack-pairs es next e = rw (header-message k rest o small, e)
 
-reads-zeros : Reads zeroReserved tt zeros
+pub reads-zeros : Reads zeroReserved tt zeros
 unfolding zeroReserved be
 reads-zeros =
     reads-inRecord
     (reads-then {x = 0 ∷ []} (reads-must 5 (λ (z : ℕ). eqb z 0) refl (reads-number 0 1 (lit< tt)))
     (reads-done tt (reads-octets (0 ∷ 0 ∷ 0 ∷ []) 3 refl)))
 
-module _ (f : Family) where
-  -- one assert record, and nothing more
-  pub unpack-plain : (e : AssertRecord) (x : List ℕ) → AreOctets x → length x ≤ 65511 → Reads (assertRecord f) e x
-      → unpackAsserts f (message Assert x) ≡ gives (unpacked Assert (e ∷ []))
-  unfolding assertsBody Reader._>>=_ Reader._>>_ Reader.give continue nothingMore
-  unpack-plain e x o small r =
-      let all : length (message Assert x) ≤ 4 + length x = omega (arith, length-message Assert x) in
-      unpack-asserts f Assert x o small (e ∷ []) (4 + length x)
-      (rw (r .read (message Assert x) 4 (at-body Assert x), le-leb (length (message Assert x)) (4 + length x) all))
+-- records one after another, each read from its octets, which are some
+pub record Items {A : Type 0} (r : Reader A) (octetsOf : A → List ℕ) (l : List A) : Type 0 where
+  pub reads : Every (λ (a : A). Reads r a (octetsOf a)) l
+  pub some : Every (λ (a : A). 0 < length (octetsOf a)) l
 
-  -- Zero, Reserved and records to the end
-  after-zeros : {A : Type 0} (r : Reader A) (octetsOf : A → List ℕ) (a : A) (l : List A) (k : Kind)
-      → Every (λ (a : A). Reads r a (octetsOf a)) (a ∷ l) → Every (λ (a : A). 0 < length (octetsOf a)) (a ∷ l)
-      → records r (message k (zeros ++ each octetsOf (a ∷ l))) 8 ≡ got (a ∷ l) (length (message k (zeros ++ each octetsOf (a ∷ l))))
-  after-zeros r octetsOf a l k h pos =
-      let x : List ℕ = each octetsOf (a ∷ l) in
-      reads-records r octetsOf a l h pos (message k (zeros ++ x)) 8 (at-right zeros x (at-body k (zeros ++ x))) (omega (arith, length-message k (zeros ++ x)))
-
-  pub unpack-simple : (octetsOf : AssertRecord → List ℕ) (e : AssertRecord) (es : List AssertRecord)
-      → Every (λ (e : AssertRecord). Reads (assertRecord f) e (octetsOf e)) (e ∷ es)
-      → Every (λ (e : AssertRecord). 0 < length (octetsOf e)) (e ∷ es)
-      → AreOctets (each octetsOf (e ∷ es)) → length (each octetsOf (e ∷ es)) ≤ 65507
-      → unpackAsserts f (message Simple (zeros ++ each octetsOf (e ∷ es))) ≡ gives (unpacked Simple (e ∷ es))
-  unfolding assertsBody Reader._>>_ continue
-  unpack-simple octetsOf e es h pos o small =
-      let x : List ℕ = each octetsOf (e ∷ es) in
-      unpack-asserts f Simple (zeros ++ x) (octets-zeros then o) (omega arith) (e ∷ es) (length (message Simple (zeros ++ x)))
-      (rw (reads-zeros .read (message Simple (zeros ++ x)) 4 (at-left zeros x (at-body Simple (zeros ++ x))), after-zeros (assertRecord f) octetsOf e es Simple h pos))
-
-  pub unpack-aggregated : (octetsOf : AggregatedRecord → List ℕ) (r : AggregatedRecord) (rs : List AggregatedRecord)
-      → Every (λ (r : AggregatedRecord). Reads (aggregatedRecord f) r (octetsOf r)) (r ∷ rs)
-      → Every (λ (r : AggregatedRecord). 0 < length (octetsOf r)) (r ∷ rs)
-      → AreOctets (each octetsOf (r ∷ rs)) → length (each octetsOf (r ∷ rs)) ≤ 65507
-      → unpackAsserts f (message Aggregated (zeros ++ each octetsOf (r ∷ rs))) ≡ gives (unpacked Aggregated (allEntries (r ∷ rs)))
-  unfolding assertsBody Reader._>>_ Reader._>>=_ Reader.give continue
-  unpack-aggregated octetsOf r rs h pos o small =
-      let x : List ℕ = each octetsOf (r ∷ rs) in
-      unpack-asserts f Aggregated (zeros ++ x) (octets-zeros then o) (omega arith) (allEntries (r ∷ rs)) (length (message Aggregated (zeros ++ x)))
-      (rw (reads-zeros .read (message Aggregated (zeros ++ x)) 4 (at-left zeros x (at-body Aggregated (zeros ++ x))), after-zeros (aggregatedRecord f) octetsOf r rs Aggregated h pos))
+-- after what begins the body they are read to the end of the message
+pub read-items : {A : Type 0} (r : Reader A) (octetsOf : A → List ℕ) (a : A) (l : List A) (k : Kind) (p : List ℕ) → Items r octetsOf (a ∷ l)
+    → records r (message k (p ++ each octetsOf (a ∷ l))) (4 + length p) ≡ got (a ∷ l) (length (message k (p ++ each octetsOf (a ∷ l))))
+read-items r octetsOf a l k p items =
+    let x : List ℕ = each octetsOf (a ∷ l) in
+    reads-records r octetsOf a l (items .reads) (items .some) (message k (p ++ x)) (4 + length p) (at-right p x (at-body k (p ++ x)))
+    (omega (arith, length-message k (p ++ x), length-append p x))

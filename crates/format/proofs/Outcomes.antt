@@ -1,5 +1,6 @@
 -- A call that gives a value passed every line before.
 --     no-refusal       a refusal gives no value
+--     gives-same       one value is given
 --     bind-gives       the first step gave a value, and the rest gave this one of it
 --     then-gives       the same where the rest does not look at it
 --     unless-gives     a test that would have refused did not hold
@@ -12,6 +13,9 @@ use Rattle.format.specs.Outcome.{Outcome, gives, refuses, refuseIf, _>>=
 
 pub no-refusal : {A : Type 0} {a : A} {n p : ℕ} → refuses n p ≡ gives a → ⊥
 no-refusal e = let never : _≡_ {A = ℕ} 0 1 = cc in omega arith
+
+pub gives-same : {A : Type 0} {a b : A} → gives a ≡ gives b → a ≡ b
+gives-same e = cc
 
 pub bind-gives : {A B C : Type 0} (x : Outcome A) (k : A → Outcome B) (b : B) → x >>= k ≡ gives b → ((a : A) → x ≡ gives a → k a ≡ gives b → C) → C
 unfolding _>>=_

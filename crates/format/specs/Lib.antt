@@ -10,3 +10,4 @@ pub mod Entry
 pub mod Reading
 pub mod Packing
 pub mod Train
+pub mod RoundTrip

@@ -2,6 +2,7 @@
 --     every-map      what follows from it holds of every element too
 --     every-both     two such facts together
 --     every-append   of every element of two lists
+--     every-take, every-drop    of every element of a part
 --     every-of-map   of every element of a mapped list
 --     every-mapped   and if the fact is only of the list's own
 --     every-replicate    of every copy of an element
@@ -10,7 +11,7 @@
 -- Assumes nothing.
 use mathlib.Core.Path.{_≡_, refl, ap₂}
 use mathlib.Core.List.{List, [], _∷_, _++_, map}
-use lib.ListN.{replicate}
+use lib.ListN.{take, drop, replicate}
 use Prim.Native.Nat.{ℕ, zero, suc}
 use Rattle.records.specs.Every.{Every}
 
@@ -29,6 +30,18 @@ module _ {A : Type 0} where
   unfolding Every
   every-append P [] m h k = k
   every-append P (a ∷ l) m h k = (h .0, every-append P l m (h .1) k)
+
+  pub every-take : (P : A → Type 0) (n : ℕ) (l : List A) → Every P l → Every P (take n l)
+  unfolding Every
+  every-take P zero l h = tt
+  every-take P (suc n) [] h = tt
+  every-take P (suc n) (a ∷ l) h = (h .0, every-take P n l (h .1))
+
+  pub every-drop : (P : A → Type 0) (n : ℕ) (l : List A) → Every P l → Every P (drop n l)
+  unfolding Every
+  every-drop P zero l h = h
+  every-drop P (suc n) [] h = tt
+  every-drop P (suc n) (a ∷ l) h = every-drop P n l (h .1)
 
   pub every-of-map : {B : Type 0} (P : B → Type 0) (f : A → B) → ((a : A) → P (f a)) → (l : List A) → Every P (map f l)
   unfolding Every

@@ -1,0 +1,32 @@
+-- The round trips, as statements: "What it writes is the one byte form the rule book fixes, and reading that gives back the records
+-- written" (demand 2).
+--     ReadsBack     octets that unpack to entries, with a checksum that holds, as long as the sizes of the records say
+--     RoundTrip     for a kind of message: what any packing call writes reads back as the entries it took, in their order
+-- The theorems are in proofs/RoundTrip.antt. Assumes nothing: these are definitions.
+use Prim.Native.Nat.{ℕ, _<_}
+use mathlib.Core.Path.{_≡_}
+use mathlib.Core.Bool.{true}
+use mathlib.Core.List.{List}
+use lib.ListN.{length, take, drop}
+use Rattle.octets.specs.Octets.{Octets}
+use Rattle.checksum.specs.Sum.{holds}
+use Rattle.format.specs.Outcome.{Outcome, gives}
+use Rattle.format.specs.Entry.{Entries, entriesOf}
+use Rattle.format.specs.Unpacking.{Unpacked, unpacked}
+use Rattle.format.specs.Packing.{Form, wrote, packing}
+use Rattle.format.specs.declared.Kind.{Kind}
+
+pub record ReadsBack {A : Type 0} (unpack : List ℕ → Outcome (Unpacked A)) (k : Kind) (es : List A) (size : ℕ) (m : List ℕ) : Type 0 where
+  -- exactly the entries, in order, without a fault
+  pub unpacks : unpack m ≡ gives (unpacked k es)
+  pub areOctets : Octets m
+  pub sums : holds m ≡ true
+  pub long : length m ≡ size
+
+-- a call that took k entries and wrote n octets: those octets of the buffer as it returns
+unfoldable pub RoundTrip : {E : Entries} → Form E → (List ℕ → Outcome (Unpacked (E .Entry))) → Type 0
+RoundTrip {E} F unpack =
+    (o : List ℕ) → Octets o → (start limit : ℕ) (d : List ℕ) (n k : ℕ)
+    → packing F o start limit d .answer ≡ gives (wrote n k) → 0 < k
+    → ReadsBack unpack (F .kind) (take k (drop start (entriesOf E o))) (F .size (take k (drop start (entriesOf E o))))
+    (take n (packing F o start limit d .buffer))
