@@ -8,3 +8,4 @@ pub mod Taken
 pub mod Entries
 pub mod Calls
 pub mod RoundTrip
+pub mod Demand3

@@ -42,7 +42,7 @@ use Rattle.format.proofs.Entries.{assert-fits, pair-fits}
 use Rattle.format.proofs.Calls.{Asked, limit-range, allowed-every, Wrote-by, wrote-by}
 
 -- the message of good entries reads back, if it takes no more than its kind may and is no longer than a message may be
-pub Canonical : {E : Entries} → Form E → (List ℕ → Outcome (Unpacked (E .Entry))) → (E .Entry → Type 0) → Type 0
+unfoldable pub Canonical : {E : Entries} → Form E → (List ℕ → Outcome (Unpacked (E .Entry))) → (E .Entry → Type 0) → Type 0
 Canonical {E} F unpack Good =
     (e : E .Entry) (es : List (E .Entry)) → Every Good (e ∷ es) → length (e ∷ es) ≤ F .atMost (length (e ∷ es))
     → length (canonical F (e ∷ es)) ≤ longest → ReadsBack unpack (F .kind) (e ∷ es) (F .size (e ∷ es)) (canonical F (e ∷ es))

@@ -11,3 +11,4 @@ pub mod Reading
 pub mod Packing
 pub mod Train
 pub mod RoundTrip
+pub mod Demand3

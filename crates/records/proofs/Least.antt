@@ -7,6 +7,7 @@
 --         cut                                  a cut adds at most w + 20 octets
 --         drop-front, drop-back, take-mono     fewer entries never take more
 --     least                                no records that stand for the same entries take fewer octets
+--     one-entry                            one entry takes at most an RP aggregated record with one source
 -- Assumes nothing.
 use Prim.Native.Nat.{ℕ, zero, suc, _+_, _*_, _≤_, min}
 use native.Mathlib.Omega.{arith}
@@ -211,3 +212,21 @@ pub least : (w : ℕ) (rs : List AggregatedRecord) → Every Formed rs → allSi
 unfolding Every allEntries allSize joined runs
 least w [] h = omega arith
 least w (r ∷ rs) h = omega (arith, subadditive w (entries r) (allEntries rs), record-least w r (h .0), least w rs (h .1))
+
+-- ---- one entry
+
+one-record : (w : ℕ) (e : AssertRecord) → aggregatedSize w (aggregated w (run e [])) ≤ 12 + groupRecordSize w 1
+unfolding aggregatedSize groupRecordsSize allGroupRecords runs glue
+one-record w e = go (rBit (e .rPreference)) refl
+  where
+    go : (b : Bool) → rBit (e .rPreference) ≡ b → aggregatedSize w (aggregated w (run e [])) ≤ 12 + groupRecordSize w 1
+    go true r =
+        rw (aggregated-rp w e [] r)
+        (groupRecords-elim w (e .group) (e .source ∷ []) (λ rs. 12 + groupRecordsSize w (rs ++ []) ≤ 12 + groupRecordSize w 1)
+        (λ z few. omega arith) (λ z many. omega arith) (λ z. omega arith))
+    go false r = rw (aggregated-source w e [] r) (omega arith)
+
+-- at most an RP aggregated record with one group record of one source: the largest message of one entry
+pub one-entry : (w : ℕ) (e : AssertRecord) → allSize w (joined w (e ∷ [])) ≤ 12 + groupRecordSize w 1
+unfolding joined runs glue allSize
+one-entry w e = omega (arith, one-record w e)
