@@ -7,7 +7,7 @@
 --     demand3, complete, empty       the theorems
 -- Assumes nothing.
 use Prim.Native.Nat.{ℕ, zero, suc, _+_, _*_, _-_, _<_, _≤_}
-use native.Mathlib.Nat.{le-trans, le-of-eq, add-assoc, add-zero}
+use native.Mathlib.Nat.{le-trans, le-of-eq, add-assoc, add-zero, zero-add, zero-div}
 use native.Mathlib.Omega.{arith}
 use native.Mathlib.Decide.{decLe}
 use mathlib.Core.Path.{_≡_, refl, sym, ap, _∙_}
@@ -15,7 +15,7 @@ use mathlib.Core.Bool.{Bool, true, false}
 use mathlib.Core.List.{List, [], _∷_, _++_, flatten}
 use borrow.Author.Tests.{le-leb, ne-eqb}
 use lib.ListN.{length, take, drop, length-append, length-take, length-drop}
-use lib.Seq.{take-add, drop-drop, take-all}
+use lib.Seq.{take-add, drop-drop, take-nil}
 use lib.Dec.{leb, eqb}
 use Rattle.octets.specs.Octets.{Octets, put}
 use Rattle.octets.proofs.Laws.{take-put}
@@ -36,7 +36,7 @@ use Rattle.format.specs.Family.{Family, Lawful}
 use Rattle.format.specs.Header.{message, longest}
 use Rattle.format.specs.Record.{each, aggregatedOctets}
 use Rattle.format.specs.Body.{zeros, aggregatedBody}
-use Rattle.format.specs.Entry.{assertEntries, allowedAssert, count, whole, entriesOf}
+use Rattle.format.specs.Entry.{assertEntries, allowedAssert, count, entriesAt, entriesOf}
 use Rattle.format.specs.Unpacking.{unpacked, unpackAsserts}
 use Rattle.format.specs.Packing.{leastLimit, readLimit, aggregated, canonical, taken as takenAt, Packed, packed, pack, PackingCall, Wrote, wrote, packing}
 use Rattle.format.specs.Train.{takenBy, messageOf, calls, takenOf, messagesOf}
@@ -163,3 +163,191 @@ module _ (f : Family) (lawful : Lawful f) (entries : List ℕ) (limit l : ℕ) (
       room : Dec (l ≤ length d) → CallAt i (packing (aggregated f) entries i limit d)
       room (yes enough) = count′ (next i) refl enough
       room (no short) = rw (packing-short (aggregated f) entries i limit l d (given .read) (omega arith)) (quiet refl refl)
+
+  -- ---- calls from a place on
+
+  record From (i : ℕ) (cs : List PackingCall) : Type 0 where
+    pub steps : Steps next i (i + takenOf cs) (length (messagesOf cs))
+    pub within : Every (Within l) (messagesOf cs)
+    pub unpacks : Unpacks f (messagesOf cs) (take (takenOf cs) (drop i es))
+    pub inside : i + takenOf cs ≤ length es
+
+  from-none : (i : ℕ) → i ≤ length es → From i []
+  unfolding takenOf messagesOf Every Unpacks
+  from-none i h = record { steps = rw (add-zero i) stop; within = tt; unpacks = refl; inside = omega arith }
+
+  from-quiet : (i : ℕ) (c : PackingCall) (cs : List PackingCall) → takenBy (c .answer) ≡ 0 → messageOf (c .answer) (c .buffer) ≡ [] → From i cs → From i (c ∷ cs)
+  unfolding takenOf messagesOf
+  from-quiet i c cs t m h =
+      record {
+        steps = rw (t, m, zero-add) (h .steps);
+        within = rw m (h .within);
+        unpacks = rw (t, m, zero-add) (h .unpacks);
+        inside = omega (arith, h .inside);
+      }
+
+  from-sends : (i : ℕ) (c : PackingCall) (cs : List PackingCall) → i ≤ length es → 0 < next i → takenBy (c .answer) ≡ next i
+      → messageOf (c .answer) (c .buffer) ≡ wrote-at i ∷ [] → From (i + next i) cs → From i (c ∷ cs)
+  unfolding takenOf messagesOf Every Unpacks
+  from-sends i c cs h some t m rest =
+      let parts : take (next i + takenOf cs) (drop i es) ≡ take (next i) (drop i es) ++ take (takenOf cs) (drop (i + next i) es) =
+      take-add (next i) (takenOf cs) (drop i es) ∙ ap (λ (l′ : List AssertRecord). take (next i) (drop i es) ++ take (takenOf cs) l′) (drop-drop (next i) i es) in
+      record {
+        steps = rw (t, m, ← add-assoc) (step some (rest .steps));
+        within = rw m (wrote-within i some, rest .within);
+        unpacks = rw (t, m) (take (next i) (drop i es), take (takenOf cs) (drop (i + next i) es), wrote-unpacks i h some, parts, rest .unpacks);
+        inside = omega (arith, rest .inside);
+      }
+
+  from-calls : (ds : List (List ℕ)) (i : ℕ) → i ≤ length es → From i (calls (aggregated f) entries limit i ds)
+  unfolding calls
+  from-calls [] i h = from-none i h
+  from-calls (d ∷ ds) i h = go (call-at i h d) (from-calls ds i h) (from-calls ds (i + next i) (next-inside i h))
+    where
+      go : CallAt i (packing (aggregated f) entries i limit d) → From i (calls (aggregated f) entries limit i ds) → From (i + next i) (calls (aggregated f) entries limit (i + next i) ds)
+          → From i (calls (aggregated f) entries limit i (d ∷ ds))
+      go (quiet t m) here there = rw t (from-quiet i _ _ t m (rw (add-zero i) here))
+      go (sends some t m) here there = rw t (from-sends i _ _ h some t m there)
+
+  -- ---- what each call does
+
+  called-at : (i : ℕ) → i ≤ length es → (d : List ℕ) → Called f entries l i d (packing (aggregated f) entries i limit d)
+  unfolding takenBy es
+  called-at i h d = record {
+    refused = packing-short (aggregated f) entries i limit l d (given .read);
+    accepted = count′ (next i) refl;
+    progress = λ enough left.
+        let some : 0 < next i = next-some i (omega (arith, length-entries (assertEntries f) entries)) in
+        rw (gives-some i h d enough some) some;
+  }
+    where
+      count′ : (n : ℕ) → next i ≡ n → l ≤ length d → (n : ℕ) × (k : ℕ) × (packing (aggregated f) entries i limit d .answer ≡ gives (wrote n k))
+      count′ zero e enough = (0, 0, ap (λ c. c .answer) (gives-none i h d enough e))
+      count′ (suc n) e enough = (length (wrote-at i), next i, ap (λ c. c .answer) (gives-some i h d enough (omega arith)))
+
+  -- and where it leaves off
+  stays-inside : (i : ℕ) → i ≤ length es → (d : List ℕ) → i + takenBy (packing (aggregated f) entries i limit d .answer) ≤ length es
+  stays-inside i h d = on (call-at i h d)
+    where
+      on : CallAt i (packing (aggregated f) entries i limit d) → i + takenBy (packing (aggregated f) entries i limit d .answer) ≤ length es
+      on (quiet t m) = omega arith
+      on (sends some t m) = omega (arith, next-inside i h)
+
+  all-called : (ds : List (List ℕ)) (i : ℕ) → i ≤ length es → AllCalled f entries limit l i ds
+  unfolding AllCalled
+  all-called [] i h = tt
+  all-called (d ∷ ds) i h = (called-at i h d, all-called ds _ (stays-inside i h d))
+
+  -- ---- any other train
+
+  fit-front : (k : ℕ) (l′ : List AssertRecord) → Fit l′ → Fit (drop k l′)
+  unfolding Fit
+  fit-front k l′ h = omega (arith, drop-front (f .width) k l′)
+
+  -- a message within the limit stands for entries that fit: the canonical message is the least
+  message-fit : (m : List ℕ) (l′ : List AssertRecord) → unpackAsserts f m ≡ gives (unpacked Aggregated l′) → length m ≤ l → Fit l′
+  unfolding Fit
+  message-fit m l′ e within =
+      let r = unpacked-records f m l′ e in
+      rw (r .stands) (omega (arith, least (f .width) (r .records) (r .formed), r .size))
+
+  record Blocks (train : List (List ℕ)) (all : List AssertRecord) : Type 0 where
+    pub blocks : List (List AssertRecord)
+    pub many : length blocks ≡ length train
+    pub fit : Every Fit blocks
+    pub joins : flatten blocks ≡ all
+
+  blocks-of : (train : List (List ℕ)) (all : List AssertRecord) → Every (Within l) train → Unpacks f train all → Blocks train all
+  unfolding Every Unpacks flatten
+  blocks-of [] all within u = record { blocks = []; many = refl; fit = tt; joins = sym u }
+  blocks-of (m ∷ ms) all within u =
+      let b = blocks-of ms (u .1) (within .1) (u .4) in
+      record {
+        blocks = u .0 ∷ b .blocks;
+        many = ap suc (b .many);
+        fit = (message-fit m (u .0) (u .2) (within .0), b .fit);
+        joins = ap (λ (l′ : List AssertRecord). u .0 ++ l′) (b .joins) ∙ sym (u .3);
+      }
+
+  fewest-of : (p j : ℕ) → Steps next 0 p j → p ≤ length es → (train : List (List ℕ)) → Every (Within l) train → Unpacks f train (take p es) → j ≤ length train
+  fewest-of p j steps inside train within u =
+      let b = blocks-of train (take p es) within u in
+      omega (arith, fewest Fit fit-front es next next-greedy steps (b .blocks) (b .fit) (b .joins) inside, b .many)
+
+-- ---- the theorems
+
+module _ (f : Family) (lawful : Lawful f) where
+  -- all but the comparison of two limits
+  from-start : (entries : List ℕ) (limit l : ℕ) (given : Given f entries limit l) (buffers : List (List ℕ))
+      → From f lawful entries limit l given 0 (calls (aggregated f) entries limit 0 buffers)
+  from-start entries limit l given buffers = from-calls f lawful entries limit l given buffers 0 (omega arith)
+
+  least-train : (entries : List ℕ) (limit l : ℕ) → Given f entries limit l → (buffers train : List (List ℕ)) → Every (Within l) train
+      → Unpacks f train (take (taken f entries limit buffers) (entriesOf (assertEntries f) entries)) → length (sent f entries limit buffers) ≤ length train
+  unfolding sent taken es
+  least-train entries limit l given buffers train within u =
+      let start = from-start entries limit l given buffers in
+      fewest-of f lawful entries limit l given _ _ (rw zero-add at (start .steps)) (omega (arith, start .inside)) train within u
+
+  pub demand3 : (entries : List ℕ) (limit l : ℕ) → Given f entries limit l → (buffers : List (List ℕ)) → Demand3 f entries limit l buffers
+  unfolding sent taken es
+  demand3 entries limit l given buffers =
+      let start = from-start entries limit l given buffers in
+      record {
+        called = all-called f lawful entries limit l given buffers 0 (omega arith);
+        within = start .within;
+        inside = omega (arith, start .inside, length-entries (assertEntries f) entries);
+        unpacks = start .unpacks;
+        fewest = least-train entries limit l given buffers;
+        larger = λ limit′ l′ given′ le buffers′ all all′.
+            let messages : List (List ℕ) = messagesOf (calls (aggregated f) entries limit 0 buffers) in
+            let same : takenOf (calls (aggregated f) entries limit′ 0 buffers′) ≡ takenOf (calls (aggregated f) entries limit 0 buffers) = all′ ∙ sym all in
+            least-train entries limit′ l′ given′ buffers′ messages
+            (every-map (Within l) (Within l′) (λ (m : List ℕ) h. le-trans h le) messages (start .within))
+            (rw same (start .unpacks));
+      }
+
+  -- ---- nothing above is empty
+
+  -- calls with room go on to the end of the list, at one entry a call at least
+  module _ (entries : List ℕ) (limit l : ℕ) (given : Given f entries limit l) where
+    reaches : (ds : List (List ℕ)) (i : ℕ) → i ≤ length (entriesOf (assertEntries f) entries) → Every (λ (d : List ℕ). l ≤ length d) ds
+        → length (entriesOf (assertEntries f) entries) ≤ i + length ds
+        → i + takenOf (calls (aggregated f) entries limit i ds) ≡ length (entriesOf (assertEntries f) entries)
+    unfolding calls takenOf Every es
+    reaches [] i h room many = omega arith
+    reaches (d ∷ ds) i h room many =
+        let t : ℕ = takenBy (packing (aggregated f) entries i limit d .answer) in
+        let inside : i + t ≤ length (entriesOf (assertEntries f) entries) = stays-inside f lawful entries limit l given i h d in
+        let called = called-at f lawful entries limit l given i h d in
+        let on : length (entriesOf (assertEntries f) entries) ≤ i + t + length ds = more (decLe (length (entriesOf (assertEntries f) entries)) i) (called .progress (room .0)) inside in
+        omega (arith, reaches ds (i + t) inside (room .1) on)
+      where
+        more : {t : ℕ} → Dec (length (entriesOf (assertEntries f) entries) ≤ i) → (i < count (assertEntries f) entries → 0 < t)
+            → i + t ≤ length (entriesOf (assertEntries f) entries) → length (entriesOf (assertEntries f) entries) ≤ i + t + length ds
+        more (yes done) progress inside = omega arith
+        more (no left) progress inside = omega (arith, progress (omega (arith, length-entries (assertEntries f) entries)))
+
+  pub complete : (entries : List ℕ) (limit l : ℕ) → Given f entries limit l → Complete f entries limit l
+  unfolding Complete taken
+  complete entries limit l given buffers room many =
+      omega (
+        arith,
+        reaches entries limit l given buffers 0 (omega arith) room (omega (arith, length-entries (assertEntries f) entries)),
+        length-entries (assertEntries f) entries,
+      )
+
+-- the empty list yields no message, with any buffers
+no-entries : (f : Family) → entriesOf (assertEntries f) [] ≡ []
+unfolding entriesOf entriesAt count
+no-entries f = rw (zero-div (2 * f .width + 8))
+
+none-left : (ms : List (List ℕ)) → length ms ≤ 0 → ms ≡ []
+none-left [] h = refl
+none-left (m ∷ ms) h = absurd (omega arith)
+
+pub empty : (f : Family) → Lawful f → (limit l : ℕ) → Given f [] limit l → (buffers : List (List ℕ)) → sent f [] limit buffers ≡ []
+unfolding Unpacks Every
+empty f lawful limit l given buffers =
+    none-left (sent f [] limit buffers)
+    (demand3 f lawful [] limit l given buffers .fewest [] tt (rw (no-entries f) (take-nil (taken f [] limit buffers))))
