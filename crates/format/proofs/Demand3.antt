@@ -38,9 +38,9 @@ use Rattle.format.specs.Record.{each, aggregatedOctets}
 use Rattle.format.specs.Body.{zeros, aggregatedBody}
 use Rattle.format.specs.Entry.{assertEntries, allowedAssert, count, entriesAt, entriesOf}
 use Rattle.format.specs.Unpacking.{unpacked, unpackAsserts}
-use Rattle.format.specs.Packing.{leastLimit, readLimit, aggregated, canonical, taken as takenAt, Packed, packed, pack, PackingCall, Wrote, wrote, packing}
+use Rattle.format.specs.Packing.{leastLimit, readLimit, aggregated, canonical, taken, Packed, packed, pack, PackingCall, Wrote, wrote, packing}
 use Rattle.format.specs.Train.{takenBy, messageOf, calls, takenOf, messagesOf}
-use Rattle.format.specs.Demand3.{Given, Called, AllCalled, Unpacks, sent, taken, Within, Demand3, Complete}
+use Rattle.format.specs.Demand3.{Given, Called, AllCalled, Unpacks, sent, totalTaken, Within, Demand3, Complete}
 use Rattle.format.specs.declared.Kind.the-variants.{Aggregated}
 use Rattle.format.proofs.Lengths.{length-all}
 use Rattle.format.proofs.Records.{Fits}
@@ -67,7 +67,7 @@ module _ (f : Family) (lawful : Lawful f) (entries : List ℕ) (limit l : ℕ) (
 
   -- how many entries a call takes at a place
   next : ℕ → ℕ
-  next i = takenAt (aggregated f) l (drop i es)
+  next i = taken (aggregated f) l (drop i es)
 
   Fit : List AssertRecord → Type 0
   Fit l′ = 8 + allSize (f .width) (joined (f .width) l′) ≤ l
@@ -80,7 +80,7 @@ module _ (f : Family) (lawful : Lawful f) (entries : List ℕ) (limit l : ℕ) (
 
   -- "always the most that fit"
   next-greedy : (i k : ℕ) → i + k ≤ length es → Fit (take k (drop i es)) → k ≤ next i
-  unfolding next Fit takenAt
+  unfolding next Fit taken
   next-greedy i zero h fit = omega arith
   next-greedy i (suc k) h fit =
       most-ge (λ (n : ℕ). leb (length (canonical (aggregated f) (take n (drop i es)))) l) (length (drop i es)) (suc k)
@@ -283,14 +283,14 @@ module _ (f : Family) (lawful : Lawful f) where
   from-start entries limit l given buffers = from-calls f lawful entries limit l given buffers 0 (omega arith)
 
   least-train : (entries : List ℕ) (limit l : ℕ) → Given f entries limit l → (buffers train : List (List ℕ)) → Every (Within l) train
-      → Unpacks f train (take (taken f entries limit buffers) (entriesOf (assertEntries f) entries)) → length (sent f entries limit buffers) ≤ length train
-  unfolding sent taken es
+      → Unpacks f train (take (totalTaken f entries limit buffers) (entriesOf (assertEntries f) entries)) → length (sent f entries limit buffers) ≤ length train
+  unfolding sent totalTaken es
   least-train entries limit l given buffers train within u =
       let start = from-start entries limit l given buffers in
       fewest-of f lawful entries limit l given _ _ (rw zero-add at (start .steps)) (omega (arith, start .inside)) train within u
 
   pub demand3 : (entries : List ℕ) (limit l : ℕ) → Given f entries limit l → (buffers : List (List ℕ)) → Demand3 f entries limit l buffers
-  unfolding sent taken es
+  unfolding sent totalTaken es
   demand3 entries limit l given buffers =
       let start = from-start entries limit l given buffers in
       record {
@@ -329,7 +329,7 @@ module _ (f : Family) (lawful : Lawful f) where
         more (no left) progress inside = omega (arith, progress (omega (arith, length-entries (assertEntries f) entries)))
 
   pub complete : (entries : List ℕ) (limit l : ℕ) → Given f entries limit l → Complete f entries limit l
-  unfolding Complete taken
+  unfolding Complete totalTaken
   complete entries limit l given buffers room many =
       omega (
         arith,
@@ -350,4 +350,4 @@ pub empty : (f : Family) → Lawful f → (limit l : ℕ) → Given f [] limit l
 unfolding Unpacks Every
 empty f lawful limit l given buffers =
     none-left (sent f [] limit buffers)
-    (demand3 f lawful [] limit l given buffers .fewest [] tt (rw (no-entries f) (take-nil (taken f [] limit buffers))))
+    (demand3 f lawful [] limit l given buffers .fewest [] tt (rw (no-entries f) (take-nil (totalTaken f [] limit buffers))))

@@ -9,3 +9,5 @@ pub mod Entries
 pub mod Calls
 pub mod RoundTrip
 pub mod Demand3
+pub mod MostThatFit
+pub mod Ipv4

@@ -2,7 +2,7 @@
 --     Given              the entries, the limit and its reading
 --     Called, AllCalled  what each call does
 --     Unpacks            messages that unpack, one after another, to entries
---     sent, taken        the messages the calls wrote, and how many entries they took
+--     sent, totalTaken   the messages the calls wrote, and how many entries they took
 --     Demand3            all of it, in one record
 --     Complete           beside it: enough calls with enough room take every entry, so nothing above is empty
 -- The theorems are in proofs/Demand3.antt. Assumes nothing: these are definitions.
@@ -59,8 +59,8 @@ Unpacks f (m ∷ ms) all =
 unfoldable pub sent : Family → List ℕ → ℕ → List (List ℕ) → List (List ℕ)
 sent f entries limit buffers = messagesOf (calls (aggregated f) entries limit 0 buffers)
 
-unfoldable pub taken : Family → List ℕ → ℕ → List (List ℕ) → ℕ
-taken f entries limit buffers = takenOf (calls (aggregated f) entries limit 0 buffers)
+unfoldable pub totalTaken : Family → List ℕ → ℕ → List (List ℕ) → ℕ
+totalTaken f entries limit buffers = takenOf (calls (aggregated f) entries limit 0 buffers)
 
 abbrev pub Within : ℕ → List ℕ → Type 0
 Within l m = length m ≤ l
@@ -70,21 +70,21 @@ pub record Demand3 (f : Family) (entries : List ℕ) (limit l : ℕ) (buffers : 
   -- "After these calls the messages written are each within the limit"
   pub within : Every (Within l) (sent f entries limit buffers)
   -- "and unpack, one after another, to the records taken so far, in order, nothing lost or repeated"
-  pub inside : taken f entries limit buffers ≤ count (assertEntries f) entries
-  pub unpacks : Unpacks f (sent f entries limit buffers) (take (taken f entries limit buffers) (entriesOf (assertEntries f) entries))
+  pub inside : totalTaken f entries limit buffers ≤ count (assertEntries f) entries
+  pub unpacks : Unpacks f (sent f entries limit buffers) (take (totalTaken f entries limit buffers) (entriesOf (assertEntries f) entries))
   -- "Every other train of aggregated messages within the limit that unpacks to the same records has at least as many messages as were
   -- written"
   pub fewest : (train : List (List ℕ)) → Every (Within l) train
-      → Unpacks f train (take (taken f entries limit buffers) (entriesOf (assertEntries f) entries))
+      → Unpacks f train (take (totalTaken f entries limit buffers) (entriesOf (assertEntries f) entries))
       → length (sent f entries limit buffers) ≤ length train
   -- "Where two such lists of calls on the same records each take them all, the one with the larger limit has written no more messages
   -- than the other"
   pub larger : (limit′ l′ : ℕ) → Given f entries limit′ l′ → l ≤ l′ → (buffers′ : List (List ℕ))
-      → taken f entries limit buffers ≡ count (assertEntries f) entries → taken f entries limit′ buffers′ ≡ count (assertEntries f) entries
+      → totalTaken f entries limit buffers ≡ count (assertEntries f) entries → totalTaken f entries limit′ buffers′ ≡ count (assertEntries f) entries
       → length (sent f entries limit′ buffers′) ≤ length (sent f entries limit buffers)
 
 -- "a valid list and limit yield a train"
 unfoldable pub Complete : Family → List ℕ → ℕ → ℕ → Type 0
 Complete f entries limit l =
     (buffers : List (List ℕ)) → Every (λ (d : List ℕ). l ≤ length d) buffers → count (assertEntries f) entries ≤ length buffers
-    → taken f entries limit buffers ≡ count (assertEntries f) entries
+    → totalTaken f entries limit buffers ≡ count (assertEntries f) entries

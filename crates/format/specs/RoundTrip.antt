@@ -1,9 +1,10 @@
--- The round trips, as statements: "What it writes is the one byte form the rule book fixes, and reading that gives back the records
+-- The round trips, and that a call takes the most that fit, as statements: "What it writes is the one byte form the rule book fixes, and reading that gives back the records
 -- written" (demand 2).
 --     ReadsBack     octets that unpack to entries, with a checksum that holds, as long as the sizes of the records say
 --     RoundTrip     for a kind of message: what any packing call writes reads back as the entries it took, in their order
--- The theorems are in proofs/RoundTrip.antt. Assumes nothing: these are definitions.
-use Prim.Native.Nat.{ℕ, _<_}
+--     MostThatFit   for a kind of message: a call takes the longest prefix of what is left whose message is within the limit
+-- The theorems are in proofs/RoundTrip.antt and proofs/MostThatFit.antt. Assumes nothing: these are definitions.
+use Prim.Native.Nat.{ℕ, _<_, _≤_}
 use mathlib.Core.Path.{_≡_}
 use mathlib.Core.Bool.{true}
 use mathlib.Core.List.{List}
@@ -13,7 +14,7 @@ use Rattle.checksum.specs.Sum.{holds}
 use Rattle.format.specs.Outcome.{Outcome, gives}
 use Rattle.format.specs.Entry.{Entries, entriesOf}
 use Rattle.format.specs.Unpacking.{Unpacked, unpacked}
-use Rattle.format.specs.Packing.{Form, wrote, packing}
+use Rattle.format.specs.Packing.{Form, canonical, taken, wrote, packing}
 use Rattle.format.specs.declared.Kind.{Kind}
 
 pub record ReadsBack {A : Type 0} (unpack : List ℕ → Outcome (Unpacked A)) (k : Kind) (es : List A) (size : ℕ) (m : List ℕ) : Type 0 where
@@ -30,3 +31,12 @@ RoundTrip {E} F unpack =
     → packing F o start limit d .answer ≡ gives (wrote n k) → 0 < k
     → ReadsBack unpack (F .kind) (take k (drop start (entriesOf E o))) (F .size (take k (drop start (entriesOf E o))))
     (take n (packing F o start limit d .buffer))
+
+-- "always the most that fit": of what is left, at a limit
+pub record MostThatFit {E : Entries} (F : Form E) (l : ℕ) (es : List (E .Entry)) : Type 0 where
+  pub inside : taken F l es ≤ F .atMost (length es)
+  pub fits : 0 < taken F l es → length (canonical F (take (taken F l es) es)) ≤ l
+  -- no longer prefix fits
+  pub most : (k : ℕ) → taken F l es < k → k ≤ F .atMost (length es) → l < length (canonical F (take k es))
+  -- and none fits once a shorter one does not
+  pub stops : (j k : ℕ) → j ≤ k → l < length (canonical F (take j es)) → l < length (canonical F (take k es))
