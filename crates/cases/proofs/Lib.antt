@@ -1,3 +1,4 @@
 pub mod Marked
 pub mod Messages
 pub mod Faults
+pub mod Demand3

@@ -4,7 +4,8 @@
 --     Call, call-at                  what one call does
 --     steps, all-within, all-unpack  what calls from a place on do
 --     blocks                         any other train, as blocks of entries that fit
---     demand3, complete, empty       the theorems
+--     demand3, complete              the theorems: demand 3, and that calls with room take every entry
+--     comparable, empty              there is another train to compare with; the empty list yields no message
 -- Assumes nothing.
 use Prim.Native.Nat.{ℕ, zero, suc, _+_, _*_, _-_, _<_, _≤_}
 use native.Mathlib.Nat.{le-trans, le-of-eq, add-assoc, add-zero, zero-add, zero-div}
@@ -12,9 +13,9 @@ use native.Mathlib.Omega.{arith}
 use native.Mathlib.Decide.{decLe}
 use mathlib.Core.Path.{_≡_, refl, sym, ap, _∙_}
 use mathlib.Core.Bool.{Bool, true, false}
-use mathlib.Core.List.{List, [], _∷_, _++_, flatten}
+use mathlib.Core.List.{List, [], _∷_, _++_, map, flatten}
 use borrow.Author.Tests.{le-leb, ne-eqb}
-use lib.ListN.{length, take, drop, length-append, length-take, length-drop}
+use lib.ListN.{length, take, drop, length-append, length-take, length-drop, length-map}
 use lib.Seq.{take-add, drop-drop, take-nil}
 use lib.Dec.{leb, eqb}
 use Rattle.octets.specs.Octets.{Octets, put}
@@ -26,7 +27,7 @@ use Rattle.records.specs.Joining.{together, sameGroup, groupRecords, allGroupRe
 use Rattle.records.specs.Sizes.{groupRecordSize, groupRecordsSize, aggregatedSize, allSize}
 use Rattle.records.specs.Most.{most}
 use Rattle.records.specs.Train.{Steps, stop, step}
-use Rattle.records.proofs.Every.{every-both, every-map, every-take, every-drop}
+use Rattle.records.proofs.Every.{every-both, every-map, every-take, every-drop, every-of-map}
 use Rattle.records.proofs.Joining.{aggregated-rp, aggregated-source, groupRecords-elim}
 use Rattle.records.proofs.Least.{least, drop-front, one-entry}
 use Rattle.records.proofs.Most.{most-le, most-ge}
@@ -40,7 +41,7 @@ use Rattle.format.specs.Entry.{assertEntries, allowedAssert, count, entr
 use Rattle.format.specs.Unpacking.{unpacked, unpackAsserts}
 use Rattle.format.specs.Packing.{leastLimit, readLimit, aggregated, canonical, taken, Packed, packed, pack, PackingCall, Wrote, wrote, packing}
 use Rattle.format.specs.Train.{takenBy, messageOf, calls, takenOf, messagesOf}
-use Rattle.format.specs.Demand3.{Given, Called, AllCalled, Unpacks, sent, totalTaken, Within, Demand3, Complete}
+use Rattle.format.specs.Demand3.{Given, Called, AllCalled, Unpacks, sent, totalTaken, Within, Demand3, Complete, Comparable}
 use Rattle.format.specs.declared.Kind.the-variants.{Aggregated}
 use Rattle.format.proofs.Lengths.{length-all}
 use Rattle.format.proofs.Records.{Fits}
@@ -335,6 +336,31 @@ module _ (f : Family) (lawful : Lawful f) where
         arith,
         reaches entries limit l given buffers 0 (omega arith) room (omega (arith, length-entries (assertEntries f) entries)),
         length-entries (assertEntries f) entries,
+      )
+
+-- the train of messages with one entry each
+one-by-one : (f : Family) → List AssertRecord → List (List ℕ)
+one-by-one f l = map (λ (e : AssertRecord). canonical (aggregated f) (e ∷ [])) l
+
+module _ (f : Family) (lawful : Lawful f) (entries : List ℕ) (limit l : ℕ) (given : Given f entries limit l) where
+  one-within : (e : AssertRecord) → length (canonical (aggregated f) (e ∷ [])) ≤ l
+  unfolding leastLimit
+  one-within e = omega (arith, length-canonical f (e ∷ []), one-entry (f .width) e, given .least)
+
+  one-unpacks : (l′ : List AssertRecord) → Every (Good f) l′ → Unpacks f (one-by-one f l′) l′
+  unfolding one-by-one Unpacks Every Canonical
+  one-unpacks [] h = refl
+  one-unpacks (e ∷ l′) h =
+      (e ∷ [], l′, aggregated-back f lawful e [] (h .0, tt) (omega arith) (le-trans (one-within e) (given .greatest)) .unpacks, refl, one-unpacks l′ (h .1))
+
+  pub comparable : (n : ℕ) → Comparable f entries l n
+  unfolding Comparable one-by-one es
+  comparable n =
+      let l′ : List AssertRecord = take n (entriesOf (assertEntries f) entries) in (
+        one-by-one f l′,
+        length-map l′ _,
+        every-of-map (Within l) _ one-within l′,
+        one-unpacks l′ (every-take (Good f) n (entriesOf (assertEntries f) entries) (good f lawful entries limit l given)),
       )
 
 -- the empty list yields no message, with any buffers

@@ -5,6 +5,7 @@
 --     sent, totalTaken   the messages the calls wrote, and how many entries they took
 --     Demand3            all of it, in one record
 --     Complete           beside it: enough calls with enough room take every entry, so nothing above is empty
+--     Comparable         and there is another train to compare with: a message for each entry
 -- The theorems are in proofs/Demand3.antt. Assumes nothing: these are definitions.
 use Prim.Native.Nat.{ℕ, _+_, _<_, _≤_}
 use mathlib.Core.Path.{_≡_}
@@ -88,3 +89,9 @@ unfoldable pub Complete : Family → List ℕ → ℕ → ℕ → Type 0
 Complete f entries limit l =
     (buffers : List (List ℕ)) → Every (λ (d : List ℕ). l ≤ length d) buffers → count (assertEntries f) entries ≤ length buffers
     → totalTaken f entries limit buffers ≡ count (assertEntries f) entries
+
+-- "Every other train": there is one, of as many messages as entries were taken
+unfoldable pub Comparable : Family → List ℕ → ℕ → ℕ → Type 0
+Comparable f entries l n =
+    (train : List (List ℕ)) × (length train ≡ length (take n (entriesOf (assertEntries f) entries))) × (Every (Within l) train)
+    × Unpacks f train (take n (entriesOf (assertEntries f) entries))
