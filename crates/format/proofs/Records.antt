@@ -21,7 +21,7 @@ use Rattle.records.specs.Records.{AssertRecord, assert, PairRecord, pair, rBit,
 use Rattle.format.specs.Reader.{Reader, give, octets, number, must, _>>=_}
 use Rattle.format.specs.Family.{Family, maskLength, mayBeSource, Lawful}
 use Rattle.format.specs.Address.{groupForm, groupField, groupOctets, sourceForm, sourceField, sourceOctets}
-use Rattle.format.specs.Record.{each, assertRecord, assertOctets, pairRecord, pairOctets, positive, groupRecord, groupRecordOctets, sourceAggregated, rpAggregated, aggregatedRecord, aggregatedOctets, reserved2}
+use Rattle.format.specs.Record.{each, assertFields, assertRecord, assertOctets, pairFields, pairRecord, pairOctets, positive, groupRecord, groupRecordOctets, sourceAggregated, rpAggregated, aggregatedFields, aggregatedRecord, aggregatedOctets, reserved2}
 use Rattle.format.specs.Entry.{allowedAssert, allowedPair}
 use Rattle.records.proofs.Every.{every-map}
 use Rattle.format.proofs.Lengths.{length-group, length-source}
@@ -103,7 +103,7 @@ module _ (f : Family) (lawful : Lawful f) where
       omega arith)
 
   pub reads-assert : (e : AssertRecord) → Fits f e → allowedAssert f e ≡ true → Reads (assertRecord f) e (assertOctets f e)
-  unfolding assertRecord assertOctets allowedAssert
+  unfolding assertRecord assertFields assertOctets allowedAssert
   reads-assert e fits ok =
       let r : Bool = rBit (e .rPreference) in
       let source : mayBeSource f r (e .source) ≡ true = both-right (f .isGroup (e .group)) (mayBeSource f r (e .source)) ok in
@@ -116,7 +116,7 @@ module _ (f : Family) (lawful : Lawful f) where
       (reads-last (λ (m : ℕ). assert (e .group) (e .source) (e .rPreference) m) (reads-number (e .metric) 4 (fits .metric))))))))
 
 pub reads-pair : (f : Family) (z : Bool) (e : PairRecord) → PairFits f e → allowedPair f z e ≡ true → Reads (pairRecord f z) e (pairOctets f e)
-unfolding pairRecord pairOctets allowedPair
+unfolding pairRecord pairFields pairOctets allowedPair
 reads-pair f z e fits ok =
     reads-inRecord
     (reads-bind _ (reads-group f (e .group) (fits .group) (both-left (f .isGroup (e .group)) (mayBeSource f z (e .source)) ok))
@@ -177,7 +177,7 @@ module _ (f : Family) where
       (every-map _ _ (λ (s : ℕ) h. reads-source f true s (h .0) (h .1)) ss (fits .sources))))))
 
   pub reads-aggregated : (r : AggregatedRecord) → AggregatedFits f r → Reads (aggregatedRecord f) r (aggregatedOctets f r)
-  unfolding aggregatedRecord aggregatedOctets AggregatedFits sourceAggregated rpAggregated
+  unfolding aggregatedRecord aggregatedFields aggregatedOctets AggregatedFits sourceAggregated rpAggregated
   reads-aggregated (ofSource v m s gs) fits =
       reads-inRecord
       (reads-bind _ (reads-number v 4 (fits .rPreference))

@@ -22,7 +22,7 @@ use Rattle.format.specs.Outcome.{Outcome, gives, refuses, refuseIf}
 use Rattle.format.specs.Reader.{Read, got, bad, Reader, continue, _>>=_, _>>_, give, octets, number, must, handUp, inRecord, times, toEnd, records, outcome, from}
 use Rattle.format.specs.Family.{Family}
 use Rattle.format.specs.Address.{groupField, sourceField}
-use Rattle.format.specs.Record.{positive, groupRecord, sourceAggregated, rpAggregated, aggregatedRecord}
+use Rattle.format.specs.Record.{positive, groupRecord, sourceAggregated, rpAggregated, aggregatedFields, aggregatedRecord}
 use Rattle.format.specs.Header.{header}
 use Rattle.format.specs.Body.{zeroReserved, assertsBody}
 use Rattle.format.specs.Unpacking.{unpacked, unpackAsserts}
@@ -223,7 +223,7 @@ module _ (f : Family) (v m : ℕ) (whole left : ℕ) (e : whole ≡ 8 + left) wh
       takes-give _ (omega arith, h)
 
 pub takes-aggregatedRecord : (f : Family) (left : ℕ) → Takes left (aggregatedRecord f) (λ a rest. Whole f a left rest)
-unfolding aggregatedRecord
+unfolding aggregatedRecord aggregatedFields
 takes-aggregatedRecord f left =
     takes-inRecord
     (takes-bind (takes-number 4 left) λ v left₁ q₁.

@@ -1,10 +1,11 @@
 -- The records of 01, "Octets of a message", read and written, each field in its order. Reserved octets are ignored when read and
 -- written 0.
---     assertRecord, assertOctets              "group, source, R bit with 31-bit metric preference, metric: 22 octets"
---     pairRecord, pairOctets                  "group, source: 14 octets"
---     groupRecord, groupRecordOctets          "group, 16-bit number of sources, 2 reserved, sources: 12 + 6p octets"
---     aggregatedRecord, aggregatedOctets      source aggregated, 18 + 8n octets, or RP aggregated, 12 octets and its group records
---     Single, recordAt                        "A record read singly, at a place in lent octets and of a kind the caller names"
+--     assertFields, assertRecord, assertOctets     "group, source, R bit with 31-bit metric preference, metric: 22 octets"
+--     pairFields, pairRecord, pairOctets           "group, source: 14 octets"
+--     groupRecord, groupRecordOctets               "group, 16-bit number of sources, 2 reserved, sources: 12 + 6p octets"
+--     aggregatedFields, aggregatedRecord, aggregatedOctets     source aggregated, 18 + 8n octets, or RP aggregated, 12 octets and its group records
+-- Each record's fields are read in order; the record then decides which place a fault is handed up with.
+--     Single, recordAt                             "A record read singly, at a place in lent octets and of a kind the caller names"
 -- Assumes nothing: these are definitions.
 use Prim.Native.Nat.{ℕ}
 use mathlib.Core.Bool.{Bool, true, false, not, _&&_, cond}
@@ -31,8 +32,8 @@ reserved2 = 0 ∷ 0 ∷ []
 -- ---- assert records
 
 -- "With R=0 the source may not be 0"; that "is found at its R word"
-unfoldable pub assertRecord : Family → Reader AssertRecord
-assertRecord f = inRecord do
+unfoldable pub assertFields : Family → Reader AssertRecord
+assertFields f = do
   g ← groupField f
   sourceAt ← here
   s ← sourceField f true
@@ -41,17 +42,23 @@ assertRecord f = inRecord do
   m ← number 4
   give (assert g s v m)
 
+unfoldable pub assertRecord : Family → Reader AssertRecord
+assertRecord f = inRecord (assertFields f)
+
 unfoldable pub assertOctets : Family → AssertRecord → List ℕ
 assertOctets f e = groupOctets f (e .group) & sourceOctets f (e .source) & be 4 (e .rPreference) & be 4 (e .metric)
 
 -- ---- pairs
 
 -- "A null-register source may not be 0; a register-stop source may"
-unfoldable pub pairRecord : Family → Bool → Reader PairRecord
-pairRecord f zeroAllowed = inRecord do
+unfoldable pub pairFields : Family → Bool → Reader PairRecord
+pairFields f zeroAllowed = do
   g ← groupField f
   s ← sourceField f zeroAllowed
   give (pair g s)
+
+unfoldable pub pairRecord : Family → Bool → Reader PairRecord
+pairRecord f zeroAllowed = inRecord (pairFields f zeroAllowed)
 
 unfoldable pub pairOctets : Family → PairRecord → List ℕ
 pairOctets f e = groupOctets f (e .group) & sourceOctets f (e .source)
@@ -90,11 +97,14 @@ rpAggregated f v m = do
   rs ← times n (groupRecord f)
   give (ofRp v m rs)
 
-unfoldable pub aggregatedRecord : Family → Reader AggregatedRecord
-aggregatedRecord f = inRecord do
+unfoldable pub aggregatedFields : Family → Reader AggregatedRecord
+aggregatedFields f = do
   v ← number 4
   m ← number 4
   cond (rBit v) (rpAggregated f v m) (sourceAggregated f v m)
+
+unfoldable pub aggregatedRecord : Family → Reader AggregatedRecord
+aggregatedRecord f = inRecord (aggregatedFields f)
 
 unfoldable pub aggregatedOctets : Family → AggregatedRecord → List ℕ
 aggregatedOctets f (ofSource v m s gs) =
