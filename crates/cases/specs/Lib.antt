@@ -2,3 +2,4 @@ pub mod Computed
 pub mod Marked
 pub mod Messages
 pub mod Faults
+pub mod Calls
