@@ -1,0 +1,59 @@
+-- A Hello from its options and its header: laws over the definitions of specs/Hello.antt.
+--     given-zero, none-zero               a priority that is answered as 0 where none is announced
+--     hello-all, hello-cut                the options, read or refused
+--     read-refused, read-body             the message, by what its header says
+--     other-kind                          a message of another kind
+-- Assumes nothing.
+use Prim.Native.Nat.{ℕ}
+use mathlib.Core.Path.{_≡_, refl}
+use mathlib.Core.Bool.{Bool, true, false, cond}
+use mathlib.Core.List.{List, [], _∷_}
+use mathlib.Core.Logic.{⊎-elim}
+use native.Mathlib.Omega.{arith}
+use types.Run.{OneOf}
+use denote.Enum.Declared.{tagOf}
+use lib.ListN.{length}
+use Rattle.format.specs.Outcome.{gives, refuses, _>>=_}
+use Rattle.format.specs.Reader.{from}
+use Rattle.format.specs.Header.{header}
+use Rattle.format.specs.declared.Kind.{Kind}
+use Rattle.format.specs.declared.Kind.the-variants.{Hello, Assert, Simple, Aggregated, NullRegister, RegisterStop}
+use Rattle.format.proofs.Kind.{the-type}
+use Rattle.hello.specs.Options.{Said, nothing, options}
+use Rattle.hello.specs.Hello.{helloOf, helloOptions, helloBody, readHello}
+use Rattle.hello.specs.Answers.{ifGiven}
+
+pub given-zero : (b : Bool) (n : ℕ) → ifGiven b (cond b n 0) ≡ ifGiven b n
+unfolding ifGiven
+given-zero true n = refl
+given-zero false n = refl
+
+pub none-zero : (b : Bool) (n : ℕ) → b ≡ false → cond b n 0 ≡ 0
+none-zero b n e = rw e
+
+pub hello-all : (o : List ℕ) {s : Said} → from 4 (options (length o) nothing) o ≡ gives s → helloOptions o ≡ gives (helloOf s)
+unfolding helloOptions _>>=_
+hello-all o e = rw e
+
+pub hello-cut : (o : List ℕ) {n p : ℕ} → from 4 (options (length o) nothing) o ≡ refuses n p → helloOptions o ≡ refuses n p
+unfolding helloOptions _>>=_
+hello-cut o e = rw e
+
+pub read-refused : (o : List ℕ) {n p : ℕ} → header o ≡ refuses n p → readHello o ≡ refuses n p
+unfolding readHello _>>=_
+read-refused o e = rw e
+
+pub read-body : (o : List ℕ) {k : Kind} → header o ≡ gives k → readHello o ≡ helloBody k o
+unfolding readHello _>>=_
+read-body o e = rw e
+
+-- the variants after the first, by their numbers in the declaration
+pub other-kind : (k : Kind) (o : List ℕ) → OneOf (1 ∷ 2 ∷ 3 ∷ 4 ∷ 5 ∷ []) (tagOf the-type k) → helloBody k o ≡ refuses 4 0
+unfolding helloBody
+other-kind Hello o h =
+    absurd (⊎-elim (λ e. omega arith) (⊎-elim (λ e. omega arith) (⊎-elim (λ e. omega arith) (⊎-elim (λ e. omega arith) (λ e. omega arith)))) h)
+other-kind Assert o h = refl
+other-kind Simple o h = refl
+other-kind Aggregated o h = refl
+other-kind NullRegister o h = refl
+other-kind RegisterStop o h = refl

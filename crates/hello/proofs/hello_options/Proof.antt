@@ -1,0 +1,41 @@
+-- `hello::hello_options` meets its contract, by what the options came to.
+-- Assumes nothing.
+use mathlib.Core.Path.{sym, ap, _∙_}
+use borrow.Author.Needs.{needs}
+use denote.Ref.{now}
+use Rattle.format.specs.Outcome.{gives}
+use Rattle.hello.specs.Answers.{heard, told}
+use Rattle.hello.proofs.Hellos.{hello-all, hello-cut}
+use Rattle.hello.proofs.hello_options.Statement.{statement}
+use Rattle.hello.proofs.hello_options.Tie as tie
+
+options-requires : tie.Need-options-requires
+options-requires c κs = search needs
+
+enum-known-all : tie.Need-enum-known-all
+enum-known-all c = search needs
+
+hello-of-requires : tie.Need-hello-of-requires
+hello-of-requires c κs = search needs
+
+enum-known-all-2 : tie.Need-enum-known-all-2
+enum-known-all-2 c = search needs
+
+returns : tie.Need-returns
+unfolding heard told
+returns c =
+    let r = c .before .before .before .before in
+    let a = r .before .before .args in
+    (ap gives (c .hello-of .ensures .0) ∙ sym (hello-all (now (a .m)) (sym (r .options .ensures) ∙ ap heard (c .before .before .all .given .1))), c .hello-of .ensures .1)
+
+returns-2 : tie.Need-returns-2
+unfolding heard told
+returns-2 c =
+    let r = c .before .before .before in
+    let a = r .before .before .args in
+    (sym (hello-cut (now (a .m)) (sym (r .options .ensures) ∙ ap heard (c .before .all2 .given .1))), tt)
+
+pub hello-options-spec : {M : Type 1} → statement M
+hello-options-spec =
+    tie.close
+    (tie.spec options-requires enum-known-all hello-of-requires enum-known-all-2 returns returns-2)

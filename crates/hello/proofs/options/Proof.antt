@@ -1,0 +1,73 @@
+-- `hello::options` meets its contract. The loop's invariant: the options that are left give what all of them give. The measure is what is
+-- left of the octets.
+-- Assumes nothing.
+use mathlib.Core.Path.{sym, ap, _∙_}
+use Prim.Native.Nat.{_-_}
+use native.Mathlib.Omega.{arith}
+use borrow.Author.Needs.{needs}
+use denote.Ref.{now}
+use lib.ListN.{length}
+use Rattle.hello.specs.Options.{nothing}
+use Rattle.hello.specs.Answers.{ifGiven, saidBy, stepped, heard}
+use Rattle.hello.proofs.SoFar.{SoFar, so-far-start, so-far-next, so-far-bad, so-far-end, option-next}
+use Rattle.hello.proofs.options.Statement.{statement}
+use Rattle.hello.proofs.options.Tie as tie
+
+abbrev Inv-loop : tie.InvT-loop
+Inv-loop m start h₀ at₀ h at = SoFar m start (saidBy h) at
+
+abbrev μ-loop : tie.MeasureT-loop
+μ-loop m start h₀ at₀ h at = length m - at
+
+loop-holds : tie.Need-loop-holds Inv-loop μ-loop
+unfolding nothing saidBy ifGiven
+loop-holds c =
+    let a = c .before .args in
+    so-far-start (now (a .m)) (a .start)
+
+option-requires : tie.Need-option-requires Inv-loop μ-loop
+option-requires c κs = search needs
+
+enum-known-s : tie.Need-enum-known-s Inv-loop μ-loop
+enum-known-s c = search needs
+
+loop-less : tie.Need-loop-less Inv-loop μ-loop
+unfolding stepped
+loop-less c =
+    let r = c .before .before .before in
+    let a = r .before .before .before .before .args in
+    omega (arith, option-next (saidBy (r .before .before .loop .h)) (now (a .m)) (r .before .before .loop .at) (sym (r .option .ensures) ∙ ap stepped (c .before .s .given .1)))
+
+loop-again : tie.Need-loop-again Inv-loop μ-loop
+unfolding stepped
+loop-again c =
+    let r = c .before .before .before in
+    so-far-next (r .before .before .loop .inv) (r .before .loop-test .taken) (sym (r .option .ensures) ∙ ap stepped (c .before .s .given .1))
+
+enum-known-s-2 : tie.Need-enum-known-s-2 Inv-loop μ-loop
+enum-known-s-2 c = search needs
+
+returns : tie.Need-returns Inv-loop μ-loop
+unfolding stepped heard
+returns c =
+    let r = c .before .before .before in
+    sym (so-far-bad (r .before .before .loop .inv) (r .before .loop-test .taken) (sym (r .option .ensures) ∙ ap stepped (c .before .s2 .given .1)))
+
+returns-2 : tie.Need-returns-2 Inv-loop μ-loop
+unfolding heard
+returns-2 c = sym (so-far-end (c .before .loop .inv) (c .loop-test .left))
+
+pub options-spec : {M : Type 1} → statement M
+options-spec =
+    tie.close
+    (tie.spec
+    Inv-loop
+    μ-loop
+    loop-holds
+    option-requires
+    enum-known-s
+    loop-less
+    loop-again
+    enum-known-s-2
+    returns
+    returns-2)

@@ -1,0 +1,62 @@
+-- What the answers of this crate's calls mean: 01's number and values for each case.
+--     saidBy, heard                 the options so far, and what reading options finds
+--     stepped                       what reading one option finds
+--     helloBy, told                 a Hello, and what reading one finds
+--     zeroPriority, unannounced     a priority that is not announced is answered as 0
+--     fourAt                        four octets at a place are those of a string
+-- Assumes nothing: these are definitions.
+use Prim.Native.Nat.{ℕ, _+_}
+use mathlib.Core.Path.{_≡_}
+use mathlib.Core.Bool.{Bool, false, cond, _&&_}
+use mathlib.Core.List.{List}
+use mathlib.Core.Option.{Option, none, some}
+use lib.ListN.{getD}
+use lib.Dec.{eqb}
+use Rattle.format.specs.Outcome.{Outcome, gives, refuses}
+use Rattle.format.specs.Reader.{Read, got, bad}
+use Rattle.hello.specs.Options.{Said, said}
+use Rattle.hello.specs.Hello.{Hello as HelloSaid, hello}
+use Rattle.hello.specs.declared.Heard.{Heard}
+use Rattle.hello.specs.declared.Hello.{Hello}
+use Rattle.hello.specs.declared.HelloRead.{HelloRead}
+use Rattle.hello.specs.declared.HelloRead.the-variants.{Is, Refused as NoHello}
+use Rattle.hello.specs.declared.OptionsRead.{OptionsRead}
+use Rattle.hello.specs.declared.OptionsRead.the-variants.{All, Refused}
+use Rattle.hello.specs.declared.Step.{Step}
+use Rattle.hello.specs.declared.Step.the-variants.{Next, Bad}
+
+unfoldable pub ifGiven : Bool → ℕ → Option ℕ
+ifGiven b n = cond b (some n) none
+
+unfoldable pub saidBy : Heard → Said
+saidBy h = said (ifGiven (h .«has_holdtime») (h .holdtime)) (ifGiven (h .«has_priority») (h .priority)) (h .packing)
+
+unfoldable pub heard : OptionsRead → Outcome Said
+heard (All h) = gives (saidBy h)
+heard (Refused r) = refuses (r .number) (r .place)
+
+unfoldable pub stepped : Step → Read Said
+stepped (Next h next) = got (saidBy h) next
+stepped (Bad r) = bad (r .number) (r .place)
+
+unfoldable pub helloBy : Hello → HelloSaid
+helloBy h = hello (h .holdtime) (ifGiven (h .«has_priority») (h .priority)) (h .packing)
+
+unfoldable pub told : HelloRead → Outcome HelloSaid
+told (Is h) = gives (helloBy h)
+told (NoHello r) = refuses (r .number) (r .place)
+
+-- "a priority not announced is stored as 0" (01, "Neighbours and election"): so it is answered as 0 already
+abbrev pub zeroPriority : Hello → Type 0
+zeroPriority h = h .«has_priority» ≡ false → h .priority ≡ 0
+
+abbrev pub unannounced : HelloRead → Type 0
+unannounced (Is h) = zeroPriority h
+unannounced (NoHello r) = Unit {0}
+
+unfoldable pub fourAt : List ℕ → ℕ → List ℕ → Bool
+fourAt o at s =
+    eqb (getD o at 0) (getD s 0 0)
+    && (eqb (getD o (at + 1) 0) (getD s 1 0)
+    && (eqb (getD o (at + 2) 0) (getD s 2 0)
+    && eqb (getD o (at + 3) 0) (getD s 3 0)))

@@ -1,0 +1,3 @@
+pub mod Options
+pub mod Hello
+pub mod Answers

@@ -1,0 +1,184 @@
+-- What was counted is what is copied: the entries of a body without a fault, by plain numbers at their places.
+--     to-end-full                  records to the end end there
+--     even-back                    records of one length, one after another
+--     zero-back                    Zero and Reserved are four octets
+--     Plainly, plain-entries, simple-entries, joined-entries, pair-entries     what each body stands for
+-- Assumes nothing.
+use Prim.Native.Nat.{ℕ, zero, suc, _+_, _*_, _≤_, _<_}
+use native.Mathlib.Nat.{mul-suc}
+use native.Mathlib.Omega.{arith}
+use mathlib.Core.Path.{_≡_, refl, sym, ap, ap₂, _∙_}
+use mathlib.Core.Bool.{Bool, true, false, cond}
+use mathlib.Core.List.{List, [], _∷_}
+use lib.ListN.{length}
+use lib.Dec.{leb, eqb}
+use borrow.Author.Tests.{leb-true, leb-false}
+use Rattle.records.specs.Records.{AssertRecord, PairRecord, AggregatedRecord, allEntries}
+use Rattle.records.specs.Sizes.{aggregatedSize, allSize}
+use Rattle.format.specs.Reader.{Read, got, bad, Reader, continue, _>>=_, _>>_, give, octets, number, must, handUp, inRecord, toEnd, records, nothingMore}
+use Rattle.format.specs.Family.{ipv4}
+use Rattle.format.specs.Record.{assertRecord, pairRecord, aggregatedRecord}
+use Rattle.format.specs.Body.{zeroReserved, assertsBody, pairsBody}
+use Rattle.format.specs.declared.Kind.{Kind}
+use Rattle.format.specs.declared.Kind.the-variants.{Hello, Assert, Simple, Aggregated, NullRegister, RegisterStop}
+use Rattle.reading.specs.Answers.{plainAssert, plainPair}
+use Rattle.reading.specs.Counts.{tallied}
+use Rattle.reading.specs.Plain.{plainAsserts, plainPairs, plainAggregated, plainRecords}
+use Rattle.reading.specs.Calls.{valueOf, HasCounted}
+use Rattle.reading.proofs.Skipped.{no-got, continue-back}
+use Rattle.reading.proofs.Fields.{octets-back, number-back}
+use Rattle.reading.proofs.Plain.{assert-back, pair-back}
+use Rattle.reading.proofs.Copying.{size-least}
+use Rattle.reading.proofs.Aggregates.{Back, got-value, got-place, handUp-back, aggregated-back, aggregates-back}
+use Rattle.reading.proofs.Bodies.{tallied-back}
+
+-- a body that was counted was read, and gave so many entries
+pub counted-back : {A C : Type 0} (r : Read (List A)) (n : ℕ) → HasCounted r n → ((l : List A) (next : ℕ) → r ≡ got l next → length l ≡ n → C) → C
+counted-back r n h on = tallied-back length r n (h .next) (h .counts) (λ l e s. on l (h .next) e s)
+
+-- ---- records to the end
+
+-- where each record has octets, and enough of the bound is left, the records end with the octets
+to-end-full : {A : Type 0} (r : Reader A) (o : List ℕ) → ((at : ℕ) (a : A) (next : ℕ) → r o at ≡ got a next → at < next)
+    → (k at : ℕ) (l : List A) (n : ℕ) → length o ≤ at + k → toEnd k r o at ≡ got l n → length o ≤ n
+unfolding toEnd
+to-end-full r o on zero at l n h e = omega (arith, got-place e)
+to-end-full {A} r o on (suc k) at l n h e = go (leb (length o) at) refl (to-end-full r o on k)
+  where
+    go : (b : Bool) → leb (length o) at ≡ b → ((at : ℕ) (l : List A) (n : ℕ) → length o ≤ at + k → toEnd k r o at ≡ got l n → length o ≤ n) → length o ≤ n
+    go true t ih = let end : got [] at ≡ got l n = rw t at e in omega (arith, got-place end, leb-true (length o) at t)
+    go false t ih =
+        continue-back (r o at) _ (rw t at e) (λ a next first rest.
+        continue-back (toEnd k r o next) _ rest (λ l′ end more last.
+        omega (arith, ih next l′ end (omega (arith, on at a next first)) more, got-place last)))
+
+-- records of one length, one after another
+module _ {A : Type 0} (r : Reader A) (o : List ℕ) (size : ℕ) (plain : ℕ → A) (list : ℕ → ℕ → List A)
+    (none : (at : ℕ) → list at 0 ≡ []) (more : (at n : ℕ) → list at (suc n) ≡ plain at ∷ list (at + size) n)
+    (one : (at : ℕ) (a : A) (n : ℕ) → r o at ≡ got a n → (a ≡ plain at) × (n ≡ at + size) × (n ≤ length o)) where
+  even-back : (k at : ℕ) (l : List A) (n : ℕ) → at ≤ length o → toEnd k r o at ≡ got l n → Back o at l n (list at (length l)) (size * length l)
+  unfolding toEnd
+  even-back zero at l n h e = empty at l n h e
+    where
+      empty : (at : ℕ) (l : List A) (n : ℕ) → at ≤ length o → got [] at ≡ got l n → Back o at l n (list at (length l)) (size * length l)
+      empty at l n h e =
+          rw (← got-value e) (record { value = sym (none at); next = omega (arith, got-place e); inside = omega (arith, got-place e) })
+  even-back (suc k) at l n h e = go (leb (length o) at) refl (even-back k)
+    where
+      go : (b : Bool) → leb (length o) at ≡ b → ((at : ℕ) (l : List A) (n : ℕ) → at ≤ length o → toEnd k r o at ≡ got l n → Back o at l n (list at (length l)) (size * length l))
+          → Back o at l n (list at (length l)) (size * length l)
+      go true t ih =
+          let end : got [] at ≡ got l n = rw t at e in
+          rw (← got-value end) (record { value = sym (none at); next = omega (arith, got-place end); inside = omega (arith, got-place end) })
+      go false t ih =
+          continue-back (r o at) _ (rw t at e) (λ a next first rest.
+          continue-back (toEnd k r o next) _ rest (λ l′ end after last.
+          let b = one at a next first in
+          let tail = ih next l′ end (b .2) after in
+          let same : list next (length l′) ≡ list (at + size) (length l′) = ap (λ (x : ℕ). list x (length l′)) (b .1) in
+          rw (← got-value last)
+          (record {
+            value = ap₂ (λ (x : A) (y : List A). x ∷ y) (b .0) (tail .value ∙ same) ∙ sym (more at (length l′));
+            next = omega (arith, got-place last, tail .next, b .1, mul-suc size (length l′));
+            inside = omega (arith, got-place last, tail .inside);
+          })))
+
+-- ---- bodies
+
+-- Zero and Reserved are four octets
+zero-back : (o : List ℕ) (u : Unit {0}) (n : ℕ) → zeroReserved o 4 ≡ got u n → (n ≡ 8) × (8 ≤ length o)
+unfolding zeroReserved inRecord must _>>_ give
+zero-back o u n e =
+    continue-back (continue (number 1 o 4) (λ a next. cond (eqb a 0) (got a next) (bad 5 4))) _ (handUp-back 4 _ e) (λ z five first rest.
+    continue-back (octets 3 o five) _ rest (λ x eight second last.
+    continue-back (number 1 o 4) _ first (λ a next there tested.
+    let b = number-back 1 o 4 there in
+    let c = octets-back 3 o five second in
+    let place : five ≡ next = tests (eqb a 0) a next tested in
+    (omega (arith, got-place last, c .1, place, b .1), omega (arith, c .1, c .2, place, b .1)))))
+  where
+    tests : (b : Bool) (a next : ℕ) {z five : ℕ} → cond b (got a next) (bad 5 4) ≡ got z five → five ≡ next
+    tests true a next e = sym (got-place e)
+    tests false a next e = absurd (no-got e)
+
+-- one record at least, and the records to the end
+records-back : {A : Type 0} (r : Reader A) (o : List ℕ) (at : ℕ) (l : List A) (n : ℕ) → records r o at ≡ got l n → (at < length o) × (toEnd (length o) r o at ≡ got l n)
+unfolding records
+records-back r o at l n e = go (leb (length o) at) refl
+  where
+    go : (b : Bool) → leb (length o) at ≡ b → (at < length o) × (toEnd (length o) r o at ≡ got l n)
+    go true t = absurd (no-got (rw t at e))
+    go false t = (leb-false (length o) at t, rw t at e)
+
+-- n entries by plain numbers: the octets they are in are there
+pub record Plainly {A : Type 0} (o : List ℕ) (at size n : ℕ) (r : Read (List A)) (list : List A) : Type 0 where
+  pub there : at + size * n ≤ length o
+  pub entries : valueOf r ≡ list
+
+module _ (o : List ℕ) (n : ℕ) where
+  pub plain-entries : HasCounted (assertsBody ipv4 Assert o 4) n → Plainly o 4 22 n (assertsBody ipv4 Assert o 4) (plainAsserts o 4 n)
+  unfolding assertsBody _>>=_ _>>_ give valueOf plainAsserts
+  plain-entries h =
+      counted-back (assertsBody ipv4 Assert o 4) n h (λ l next e s.
+      continue-back (assertRecord ipv4 o 4) _ e (λ a m first rest.
+      continue-back (nothingMore o m) _ rest (λ u k second last.
+      let b = assert-back o 4 first in
+      let one : 1 ≡ n = ap length (got-value last) ∙ s in
+      record {
+        there = omega (arith, b .1, b .2);
+        entries = rw (e, ← one) (sym (got-value last) ∙ ap (λ (x : AssertRecord). x ∷ []) (b .0));
+      })))
+
+  -- the records of a packed body
+  asserts-at : (at : ℕ) (l : List AssertRecord) (m : ℕ) → at ≤ length o → toEnd (length o) (assertRecord ipv4) o at ≡ got l m → Back o at l m (plainAsserts o at (length l)) (22 * length l)
+  unfolding plainAsserts
+  asserts-at at l m h e = even-back (assertRecord ipv4) o 22 (plainAssert o) (plainAsserts o) (λ at. refl) (λ at n. refl) (λ at a n e. assert-back o at e) (length o) at l m h e
+
+  pub simple-entries : HasCounted (assertsBody ipv4 Simple o 4) n → Plainly o 8 22 n (assertsBody ipv4 Simple o 4) (plainAsserts o 8 n)
+  unfolding assertsBody _>>_ valueOf
+  simple-entries h =
+      counted-back (assertsBody ipv4 Simple o 4) n h (λ l next e s.
+      continue-back (zeroReserved o 4) _ e (λ u at first rest.
+      let z = zero-back o u at first in
+      let r = records-back (assertRecord ipv4) o at l next rest in
+      let b = rw (z .0) at (asserts-at at l next (omega (arith, r .0)) (r .1)) in
+      record { there = omega (arith, b .next, b .inside, ap (λ (x : ℕ). 22 * x) s); entries = rw (e, ← s) (b .value) }))
+
+  pub joined-entries : HasCounted (assertsBody ipv4 Aggregated o 4) n
+      → (8 + allSize 4 (plainRecords (length o) o 8) ≡ length o) × (length (allEntries (plainRecords (length o) o 8)) ≡ n)
+      × (valueOf (assertsBody ipv4 Aggregated o 4) ≡ allEntries (plainRecords (length o) o 8))
+  unfolding assertsBody _>>_ _>>=_ give valueOf
+  joined-entries h =
+      counted-back (assertsBody ipv4 Aggregated o 4) n h (λ l next e s.
+      continue-back (zeroReserved o 4) _ e (λ u at first rest.
+      continue-back (records (aggregatedRecord ipv4) o at) _ rest (λ rs end second last.
+      let z = zero-back o u at first in
+      let r = rw (z .0) at (records-back (aggregatedRecord ipv4) o at rs end second) in
+      let b = aggregates-back o (length o) 8 rs end (omega (arith, r .0)) (r .1) in
+      let full = to-end-full (aggregatedRecord ipv4) o (λ i a k g. omega (arith, aggregated-back o i a k g .next, size-least (plainAggregated o i))) (length o) 8 rs end (omega arith) (r .1) in
+      let same : l ≡ allEntries (plainRecords (length o) o 8) = sym (got-value last) ∙ ap allEntries (b .value) in
+      (omega (arith, b .next, b .inside, full), sym (ap length same) ∙ s, rw e same))))
+
+module _ (o : List ℕ) (n : ℕ) (z : Bool) where
+  -- the pairs of either kind
+  pairs-entries : HasCounted (records (pairRecord ipv4 z) o 4) n → Plainly o 4 14 n (records (pairRecord ipv4 z) o 4) (plainPairs o 4 n)
+  unfolding valueOf plainPairs
+  pairs-entries h =
+      counted-back (records (pairRecord ipv4 z) o 4) n h (λ l next e s.
+      let r = records-back (pairRecord ipv4 z) o 4 l next e in
+      let b = even-back (pairRecord ipv4 z) o 14 (plainPair o) (plainPairs o) (λ at. refl) (λ at n. refl) (λ at a n e. pair-back z o at e) (length o) 4 l next (omega (arith, r .0)) (r .1) in
+      record { there = omega (arith, b .next, b .inside, ap (λ (x : ℕ). 14 * x) s); entries = rw (e, ← s) (b .value) })
+
+-- of a kind of which pairs were counted
+pub pair-entries : (kind : Kind) (o : List ℕ) (n : ℕ) → HasCounted (pairsBody ipv4 kind o 4) n → Plainly o 4 14 n (pairsBody ipv4 kind o 4) (plainPairs o 4 n)
+unfolding pairsBody
+pair-entries Hello o n h = counted-back (bad 4 0) n h (λ l next e s. absurd (no-got e))
+pair-entries Assert o n h = counted-back (bad 4 0) n h (λ l next e s. absurd (no-got e))
+pair-entries Simple o n h = counted-back (bad 4 0) n h (λ l next e s. absurd (no-got e))
+pair-entries Aggregated o n h = counted-back (bad 4 0) n h (λ l next e s. absurd (no-got e))
+pair-entries NullRegister o n h = pairs-entries o n false h
+pair-entries RegisterStop o n h = pairs-entries o n true h
+
+-- a body that is refused was not counted
+pub none-counted : {A : Type 0} {i p n : ℕ} → HasCounted {A = A} (bad i p) n → ⊥
+none-counted {n = n} h = counted-back (bad _ _) n h (λ l next e s. no-got e)

@@ -1,0 +1,102 @@
+-- `reading::entries::read_asserts` meets its contract: what its passes found says which way the call goes.
+-- Assumes nothing.
+use native.Mathlib.Omega.{arith}
+use mathlib.Core.Path.{_≡_, sym, ap, _∙_}
+use denote.Ref.{now}
+use borrow.Author.Needs.{needs}
+use Rattle.format.specs.Family.{ipv4}
+use Rattle.format.specs.Body.{assertsBody}
+use Rattle.format.specs.Entry.{assertEntries}
+use Rattle.reading.specs.Calls.{answered}
+use Rattle.reading.proofs.Readings.{headed-refuses, headed-gives, counted-bad, counted-all, read-refused, read-bad, read-short, read-all, asserts-by, long}
+use Rattle.reading.proofs.entries.read_asserts.Statement.{statement}
+use Rattle.reading.proofs.entries.read_asserts.Tie as tie
+
+header-requires : tie.Need-header-requires
+header-requires c κs = search needs
+
+enum-known-h : tie.Need-enum-known-h
+enum-known-h c = search needs
+
+enum-known-h-2 : tie.Need-enum-known-h-2
+enum-known-h-2 c = search needs
+
+count-asserts-requires : tie.Need-count-asserts-requires
+count-asserts-requires c κs =
+    let o = now (c .before .before .before .before .before .before .args .m) in
+    long o (c .before .h2 .given .0 .0) (headed-gives o (c .before .h2 .given .1) (c .before .before .before .header .ensures))
+
+enum-known-c : tie.Need-enum-known-c
+enum-known-c c = search needs
+
+enum-known-c-2 : tie.Need-enum-known-c-2
+enum-known-c-2 c = search needs
+
+returns : tie.Need-returns
+unfolding answered
+returns c =
+    let a = c .before .before .before .before .before .before .before .before .before .before .before .args in
+    let o = now (a .m) in
+    let d = now (a .d) in
+    let k = c .before .before .before .before .before .before .h2 .given .0 .0 in
+    let e = headed-gives o (c .before .before .before .before .before .before .h2 .given .1) (c .before .before .before .before .before .before .before .before .header .ensures) in
+    let n = counted-all ((assertsBody ipv4) k o 4) (c .before .before .c2 .given .1) (c .before .before .before .before .count-asserts .ensures) in
+    let call = asserts-by o d ∙ read-short (assertEntries ipv4) (assertsBody ipv4) o d e n (omega arith) in
+    (sym (ap (λ x. x .answer) call), sym (ap (λ x. x .lent) call))
+
+copy-entries-requires : tie.Need-copy-entries-requires
+copy-entries-requires c κs =
+    let a = c .before .before .before .before .before .before .before .before .before .before .before .before .args in
+    (counted-all ((assertsBody ipv4) (c .before .before .before .before .before .before .before .h2 .given .0 .0) (now (a .m)) 4) (c .before .before .before .c2 .given .1) (c .before .before .before .before .before .count-asserts .ensures), omega arith)
+
+returns-2 : tie.Need-returns-2
+unfolding answered
+returns-2 c =
+    let a = c .before .before .before .before .before .before .args in
+    let o = now (a .m) in
+    let d = now (a .d) in
+    let call = asserts-by o d ∙ read-refused (assertEntries ipv4) (assertsBody ipv4) o d (headed-refuses o (c .before .h .given .1) (c .before .before .before .header .ensures)) in
+    (sym (ap (λ x. x .answer) call), sym (ap (λ x. x .lent) call))
+
+returns-3 : tie.Need-returns-3
+unfolding answered
+returns-3 c =
+    let a = c .before .before .before .before .before .before .before .before .before .before .args in
+    let o = now (a .m) in
+    let d = now (a .d) in
+    let k = c .before .before .before .before .before .h2 .given .0 .0 in
+    let e = headed-gives o (c .before .before .before .before .before .h2 .given .1) (c .before .before .before .before .before .before .before .header .ensures) in
+    let call = asserts-by o d ∙ read-bad (assertEntries ipv4) (assertsBody ipv4) o d e (counted-bad ((assertsBody ipv4) k o 4) (c .before .c .given .1) (c .before .before .before .count-asserts .ensures)) in
+    (sym (ap (λ x. x .answer) call), sym (ap (λ x. x .lent) call))
+
+same-length : tie.Need-same-length
+same-length c = search needs
+
+returns-4 : tie.Need-returns-4
+unfolding answered
+returns-4 c =
+    let a = c .before .before .before .before .before .before .before .before .before .before .before .before .before .before .before .args in
+    let o = now (a .m) in
+    let d = now (a .d) in
+    let k = c .before .before .before .before .before .before .before .before .before .before .h2 .given .0 .0 in
+    let e = headed-gives o (c .before .before .before .before .before .before .before .before .before .before .h2 .given .1) (c .before .before .before .before .before .before .before .before .before .before .before .before .header .ensures) in
+    let n = counted-all ((assertsBody ipv4) k o 4) (c .before .before .before .before .before .before .c2 .given .1) (c .before .before .before .before .before .before .before .before .count-asserts .ensures) in
+    let call = asserts-by o d ∙ read-all (assertEntries ipv4) (assertsBody ipv4) o d e n (omega arith) in
+    (sym (ap (λ x. x .answer) call), c .before .before .copy-entries .ensures ∙ sym (ap (λ x. x .lent) call))
+
+pub read-asserts-spec : {M : Type 1} → statement M
+read-asserts-spec =
+    tie.close
+    (tie.spec
+    header-requires
+    enum-known-h
+    enum-known-h-2
+    count-asserts-requires
+    enum-known-c
+    enum-known-c-2
+    returns
+    copy-entries-requires
+    returns-2
+    returns-3
+    same-length
+    returns-4)

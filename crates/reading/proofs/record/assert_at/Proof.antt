@@ -1,0 +1,48 @@
+-- `reading::record::assert_at` meets its contract: its numbers are those that `plainAssert` names.
+-- Assumes nothing.
+use borrow.Author.Needs.{needs}
+use Rattle.reading.specs.Answers.{assertOf, plainAssert}
+use Rattle.reading.proofs.record.assert_at.Statement.{statement}
+use Rattle.reading.proofs.record.assert_at.Tie as tie
+
+add-number32 : tie.Need-add-number32
+add-number32 c = search needs
+
+number32-requires : tie.Need-number32-requires
+number32-requires c κs = search needs
+
+add-number32-2 : tie.Need-add-number32-2
+add-number32-2 c = search needs
+
+number32-requires-2 : tie.Need-number32-requires-2
+number32-requires-2 c κs = search needs
+
+add-number32-3 : tie.Need-add-number32-3
+add-number32-3 c = search needs
+
+number32-requires-3 : tie.Need-number32-requires-3
+number32-requires-3 c κs = search needs
+
+add-number32-4 : tie.Need-add-number32-4
+add-number32-4 c = search needs
+
+number32-requires-4 : tie.Need-number32-requires-4
+number32-requires-4 c κs = search needs
+
+returns : tie.Need-returns
+unfolding assertOf plainAssert
+returns c = rw (c .before .before .before .number32 .ensures, c .before .before .number322 .ensures, c .before .number323 .ensures, c .number324 .ensures)
+
+pub assert-at-spec : {M : Type 1} → statement M
+assert-at-spec =
+    tie.close
+    (tie.spec
+    add-number32
+    number32-requires
+    add-number32-2
+    number32-requires-2
+    add-number32-3
+    number32-requires-3
+    add-number32-4
+    number32-requires-4
+    returns)

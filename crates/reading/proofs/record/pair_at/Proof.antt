@@ -1,0 +1,26 @@
+-- `reading::record::pair_at` meets its contract: its numbers are those that `plainPair` names.
+-- Assumes nothing.
+use borrow.Author.Needs.{needs}
+use Rattle.reading.specs.Answers.{pairOf, plainPair}
+use Rattle.reading.proofs.record.pair_at.Statement.{statement}
+use Rattle.reading.proofs.record.pair_at.Tie as tie
+
+add-number32 : tie.Need-add-number32
+add-number32 c = search needs
+
+number32-requires : tie.Need-number32-requires
+number32-requires c κs = search needs
+
+add-number32-2 : tie.Need-add-number32-2
+add-number32-2 c = search needs
+
+number32-requires-2 : tie.Need-number32-requires-2
+number32-requires-2 c κs = search needs
+
+returns : tie.Need-returns
+unfolding pairOf plainPair
+returns c = rw (c .before .number32 .ensures, c .number322 .ensures)
+
+pub pair-at-spec : {M : Type 1} → statement M
+pair-at-spec =
+    tie.close (tie.spec add-number32 number32-requires add-number32-2 number32-requires-2 returns)

@@ -1,0 +1,140 @@
+// Assert records and pairs: checked field by field, in octet order, and read by plain indices.
+use crate::field::Checked;
+use crate::field::bad;
+use crate::field::group_check;
+use crate::field::in_record;
+use crate::field::number32;
+use crate::field::octets_check;
+use crate::field::source_check;
+use format::AssertFields;
+use format::Kind;
+use format::PairFields;
+use format::Record;
+use format::Refusal;
+ghost use mathlib.Core.Path.{_≡_};
+ghost use Prim.Native.Nat.{_+_, _≤_};
+ghost use lib.ListN.{length};
+ghost use Rattle.format.specs.Family.{ipv4};
+ghost use Rattle.format.specs.Record.{assertFields, assertRecord, pairFields, pairRecord, recordAt};
+ghost use Rattle.reading.specs.Answers.{checked, skipped, single, assertOf, pairOf, recordOf, plainAssert, plainPair, plainRecord, plainSize};
+
+fn assert_fields(m: &[u8], at: usize) -> Checked
+    ensures { λ r. ⌜ checked r ≡ skipped (assertFields ipv4 (now (m .entry)) at) ⌝ }
+{
+    let g = group_check(m, at);
+    let Checked::Next(source_at) = g else {
+        return g;
+    };
+    let s = source_check(m, source_at, true);
+    let Checked::Next(word_at) = s else {
+        return s;
+    };
+    let v = octets_check(m, word_at, 4);
+    let Checked::Next(metric_at) = v else {
+        return v;
+    };
+    // R=0 with source 0 is found here.
+    if m[word_at] < 128 {
+        if number32(m, source_at + 2) == 0 {
+            return bad(7, source_at);
+        }
+    }
+    octets_check(m, metric_at, 4)
+}
+
+fn pair_fields(m: &[u8], at: usize, zero_allowed: bool) -> Checked
+    ensures { λ r. ⌜ checked r ≡ skipped (pairFields ipv4 «zero_allowed» (now (m .entry)) at) ⌝ }
+{
+    let g = group_check(m, at);
+    let Checked::Next(source_at) = g else {
+        return g;
+    };
+    source_check(m, source_at, zero_allowed)
+}
+
+// An assert record.
+pub(crate) fn assert_check(m: &[u8], at: usize) -> Checked
+    ensures { λ r. ⌜ checked r ≡ skipped (assertRecord ipv4 (now (m .entry)) at) ⌝ }
+{
+    in_record(at, assert_fields(m, at))
+}
+
+// A pair.
+pub(crate) fn pair_check(m: &[u8], at: usize, zero_allowed: bool) -> Checked
+    ensures { λ r. ⌜ checked r ≡ skipped (pairRecord ipv4 «zero_allowed» (now (m .entry)) at) ⌝ }
+{
+    in_record(at, pair_fields(m, at, zero_allowed))
+}
+
+// A record of a kind that has records of one length; 4 for the others.
+pub(crate) fn record_check(kind: Kind, m: &[u8], at: usize) -> Checked
+    ensures { λ r. ⌜ checked r ≡ skipped (recordAt ipv4 kind (now (m .entry)) at) ⌝ }
+{
+    match kind {
+        Kind::Hello => bad(4, 0),
+        Kind::Assert => assert_check(m, at),
+        Kind::Simple => assert_check(m, at),
+        Kind::Aggregated => bad(4, 0),
+        Kind::NullRegister => pair_check(m, at, false),
+        Kind::RegisterStop => pair_check(m, at, true),
+    }
+}
+
+// The numbers of an assert record that is there.
+pub(crate) fn assert_at(m: &[u8], at: usize) -> AssertFields
+    requires { ⌜ at + 22 ≤ length (now m) ⌝ }
+    ensures { λ r. ⌜ assertOf r ≡ plainAssert (now (m .entry)) at ⌝ }
+{
+    AssertFields {
+        group: number32(m, at + 4),
+        source: number32(m, at + 10),
+        r_preference: number32(m, at + 14),
+        metric: number32(m, at + 18),
+    }
+}
+
+// The numbers of a pair that is there.
+pub(crate) fn pair_at(m: &[u8], at: usize) -> PairFields
+    requires { ⌜ at + 14 ≤ length (now m) ⌝ }
+    ensures { λ r. ⌜ pairOf r ≡ plainPair (now (m .entry)) at ⌝ }
+{
+    PairFields {
+        group: number32(m, at + 4),
+        source: number32(m, at + 10),
+    }
+}
+
+// The numbers of a record that is there. A hello and an aggregated message have none, and are refused before.
+fn record_at(kind: Kind, m: &[u8], at: usize) -> Record
+    requires { ⌜ at + plainSize kind ≤ length (now m) ⌝ }
+    ensures { λ r. ⌜ recordOf r ≡ plainRecord kind (now (m .entry)) at ⌝ }
+{
+    match kind {
+        Kind::Hello => Record::Assert(assert_at(m, at)),
+        Kind::Assert => Record::Assert(assert_at(m, at)),
+        Kind::Simple => Record::Assert(assert_at(m, at)),
+        Kind::Aggregated => Record::Assert(assert_at(m, at)),
+        Kind::NullRegister => Record::Pair(pair_at(m, at)),
+        Kind::RegisterStop => Record::Pair(pair_at(m, at)),
+    }
+}
+
+// A record read singly.
+pub enum Single {
+    Got { record: Record, next: usize },
+    Refused(Refusal),
+}
+
+// The record of a kind at a place, and the next place. What follows it is no fault here.
+pub fn read_record(kind: Kind, m: &[u8], at: usize) -> Single
+    ensures { λ r. ⌜ single r ≡ recordAt ipv4 kind (now (m .entry)) at ⌝ }
+{
+    let c = record_check(kind, m, at);
+    match c {
+        Checked::Bad(r) => Single::Refused(r),
+        Checked::Next(next) => Single::Got {
+            record: record_at(kind, m, at),
+            next,
+        },
+    }
+}
