@@ -4,7 +4,7 @@
 --     flows-demand3    so it holds of them, with any buffers
 -- Assumes nothing.
 use Prim.Native.Nat.{ℕ}
-use mathlib.Core.Path.{_≡_, refl}
+use mathlib.Core.Path.{refl}
 use mathlib.Core.List.{List}
 use Rattle.octets.specs.Octets.{Octets}
 use Rattle.records.specs.Every.{Every}

@@ -17,7 +17,7 @@ use Rattle.format.specs.Family.{ipv4}
 use Rattle.format.specs.Packing.{simple, aggregated, readLimit, packing, asked, firstBad, packDue, pack, taken, written, wrote}
 use Rattle.format.specs.Train.{takenBy, messageOf, calls, messagesOf}
 use Rattle.cases.specs.Computed.{computed}
-use Rattle.cases.specs.Marked.{AssertForm, Row, Right, marked, flows, shared}
+use Rattle.cases.specs.Marked.{AssertForm, Right, marked, flows, shared}
 
 -- a call at the end of the list is refused with 8, or takes 0 and writes nothing
 at-end : (F : AssertForm) → F .atMost 0 ≡ 0 → (limit l : ℕ) → readLimit ipv4 limit ≡ gives l → (d : List ℕ)

@@ -4,12 +4,11 @@
 --     limit-range                         a limit that is read lies within the limits
 --     Packs, packing-gives                a call that is not refused: what it took and what it wrote
 -- Assumes nothing.
-use Prim.Native.Nat.{ℕ, zero, suc, _+_, _<_, _≤_}
+use Prim.Native.Nat.{ℕ, zero, suc, _<_, _≤_}
 use native.Mathlib.Omega.{arith}
-use native.Mathlib.Decide.{decLe}
 use mathlib.Core.Path.{_≡_, refl, sym, ap, _∙_}
-use mathlib.Core.Bool.{Bool, true, false, not, _&&_, cond, and-eq-true-iff}
-use mathlib.Core.List.{List, [], _∷_, _++_}
+use mathlib.Core.Bool.{Bool, true, false, not, _&&_, and-eq-true-iff}
+use mathlib.Core.List.{List, [], _∷_}
 use borrow.Author.Tests.{lt-ltb, le-ltb, le-leb, ltb-false, not-false, leb-true, ne-eqb}
 use lib.ListN.{length, take, drop}
 use lib.Dec.{eqb, leb, ltb}
@@ -24,7 +23,7 @@ use Rattle.format.specs.Family.{Family}
 use Rattle.format.specs.Header.{longest}
 use Rattle.format.specs.Entry.{Entries, count, whole, entriesOf}
 use Rattle.format.proofs.Outcomes.{no-refusal, gives-same, bind-gives, then-gives, unless-gives}
-use Rattle.format.specs.Packing.{usualLimit, leastLimit, readLimit, Form, canonical, firstBad, Due, due, asked, taken, Packed, packed, pack, Wrote, wrote, PackingCall, written, packDue, packing}
+use Rattle.format.specs.Packing.{usualLimit, leastLimit, readLimit, Form, canonical, firstBad, Due, due, asked, taken, packed, pack, wrote, written, packDue, packing}
 
 pub record Asked (E : Entries) (o : List ℕ) (start limit room l : ℕ) : Type 0 where
   pub limitRead : readLimit (E .family) limit ≡ gives l

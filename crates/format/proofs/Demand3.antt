@@ -7,39 +7,35 @@
 --     demand3, complete              the theorems: demand 3, and that calls with room take every entry
 --     comparable, empty              there is another train to compare with; the empty list yields no message
 -- Assumes nothing.
-use Prim.Native.Nat.{ℕ, zero, suc, _+_, _*_, _-_, _<_, _≤_}
+use Prim.Native.Nat.{ℕ, zero, suc, _+_, _*_, _<_, _≤_}
 use native.Mathlib.Nat.{le-trans, le-of-eq, add-assoc, add-zero, zero-add, zero-div}
 use native.Mathlib.Omega.{arith}
 use native.Mathlib.Decide.{decLe}
 use mathlib.Core.Path.{_≡_, refl, sym, ap, _∙_}
-use mathlib.Core.Bool.{Bool, true, false}
 use mathlib.Core.List.{List, [], _∷_, _++_, map, flatten}
 use borrow.Author.Tests.{le-leb, ne-eqb}
-use lib.ListN.{length, take, drop, length-append, length-take, length-drop, length-map}
+use lib.ListN.{length, take, drop, length-take, length-drop, length-map}
 use lib.Seq.{take-add, drop-drop, take-nil}
-use lib.Dec.{leb, eqb}
-use Rattle.octets.specs.Octets.{Octets, put}
+use lib.Dec.{leb}
+use Rattle.octets.specs.Octets.{put}
 use Rattle.octets.proofs.Laws.{take-put}
 use Rattle.records.specs.Every.{Every}
-use Rattle.records.specs.Records.{AssertRecord, rBit, AggregatedRecord, ofGroup, allEntries}
-use Rattle.records.specs.Runs.{run, runs, glue}
-use Rattle.records.specs.Joining.{together, sameGroup, groupRecords, allGroupRecords, aggregated as aggregate, joined}
-use Rattle.records.specs.Sizes.{groupRecordSize, groupRecordsSize, aggregatedSize, allSize}
-use Rattle.records.specs.Most.{most}
+use Rattle.records.specs.Records.{AssertRecord}
+use Rattle.records.specs.Joining.{joined}
+use Rattle.records.specs.Sizes.{allSize}
 use Rattle.records.specs.Train.{Steps, stop, step}
 use Rattle.records.proofs.Every.{every-both, every-map, every-take, every-drop, every-of-map}
-use Rattle.records.proofs.Joining.{aggregated-rp, aggregated-source, groupRecords-elim}
 use Rattle.records.proofs.Least.{least, drop-front, one-entry}
-use Rattle.records.proofs.Most.{most-le, most-ge}
+use Rattle.records.proofs.Most.{most-ge}
 use Rattle.records.proofs.Fewest.{fewest}
-use Rattle.format.specs.Outcome.{Outcome, gives, refuses}
+use Rattle.format.specs.Outcome.{gives}
 use Rattle.format.specs.Family.{Family, Lawful}
-use Rattle.format.specs.Header.{message, longest}
+use Rattle.format.specs.Header.{longest}
 use Rattle.format.specs.Record.{each, aggregatedOctets}
 use Rattle.format.specs.Body.{zeros, aggregatedBody}
 use Rattle.format.specs.Entry.{assertEntries, allowedAssert, count, entriesAt, entriesOf}
 use Rattle.format.specs.Unpacking.{unpacked, unpackAsserts}
-use Rattle.format.specs.Packing.{leastLimit, readLimit, aggregated, canonical, taken, Packed, packed, pack, PackingCall, Wrote, wrote, packing}
+use Rattle.format.specs.Packing.{leastLimit, aggregated, canonical, taken, PackingCall, wrote, packing}
 use Rattle.format.specs.Train.{takenBy, messageOf, calls, takenOf, messagesOf}
 use Rattle.format.specs.Demand3.{Given, Called, AllCalled, Unpacks, sent, totalTaken, Within, Demand3, Complete, Comparable}
 use Rattle.format.specs.declared.Kind.the-variants.{Aggregated}
@@ -50,7 +46,7 @@ use Rattle.format.proofs.Joined.{Good}
 use Rattle.format.proofs.Entries.{length-entries, assert-fits}
 use Rattle.format.proofs.Calls.{Asked, every-allowed, taken-most, taken-fits, pack-none, pack-some, packing-gives, packing-short}
 use Rattle.format.proofs.RoundTrip.{aggregated-back, Canonical}
-use Rattle.format.proofs.Taken.{Records, unpacked-records}
+use Rattle.format.proofs.Taken.{unpacked-records}
 
 -- ---- how long a message is
 

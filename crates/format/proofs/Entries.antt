@@ -7,11 +7,11 @@ use Prim.Native.Nat.{ℕ, zero, suc, _+_, _<_, _≤_, _^_}
 use native.Mathlib.Nat.{lt-of-lt-of-le, pow-le-pow-right}
 use native.Mathlib.Omega.{arith}
 use lib.Dec.{lit<}
-use mathlib.Core.Path.{_≡_, refl, sym, ap, _∙_}
-use mathlib.Core.Bool.{Bool, true}
-use mathlib.Core.List.{List, [], _∷_, _++_}
-use lib.ListN.{length, take, drop, length-take, length-drop}
-use Rattle.octets.specs.Octets.{Octets, value}
+use mathlib.Core.Path.{_≡_, refl, ap}
+use mathlib.Core.Bool.{Bool}
+use mathlib.Core.List.{List}
+use lib.ListN.{length, take, drop, length-take}
+use Rattle.octets.specs.Octets.{Octets}
 use Rattle.octets.proofs.Laws.{value-lt, octets-take, octets-drop}
 use Rattle.records.specs.Every.{Every}
 use Rattle.format.specs.Family.{Family}

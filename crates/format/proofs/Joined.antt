@@ -2,23 +2,23 @@
 --     Good                an entry whose numbers fit their fields, and that is allowed
 --     joined-fits         the joined records of good entries fit, within the longest message
 -- Assumes nothing.
-use Prim.Native.Nat.{ℕ, suc, _+_, _*_, _<_, _≤_, _^_}
+use Prim.Native.Nat.{ℕ, _+_, _*_, _<_, _≤_, _^_}
 use native.Mathlib.Omega.{arith}
-use mathlib.Core.Path.{_≡_, refl, sym, ap, _∙_}
-use mathlib.Core.Bool.{Bool, true, false, cond}
-use mathlib.Core.List.{List, [], _∷_, _++_, map}
-use lib.ListN.{length, replicate, length-append}
+use mathlib.Core.Path.{_≡_, refl}
+use mathlib.Core.Bool.{Bool, true, false}
+use mathlib.Core.List.{List, [], _∷_, map}
+use lib.ListN.{length, length-append}
 use Rattle.records.specs.Every.{Every}
 use Rattle.records.specs.Runs.{Run, run, runs, ofRun}
-use Rattle.records.specs.Records.{AssertRecord, rBit, GroupRecord, ofGroup, AggregatedRecord, ofSource, ofRp}
+use Rattle.records.specs.Records.{AssertRecord, rBit, GroupRecord, ofGroup}
 use Rattle.records.specs.Joining.{together, sameGroup, groupRecords, allGroupRecords, aggregated, joined}
-use Rattle.records.specs.Sizes.{groupSize, sourceSize, groupRecordSize, groupRecordsSize, aggregatedSize, allSize}
+use Rattle.records.specs.Sizes.{groupSize, sourceSize, groupRecordsSize, aggregatedSize, allSize}
 use Rattle.records.proofs.Every.{every-map, every-both, every-append, every-mapped, every-replicate}
 use Rattle.records.proofs.Runs.{runs-every, glue-elim}
 use Rattle.records.proofs.Joining.{aggregated-rp, aggregated-source, groupRecords-elim}
 use Rattle.format.specs.Family.{Family, mayBeSource, Lawful}
 use Rattle.format.specs.Entry.{allowedAssert}
-use Rattle.format.proofs.Records.{Fits, GroupFits, GroupRecordFits, SourceAggregatedFits, RpAggregatedFits, AggregatedFits, both-left, both-right, source-any}
+use Rattle.format.proofs.Records.{Fits, GroupRecordFits, AggregatedFits, both-left, both-right, source-any}
 
 pub record Good (f : Family) (e : AssertRecord) : Type 0 where
   pub fits : Fits f e

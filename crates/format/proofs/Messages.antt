@@ -5,34 +5,33 @@
 --     unpack-asserts, unpack-pairs       what the body reads as, the message unpacks to
 --     reads-zeros, Items, read-items     Zero and Reserved; records to the end of a body
 -- Assumes nothing.
-use Prim.Native.Nat.{ℕ, suc, _+_, _*_, _/_, _%_, _<_, _≤_}
+use Prim.Native.Nat.{ℕ, _+_, _/_, _%_, _<_, _≤_}
 use native.Mathlib.Omega.{arith}
-use mathlib.Core.Path.{_≡_, refl, sym, ap, _∙_}
-use mathlib.Core.Bool.{Bool, true, false, not, _||_, cond}
+use mathlib.Core.Path.{_≡_, refl}
+use mathlib.Core.Bool.{true}
 use mathlib.Core.List.{List, [], _∷_, _++_}
-use borrow.Author.Tests.{eq-eqb, le-ltb, le-leb}
-use lib.ListN.{length, getD, take, drop, length-append}
+use borrow.Author.Tests.{eq-eqb, le-ltb}
+use lib.ListN.{length, getD, length-append}
 use lib.Seq.{take-length}
-use lib.Dec.{eqb, ltb, lit<, lit≤}
-use Rattle.octets.specs.Octets.{Octets, be}
-use Rattle.octets.proofs.Laws.{length-be, octets-be, octets-cons, octets-append}
+use lib.Dec.{eqb, lit<}
+use Rattle.octets.specs.Octets.{be}
 use Rattle.checksum.specs.Sum.{holds, checksum}
 use Rattle.checksum.proofs.Laws.{sum-checksum, checksum-le, holds-true}
 use Rattle.records.specs.Every.{Every}
-use Rattle.records.specs.Records.{AssertRecord, PairRecord, AggregatedRecord, allEntries}
+use Rattle.records.specs.Records.{AssertRecord, PairRecord}
 use Rattle.format.specs.Outcome
-use Rattle.format.specs.Outcome.{Outcome, gives, refuses, refuseIf}
+use Rattle.format.specs.Outcome.{Outcome, gives, refuseIf}
 use Rattle.format.specs.Reader
-use Rattle.format.specs.Reader.{Reader, got, continue, records, nothingMore, outcome, from, octets, number, must}
+use Rattle.format.specs.Reader.{Reader, got, records, outcome, from}
 use Rattle.format.specs.Family.{Family}
 use Rattle.format.specs.Header.{assertKind, registerKind, kindOf, octet0, octet1, header, message, longest}
-use Rattle.format.specs.Record.{each, assertRecord, pairRecord, aggregatedRecord}
+use Rattle.format.specs.Record.{each}
 use Rattle.format.specs.Body.{zeroReserved, zeros, assertsBody, pairsBody}
 use Rattle.format.specs.Unpacking.{unpacked, unpackAsserts, unpackPairs}
 use Rattle.format.specs.declared.Kind.{Kind}
 use Rattle.format.specs.declared.Kind.the-variants.{Hello, Assert, Simple, Aggregated, NullRegister, RegisterStop}
-use Rattle.format.proofs.Readers.{At, at-left, at-right, Reads, reads-give, reads-then, reads-last, reads-octets, reads-number, reads-must, reads-done, reads-inRecord, reads-records}
-use Rattle.format.proofs.Lengths.{AreOctets, octets-zeros, no-octets, octet, zero-octet, _then_, number as octets-number}
+use Rattle.format.proofs.Readers.{At, at-right, Reads, reads-then, reads-octets, reads-number, reads-must, reads-done, reads-inRecord, reads-records}
+use Rattle.format.proofs.Lengths.{AreOctets, no-octets, octet, zero-octet, _then_, number as octets-number}
 
 -- ---- the header
 

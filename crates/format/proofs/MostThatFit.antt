@@ -3,17 +3,16 @@
 --     plain-grows .. stop-grows          of each kind
 --     most-that-fit                      so a call takes the most that fit, and a search may stop where one more does not fit
 -- Assumes nothing.
-use Prim.Native.Nat.{ℕ, suc, _+_, _*_, _<_, _≤_}
+use Prim.Native.Nat.{ℕ, _*_, _<_, _≤_}
 use native.Mathlib.Nat.{mul-le-mul-left}
 use native.Mathlib.Omega.{arith}
 use native.Mathlib.Decide.{decLe}
-use mathlib.Core.Path.{_≡_, refl, sym, ap, _∙_}
+use mathlib.Core.Path.{_≡_}
 use mathlib.Core.List.{List, [], _++_}
 use borrow.Author.Tests.{le-leb}
 use lib.ListN.{length, take, length-take, length-append}
 use lib.Dec.{leb}
 use Rattle.records.specs.Sizes.{assertSize, pairSize}
-use Rattle.records.specs.Records.{AssertRecord, PairRecord}
 use Rattle.records.proofs.Least.{take-mono}
 use Rattle.records.proofs.Most.{most-ge}
 use Rattle.format.specs.Family.{Family}

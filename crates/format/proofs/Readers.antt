@@ -4,20 +4,19 @@
 --     reads-give .. reads-times     a law for each reader of specs/Reader.antt, so that a record is read line by line
 --     reads-toEnd, reads-records    records up to the end
 -- Assumes nothing.
-use Prim.Native.Nat.{ℕ, zero, suc, _+_, _≤_, _<_, _^_, _-_}
-use native.Mathlib.Nat.{add-assoc, add-zero}
+use Prim.Native.Nat.{ℕ, zero, suc, _+_, _≤_, _<_, _^_}
+use native.Mathlib.Nat.{add-zero}
 use native.Mathlib.Omega.{arith}
-use mathlib.Core.Path.{_≡_, refl, sym, ap, _∙_}
-use mathlib.Core.Bool.{Bool, true, false, cond}
+use mathlib.Core.Path.{_≡_, sym, ap, _∙_}
+use mathlib.Core.Bool.{Bool, true, false}
 use mathlib.Core.List.{List, [], _∷_, _++_}
 use borrow.Author.Tests.{le-leb, lt-leb}
-use lib.ListN.{length, take, drop, length-append, length-take, length-drop}
-use lib.Seq.{take-add, drop-drop, take-at, drop-at, take-take, take-append-seam, drop-append-seam, take-length}
-use lib.Dec.{leb}
+use lib.ListN.{length, take, drop, length-append}
+use lib.Seq.{take-add, drop-drop, drop-at, take-take, take-append-seam, drop-append-seam, take-length}
 use Rattle.octets.specs.Octets.{value, be}
 use Rattle.records.specs.Every.{Every}
 use Rattle.octets.proofs.Laws.{length-be, value-be}
-use Rattle.format.specs.Reader.{Read, got, bad, Reader, continue, _>>=_, _>>_, give, here, octets, number, must, refuse, handUp, inRecord, times, toEnd, records, nothingMore}
+use Rattle.format.specs.Reader.{got, Reader, continue, _>>=_, _>>_, give, here, octets, number, must, refuse, handUp, inRecord, times, toEnd, records}
 use Rattle.format.specs.Record.{each}
 
 -- x stands in o at a place

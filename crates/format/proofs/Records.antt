@@ -5,27 +5,27 @@
 --     GroupFits, reads-groupRecord         group records
 --     AggregatedFits, reads-aggregated     aggregated records
 -- Assumes nothing.
-use Prim.Native.Nat.{ℕ, _+_, _<_, _≤_, _^_}
+use Prim.Native.Nat.{ℕ, _<_, _^_}
 use native.Mathlib.Omega.{arith}
-use mathlib.Core.Path.{_≡_, refl, sym, ap, _∙_}
-use mathlib.Core.Bool.{Bool, true, false, not, _&&_, _||_, cond}
-use mathlib.Core.List.{List, [], _∷_, _++_}
-use borrow.Author.Tests.{eq-eqb, ne-eqb, eqb-true}
-use lib.ListN.{length, drop, length-append}
+use mathlib.Core.Path.{_≡_, refl, ap}
+use mathlib.Core.Bool.{Bool, true, false, not, _&&_, _||_}
+use mathlib.Core.List.{List}
+use borrow.Author.Tests.{eq-eqb, ne-eqb}
+use lib.ListN.{length, drop}
 use lib.Dec.{eqb}
 use Rattle.octets.specs.Octets.{value, be}
-use Rattle.octets.proofs.Laws.{length-be, value-be}
+use Rattle.octets.proofs.Laws.{value-be}
 use Rattle.records.specs.Every.{Every}
 use Rattle.records.specs.Sizes.{groupSize, sourceSize}
-use Rattle.records.specs.Records.{AssertRecord, assert, PairRecord, pair, rBit, GroupRecord, ofGroup, AggregatedRecord, ofSource, ofRp, Formed}
-use Rattle.format.specs.Reader.{Reader, give, octets, number, must, _>>=_}
+use Rattle.records.specs.Records.{AssertRecord, assert, PairRecord, pair, rBit, GroupRecord, ofGroup, AggregatedRecord, ofSource, ofRp}
+use Rattle.format.specs.Reader.{octets, must, _>>=_}
 use Rattle.format.specs.Family.{Family, maskLength, mayBeSource, Lawful}
 use Rattle.format.specs.Address.{groupForm, groupField, groupOctets, sourceForm, sourceField, sourceOctets}
-use Rattle.format.specs.Record.{each, assertFields, assertRecord, assertOctets, pairFields, pairRecord, pairOctets, positive, groupRecord, groupRecordOctets, sourceAggregated, rpAggregated, aggregatedFields, aggregatedRecord, aggregatedOctets, reserved2}
+use Rattle.format.specs.Record.{assertFields, assertRecord, assertOctets, pairFields, pairRecord, pairOctets, positive, groupRecord, groupRecordOctets, sourceAggregated, rpAggregated, aggregatedFields, aggregatedRecord, aggregatedOctets, reserved2}
 use Rattle.format.specs.Entry.{allowedAssert, allowedPair}
 use Rattle.records.proofs.Every.{every-map}
 use Rattle.format.proofs.Lengths.{length-group, length-source}
-use Rattle.format.proofs.Readers.{Reads, reads-give, reads-bind, reads-then, reads-last, reads-here, reads-refuse, reads-octets, reads-number, reads-must, reads-inRecord, reads-times}
+use Rattle.format.proofs.Readers.{Reads, reads-bind, reads-then, reads-last, reads-here, reads-refuse, reads-octets, reads-number, reads-must, reads-inRecord, reads-times}
 
 -- ---- addresses
 

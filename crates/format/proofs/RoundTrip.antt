@@ -4,16 +4,15 @@
 --     round-trip                                  so for what any call wrote
 --     plain-trip, simple-trip, aggregated-trip, null-trip, stop-trip     the five theorems
 -- Assumes nothing.
-use Prim.Native.Nat.{ℕ, zero, suc, _+_, _*_, _<_, _≤_, min}
+use Prim.Native.Nat.{ℕ, _+_, _*_, _<_, _≤_}
 use native.Mathlib.Nat.{le-trans}
 use native.Mathlib.Omega.{arith}
-use mathlib.Core.Path.{_≡_, refl, sym, ap, _∙_}
+use mathlib.Core.Path.{_≡_, refl, ap, _∙_}
 use mathlib.Core.Bool.{Bool, true, false}
 use mathlib.Core.List.{List, [], _∷_, _++_, append-nil}
 use borrow.Author.Tests.{le-leb}
-use lib.ListN.{length, take, drop, length-append, length-take, length-drop}
+use lib.ListN.{length, take, drop, length-take}
 use Rattle.octets.specs.Octets.{Octets}
-use Rattle.checksum.specs.Sum.{holds}
 use Rattle.records.specs.Every.{Every}
 use Rattle.records.specs.Records.{AssertRecord, PairRecord, AggregatedRecord, ofSource, ofRp, allEntries}
 use Rattle.records.specs.Joining.{joined}
@@ -27,9 +26,9 @@ use Rattle.format.specs.Family.{Family, Lawful}
 use Rattle.format.specs.Header.{message, longest}
 use Rattle.format.specs.Record.{each, assertRecord, assertOctets, pairRecord, pairOctets, aggregatedRecord, aggregatedOctets}
 use Rattle.format.specs.Body.{zeros, assertsBody, pairsBody, plainBody, simpleBody, aggregatedBody, pairBody}
-use Rattle.format.specs.Entry.{Entries, assertEntries, pairEntries, entriesOf, allowedAssert, allowedPair}
+use Rattle.format.specs.Entry.{Entries, entriesOf, allowedAssert, allowedPair}
 use Rattle.format.specs.Unpacking.{Unpacked, unpacked, unpackAsserts, unpackPairs}
-use Rattle.format.specs.Packing.{Form, plain, simple, aggregated, nullRegister, registerStop, canonical, wrote, packing}
+use Rattle.format.specs.Packing.{Form, plain, simple, aggregated, nullRegister, registerStop, canonical}
 use Rattle.format.specs.RoundTrip.{ReadsBack, RoundTrip}
 use Rattle.format.specs.declared.Kind.{Kind}
 use Rattle.format.specs.declared.Kind.the-variants.{Assert, Simple, Aggregated, NullRegister, RegisterStop}
@@ -39,7 +38,7 @@ use Rattle.format.proofs.Records.{Fits, PairFits, reads-assert, reads-p
 use Rattle.format.proofs.Messages.{length-message, message-octets, message-holds, at-body, unpack-asserts, unpack-pairs, reads-zeros, Items, read-items}
 use Rattle.format.proofs.Joined.{Good, joined-fits}
 use Rattle.format.proofs.Entries.{assert-fits, pair-fits}
-use Rattle.format.proofs.Calls.{Asked, limit-range, allowed-every, Wrote-by, wrote-by}
+use Rattle.format.proofs.Calls.{limit-range, allowed-every, wrote-by}
 
 -- the message of good entries reads back, if it takes no more than its kind may and is no longer than a message may be
 unfoldable pub Canonical : {E : Entries} → Form E → (List ℕ → Outcome (Unpacked (E .Entry))) → (E .Entry → Type 0) → Type 0

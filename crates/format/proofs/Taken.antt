@@ -18,7 +18,7 @@ use lib.Dec.{leb, ltb, eqb}
 use Rattle.records.specs.Every.{Every}
 use Rattle.records.specs.Records.{AssertRecord, GroupRecord, ofGroup, AggregatedRecord, ofSource, ofRp, rBit, Formed, allEntries}
 use Rattle.records.specs.Sizes.{groupSize, sourceSize, groupRecordsSize, aggregatedSize, allSize}
-use Rattle.format.specs.Outcome.{Outcome, gives, refuses, refuseIf}
+use Rattle.format.specs.Outcome.{gives}
 use Rattle.format.specs.Reader.{Read, got, bad, Reader, continue, _>>=_, _>>_, give, octets, number, must, handUp, inRecord, times, toEnd, records, outcome, from}
 use Rattle.format.specs.Family.{Family}
 use Rattle.format.specs.Address.{groupField, sourceField}

@@ -1,16 +1,16 @@
 -- Bodies of messages as the reading calls take them.
 --     start-none .. start-some     Zero, Reserved, and that a record begins
 -- Assumes nothing.
-use Prim.Native.Nat.{ℕ, zero, suc, _+_, _*_, _≤_, _<_}
+use Prim.Native.Nat.{ℕ, zero, suc, _+_, _≤_, _<_}
 use native.Mathlib.Omega.{arith}
 use mathlib.Core.Path.{_≡_, refl, sym, ap, ap₂, fun-ext, _∙_}
-use mathlib.Core.Bool.{Bool, true, false, not, cond}
+use mathlib.Core.Bool.{Bool, true, false, cond}
 use mathlib.Core.List.{List, [], _∷_}
-use lib.ListN.{length, getD, take, drop}
-use lib.Dec.{leb, eqb}
+use lib.ListN.{length, getD}
+use lib.Dec.{leb}
 use borrow.Author.Tests.{le-leb, lt-leb, leb-false, eq-eqb, ne-eqb}
 use Rattle.octets.specs.Octets.{value}
-use Rattle.format.specs.Reader.{Read, got, bad, Reader, continue, _>>=_, _>>_, give, octets, number, must, placed, handUp, inRecord, times, toEnd, records, nothingMore}
+use Rattle.format.specs.Reader.{Read, got, bad, Reader, continue, _>>=_, _>>_, give, number, must, placed, handUp, inRecord, toEnd, records, nothingMore}
 use Rattle.format.specs.Body.{zeroReserved, assertsBody, pairsBody}
 use Rattle.format.specs.Entry.{numberAt}
 use Rattle.records.specs.Records.{AggregatedRecord, allEntries}

@@ -13,16 +13,15 @@ use mathlib.Core.List.{List, [], _∷_}
 use lib.ListN.{length}
 use lib.Dec.{leb, eqb}
 use borrow.Author.Tests.{leb-true, leb-false}
-use Rattle.records.specs.Records.{AssertRecord, PairRecord, AggregatedRecord, allEntries}
-use Rattle.records.specs.Sizes.{aggregatedSize, allSize}
-use Rattle.format.specs.Reader.{Read, got, bad, Reader, continue, _>>=_, _>>_, give, octets, number, must, handUp, inRecord, toEnd, records, nothingMore}
+use Rattle.records.specs.Records.{AssertRecord, allEntries}
+use Rattle.records.specs.Sizes.{allSize}
+use Rattle.format.specs.Reader.{Read, got, bad, Reader, continue, _>>=_, _>>_, give, octets, number, must, inRecord, toEnd, records, nothingMore}
 use Rattle.format.specs.Family.{ipv4}
 use Rattle.format.specs.Record.{assertRecord, pairRecord, aggregatedRecord}
 use Rattle.format.specs.Body.{zeroReserved, assertsBody, pairsBody}
 use Rattle.format.specs.declared.Kind.{Kind}
 use Rattle.format.specs.declared.Kind.the-variants.{Hello, Assert, Simple, Aggregated, NullRegister, RegisterStop}
 use Rattle.reading.specs.Answers.{plainAssert, plainPair}
-use Rattle.reading.specs.Counts.{tallied}
 use Rattle.reading.specs.Plain.{plainAsserts, plainPairs, plainAggregated, plainRecords}
 use Rattle.reading.specs.Calls.{valueOf, HasCounted}
 use Rattle.reading.proofs.Skipped.{no-got, continue-back}

@@ -5,12 +5,12 @@
 --     plainGroupRecord(s)                a group record, and n of them
 --     plainAggregated, plainRecords      an aggregated record, and those up to the end
 -- That a reader of the crate format that gives a value gives this one is proved in proofs/. Assumes nothing: these are definitions.
-use Prim.Native.Nat.{ℕ, zero, suc, _+_, _*_}
+use Prim.Native.Nat.{ℕ, zero, suc, _+_}
 use mathlib.Core.Bool.{cond}
 use mathlib.Core.List.{List, [], _∷_}
 use lib.ListN.{length}
 use lib.Dec.{leb}
-use Rattle.records.specs.Records.{AssertRecord, assert, PairRecord, pair, rBit, GroupRecord, ofGroup, AggregatedRecord, ofSource, ofRp}
+use Rattle.records.specs.Records.{AssertRecord, PairRecord, rBit, GroupRecord, ofGroup, AggregatedRecord, ofSource, ofRp}
 use Rattle.records.specs.Sizes.{groupRecordSize, aggregatedSize}
 use Rattle.format.specs.Entry.{numberAt}
 use Rattle.reading.specs.Answers.{plainAssert, plainPair}

@@ -13,7 +13,7 @@ use mathlib.Core.List.{List, [], _∷_, _++_, map}
 use lib.ListN.{length, replicate}
 use lib.Dec.{eqb, ltb}
 use Rattle.records.specs.Records.{AssertRecord, GroupRecord, ofGroup, AggregatedRecord, ofSource, ofRp, rBit}
-use Rattle.records.specs.Runs.{Run, run, runs, ofRun}
+use Rattle.records.specs.Runs.{Run, run, runs}
 use Rattle.records.specs.Sizes.{groupRecordSize}
 
 -- R is part of the word rPreference, so entries that are joined agree in R

@@ -1,8 +1,8 @@
 -- `checksum::sum_from` meets its contract. The loop's invariant: the accumulator is at most 0xFFFF, and the one's complement sum of the
 -- words so far. The measure is what is left of the length.
 -- Assumes nothing.
-use mathlib.Core.Path.{_≡_, ap, _∙_}
-use Prim.Native.Nat.{_+_, _*_, _-_, _<_, _≤_}
+use mathlib.Core.Path.{ap, _∙_}
+use Prim.Native.Nat.{_-_}
 use denote.Ref.{now}
 use Rattle.checksum.specs.Sum.{add}
 use native.Mathlib.Omega.{arith}

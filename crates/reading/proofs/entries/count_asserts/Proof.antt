@@ -1,6 +1,6 @@
 -- `reading::entries::count_asserts` meets its contract, kind by kind.
 -- Assumes nothing.
-use mathlib.Core.Path.{_≡_, ap, _∙_}
+use mathlib.Core.Path.{ap, _∙_}
 use borrow.Author.Needs.{needs}
 use Rattle.format.specs.Body.{assertsBody}
 use Rattle.reading.specs.Answers.{checked}

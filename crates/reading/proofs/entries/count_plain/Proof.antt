@@ -1,9 +1,8 @@
 -- `reading::entries::count_plain` meets its contract, by the law for each of its ways.
 -- Assumes nothing.
-use native.Mathlib.Omega.{arith}
 use denote.Ref.{now}
 use borrow.Author.Needs.{needs}
-use mathlib.Core.Path.{_≡_, ap, _∙_}
+use mathlib.Core.Path.{ap, _∙_}
 use Rattle.reading.specs.Answers.{checked}
 use Rattle.reading.specs.Counts.{counted, tallied}
 use Rattle.reading.proofs.Bodies.{plain-bad, plain-more, plain-end}

@@ -7,7 +7,7 @@ use mathlib.Core.Path.{_≡_, sym, _∙_}
 use lib.ListN.{length}
 use denote.Ref.{now}
 use borrow.Author.Needs.{needs}
-use Rattle.format.specs.Reader.{got, toEnd}
+use Rattle.format.specs.Reader.{toEnd}
 use Rattle.reading.specs.Counts.{counted, tallied, entryCount, sum}
 use Rattle.reading.proofs.Tallied.{counts-next, tally-start, end-bad, end-on, end-end}
 use Rattle.reading.proofs.Bodies.{tallied-id, sum-none, sum-more, entry-room}

@@ -1,7 +1,7 @@
 -- `reading::entries::read_asserts` meets its contract: what its passes found says which way the call goes.
 -- Assumes nothing.
 use native.Mathlib.Omega.{arith}
-use mathlib.Core.Path.{_≡_, sym, ap, _∙_}
+use mathlib.Core.Path.{sym, ap, _∙_}
 use denote.Ref.{now}
 use borrow.Author.Needs.{needs}
 use Rattle.format.specs.Family.{ipv4}

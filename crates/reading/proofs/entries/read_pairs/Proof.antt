@@ -1,7 +1,7 @@
 -- `reading::entries::read_pairs` meets its contract: what its passes found says which way the call goes.
 -- Assumes nothing.
 use native.Mathlib.Omega.{arith}
-use mathlib.Core.Path.{_≡_, sym, ap, _∙_}
+use mathlib.Core.Path.{sym, ap, _∙_}
 use mathlib.Core.Bool.{false}
 use Rattle.octets.specs.Octets.{put}
 use Rattle.format.specs.Record.{each}
