@@ -1,4 +1,16 @@
-// Runs the ground on messages of the tables in specs/: how long each is, and whether its checksum holds.
+// Runs messages: first how long some are and whether their checksums hold, then each by its listing. What is
+// expected of them, in the file stdout, is worked out by hand or stands in the notes of who read them.
+//
+// output.rt                               a case and its name
+// kinds.rt, refusals.rt, hellos.rt        messages made by hand
+// vectors_hello.rt, vectors_assert.rt     messages that others sent or read
+mod hellos;
+mod kinds;
+mod output;
+mod refusals;
+mod vectors_assert;
+mod vectors_hello;
+
 fn line(name: &[u8], m: &[u8]) {
     io::write_all(1, name);
     io::write_all(1, b": ");
@@ -10,7 +22,7 @@ fn line(name: &[u8], m: &[u8]) {
     }
 }
 
-fn main() {
+fn checksums() {
     line(
         b"example 1, simple",
         b"\x25\x01\xe5\x58\x00\x00\x00\x00\x01\x00\x00\x20\xe8\x01\x01\x01\x01\x00\x0a\x00\x00\x01\x00\x00\x00\x6e\x00\x00\x00\x14",
@@ -35,4 +47,20 @@ fn main() {
         b"register-stop",
         b"\x2d\x10\x16\xfb\x01\x00\x00\x20\xe9\x41\x42\x43\x01\x00\x0a\x44\x45\x46\x01\x00\x00\x20\xea\x51\x52\x53\x01\x00\x00\x00\x00\x00",
     );
+}
+
+// Longer than the longest message.
+fn too_long() {
+    let octets = io::large_buffer();
+    output::show(b"65,536 octets", &octets);
+}
+
+fn main() {
+    checksums();
+    kinds::run();
+    refusals::run();
+    too_long();
+    hellos::run();
+    vectors_hello::run();
+    vectors_assert::run();
 }

@@ -1,0 +1,89 @@
+// Listing a message on standard output: its kind and the number of its records, then a line for each
+// record; for a Hello what it says; or the refusal. No contract can say what is written, so each function
+// is proved safe and ending, and what is computed for a line comes from functions with contracts.
+//
+// value.rt     the numbers of an entry
+// line.rt      the lines
+mod line;
+mod value;
+
+use format::Kind;
+use hello::HelloRead;
+use libc::STDERR_FILENO;
+use line::assert_lines;
+use line::heading;
+use line::hello_lines;
+use line::pair_lines;
+use line::refused;
+use reading::Headed;
+use reading::Reading;
+ghost use mathlib.Core.Path.{_≡_};
+ghost use lib.ListN.{length};
+
+// Room for the entries of every message. None has more than an aggregated one can: a source takes 6 octets
+// and a group 8, and each stands for at most one entry of 16 octets. A message has at most 65,515 octets,
+// so at most 10,919 entries, which are 174,704 octets.
+fn assert_room() -> [u8; 174704]
+    ensures { λ r. ⌜ 174704 ≡ length r ⌝ }
+{
+    [0; 174704]
+}
+
+// A pair takes 14 octets of a message: at most 4,679 entries of 8 octets, which are 37,432 octets.
+fn pair_room() -> [u8; 37432]
+    ensures { λ r. ⌜ 37432 ≡ length r ⌝ }
+{
+    [0; 37432]
+}
+
+fn list_hello(m: &[u8]) -> bool {
+    let h = hello::read_hello(m);
+    match h {
+        HelloRead::Is(says) => hello_lines(says),
+        HelloRead::Refused(r) => refused(r),
+    }
+}
+
+fn list_asserts(m: &[u8]) -> bool {
+    let mut entries = assert_room();
+    let found = reading::read_asserts(m, &mut entries);
+    match found {
+        Reading::Entries { kind, count } => heading(kind, count) && assert_lines(&entries, count),
+        Reading::Refused(r) => refused(r),
+    }
+}
+
+fn list_pairs(m: &[u8]) -> bool {
+    let mut entries = pair_room();
+    let found = reading::read_pairs(m, &mut entries);
+    match found {
+        Reading::Entries { kind, count } => heading(kind, count) && pair_lines(&entries, count),
+        Reading::Refused(r) => refused(r),
+    }
+}
+
+// The kind says which call reads the rest. Whether all was written.
+fn list_message(m: &[u8]) -> bool {
+    let h = reading::header(m);
+    match h {
+        Headed::Refused(r) => refused(r),
+        Headed::Is(kind) => match kind {
+            Kind::Hello => list_hello(m),
+            Kind::Assert => list_asserts(m),
+            Kind::Simple => list_asserts(m),
+            Kind::Aggregated => list_asserts(m),
+            Kind::NullRegister => list_pairs(m),
+            Kind::RegisterStop => list_pairs(m),
+        },
+    }
+}
+
+// Lists a message. Where standard output takes no more, standard error says so.
+pub fn list(m: &[u8]) {
+    if !list_message(m) {
+        io::write_all(
+            STDERR_FILENO,
+            b"the listing was cut: standard output failed\n",
+        );
+    }
+}
