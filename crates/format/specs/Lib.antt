@@ -3,6 +3,7 @@ pub mod Reader
 pub mod Family
 pub mod Address
 pub mod Record
+pub mod Values
 pub mod Header
 pub mod Body
 pub mod Unpacking

@@ -1,7 +1,6 @@
 -- What the answers of this crate's calls mean: 01's number and values for each case.
 --     headed                     the answer of `header`
 --     checked, skipped           a check, and what a reader comes to with its value left out
---     assertOf, pairOf           the two records' structs
 --     single                     the answer of `read_record`
 --     plainAssert, plainPair     the numbers of a record, at their places in its octets
 --     plainRecord, plainSize     the same by the kind, and how many octets they are
@@ -15,10 +14,7 @@ use Rattle.format.specs.Entry.{numberAt}
 use Rattle.format.specs.Record.{Single, anAssert, aPair}
 use Rattle.format.specs.declared.Kind.{Kind}
 use Rattle.format.specs.declared.Kind.the-variants.{Hello, Assert as AssertKind, Simple, Aggregated, NullRegister, RegisterStop}
-use Rattle.format.specs.declared.AssertFields.{AssertFields}
-use Rattle.format.specs.declared.PairFields.{PairFields}
-use Rattle.format.specs.declared.Record.{Record}
-use Rattle.format.specs.declared.Record.the-variants.{Assert, Pair}
+use Rattle.format.specs.Values.{recordOf}
 use Rattle.reading.specs.declared.message.Headed.{Headed}
 use Rattle.reading.specs.declared.message.Headed.the-variants.{Is, Refused}
 use Rattle.reading.specs.declared.field.Checked.{Checked}
@@ -37,16 +33,6 @@ checked (Bad r) = bad (r .number) (r .place)
 unfoldable pub skipped : {A : Type 0} → Read A → Read (Unit {0})
 skipped (got a n) = got tt n
 skipped (bad n p) = bad n p
-
-unfoldable pub assertOf : AssertFields → AssertRecord
-assertOf e = assert (e .group) (e .source) (e .«r_preference») (e .metric)
-
-unfoldable pub pairOf : PairFields → PairRecord
-pairOf e = pair (e .group) (e .source)
-
-unfoldable pub recordOf : Record → Single
-recordOf (Assert e) = anAssert (assertOf e)
-recordOf (Pair e) = aPair (pairOf e)
 
 unfoldable pub single : SingleAnswer → Read Single
 single (Got r next) = got (recordOf r) next

@@ -16,7 +16,7 @@ ghost use Rattle.records.specs.Records.{groupEntries, allGroupEntries, entries,
 ghost use Rattle.format.specs.Family.{ipv4};
 ghost use Rattle.format.specs.Record.{each};
 ghost use Rattle.format.specs.Entry.{numberAt, assertEntryOctets, pairEntryOctets};
-ghost use Rattle.reading.specs.Answers.{assertOf, pairOf};
+ghost use Rattle.format.specs.Values.{assertOf, pairOf};
 ghost use Rattle.reading.specs.Plain.{plainAsserts, plainPairs, plainAddresses, plainGroupRecord, plainGroupRecords, plainAggregated, plainRecords};
 ghost use Rattle.reading.specs.Counts.{likeButFor};
 ghost use Rattle.reading.specs.Copied.{Fit, Copied};

@@ -16,7 +16,8 @@ ghost use Prim.Native.Nat.{_+_, _≤_};
 ghost use lib.ListN.{length};
 ghost use Rattle.format.specs.Family.{ipv4};
 ghost use Rattle.format.specs.Record.{assertFields, assertRecord, pairFields, pairRecord, recordAt};
-ghost use Rattle.reading.specs.Answers.{checked, skipped, single, assertOf, pairOf, recordOf, plainAssert, plainPair, plainRecord, plainSize};
+ghost use Rattle.reading.specs.Answers.{checked, skipped, single, plainAssert, plainPair, plainRecord, plainSize};
+ghost use Rattle.format.specs.Values.{assertOf, pairOf, recordOf};
 
 fn assert_fields(m: &[u8], at: usize) -> Checked
     ensures { λ r. ⌜ checked r ≡ skipped (assertFields ipv4 (now (m .entry)) at) ⌝ }

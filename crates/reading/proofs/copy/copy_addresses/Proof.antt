@@ -9,7 +9,7 @@ use lib.ListN.{length}
 use denote.Ref.{now}
 use Rattle.format.specs.Entry.{numberAt, assertEntryOctets}
 use Rattle.format.specs.Family.{ipv4}
-use Rattle.reading.specs.Answers.{assertOf}
+use Rattle.format.specs.Values.{assertOf}
 use Rattle.reading.specs.Counts.{likeButFor}
 use Rattle.reading.specs.Plain.{plainAddresses}
 use Rattle.reading.proofs.Copying.{length-like, Turns, turns-start, turn-there, turn-next, turns-end, put-one, addresses-series, length-assert-entry}

@@ -12,7 +12,7 @@ use borrow.Author.Needs.{needs}
 use Rattle.records.specs.Records.{AssertRecord, assert, groupEntries}
 use Rattle.format.specs.Entry.{assertEntryOctets}
 use Rattle.format.specs.Family.{ipv4}
-use Rattle.reading.specs.Answers.{assertOf}
+use Rattle.format.specs.Values.{assertOf}
 use Rattle.reading.specs.Counts.{likeButFor}
 use Rattle.reading.specs.Plain.{plainGroupRecord, plainAddresses}
 use Rattle.reading.proofs.Copying.{put-one, group-none, group-some, length-like}

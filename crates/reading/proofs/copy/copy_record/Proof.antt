@@ -12,7 +12,7 @@ use borrow.Author.Needs.{needs}
 use Rattle.records.specs.Records.{AggregatedRecord, assert, entries, allGroupEntries}
 use Rattle.records.specs.Sizes.{aggregatedSize, groupRecordsSize}
 use Rattle.format.specs.Entry.{numberAt}
-use Rattle.reading.specs.Answers.{assertOf}
+use Rattle.format.specs.Values.{assertOf}
 use Rattle.reading.specs.Counts.{likeButFor}
 use Rattle.reading.specs.Plain.{plainAggregated, plainAddresses, plainGroupRecords}
 use Rattle.reading.proofs.Copying.{source-record-is, rp-record-is, size-least, length-like}

@@ -5,7 +5,7 @@ use native.Mathlib.Omega.{arith}
 use denote.Ref.{now}
 use borrow.Author.Needs.{needs}
 use Rattle.format.specs.Entry.{assertEntryOctets}
-use Rattle.reading.specs.Answers.{assertOf}
+use Rattle.format.specs.Values.{assertOf}
 use Rattle.reading.proofs.Copying.{put-number-next}
 use Rattle.reading.proofs.copy.put_assert.Statement.{statement}
 use Rattle.reading.proofs.copy.put_assert.Tie as tie

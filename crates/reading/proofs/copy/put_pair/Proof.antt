@@ -4,7 +4,7 @@ use native.Mathlib.Omega.{arith}
 use denote.Ref.{now}
 use borrow.Author.Needs.{needs}
 use Rattle.format.specs.Entry.{pairEntryOctets}
-use Rattle.reading.specs.Answers.{pairOf}
+use Rattle.format.specs.Values.{pairOf}
 use Rattle.reading.proofs.Copying.{put-number-next}
 use Rattle.reading.proofs.copy.put_pair.Statement.{statement}
 use Rattle.reading.proofs.copy.put_pair.Tie as tie

@@ -1,7 +1,8 @@
 -- `reading::record::assert_at` meets its contract: its numbers are those that `plainAssert` names.
 -- Assumes nothing.
 use borrow.Author.Needs.{needs}
-use Rattle.reading.specs.Answers.{assertOf, plainAssert}
+use Rattle.reading.specs.Answers.{plainAssert}
+use Rattle.format.specs.Values.{assertOf}
 use Rattle.reading.proofs.record.assert_at.Statement.{statement}
 use Rattle.reading.proofs.record.assert_at.Tie as tie
 

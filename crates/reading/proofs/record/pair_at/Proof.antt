@@ -1,7 +1,8 @@
 -- `reading::record::pair_at` meets its contract: its numbers are those that `plainPair` names.
 -- Assumes nothing.
 use borrow.Author.Needs.{needs}
-use Rattle.reading.specs.Answers.{pairOf, plainPair}
+use Rattle.reading.specs.Answers.{plainPair}
+use Rattle.format.specs.Values.{pairOf}
 use Rattle.reading.proofs.record.pair_at.Statement.{statement}
 use Rattle.reading.proofs.record.pair_at.Tie as tie
 

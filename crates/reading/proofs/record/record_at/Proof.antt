@@ -2,7 +2,8 @@
 -- Assumes nothing.
 use native.Mathlib.Omega.{arith}
 use borrow.Author.Needs.{needs}
-use Rattle.reading.specs.Answers.{recordOf, plainRecord, plainSize}
+use Rattle.reading.specs.Answers.{plainRecord, plainSize}
+use Rattle.format.specs.Values.{recordOf}
 use Rattle.reading.proofs.record.record_at.Statement.{statement}
 use Rattle.reading.proofs.record.record_at.Tie as tie
 
