@@ -1,0 +1,150 @@
+-- What holds of every kind, and of those whose records have one length.
+--     size-range                     an entry is 8 to 16 octets
+--     family-is                      every kind is of IPv4
+--     allowed-is, zero-may            an entry is allowed by its group and its source, which may be 0 or not by the kind
+--     record-long, record-short      the record of an assert entry, and of a pair, as code writes it
+--     record-sized                   a record is 6 octets longer than its entry
+--     kind-is, most-is               a form is of its kind, and takes no more than there is
+--     front-long, front-short, head-range     the beginning of a message, with Zero and Reserved or without
+--     plain-even, simple-even, null-even, stop-even     four kinds whose records have one length
+-- Assumes nothing.
+use Prim.Native.Nat.{ℕ, _+_, _≤_}
+use native.Mathlib.Omega.{arith}
+use mathlib.Core.Path.{_≡_, refl}
+use mathlib.Core.Bool.{Bool, true, false, _&&_}
+use mathlib.Core.List.{List, [], _++_, append-assoc}
+use lib.ListN.{length}
+use Rattle.octets.specs.Octets.{be}
+use Rattle.format.specs.Family.{ipv4, mayBeSource}
+use Rattle.format.specs.Body.{zeros, plainBody, simpleBody, pairBody}
+use Rattle.format.specs.Entry.{numberAt, assertAt, allowedAssert, pairAt, allowedPair}
+use Rattle.format.specs.Record.{assertOctets, pairOctets}
+use Rattle.format.specs.declared.Kind.{Kind}
+use Rattle.format.specs.declared.Kind.the-variants.{Hello, Assert, Simple, Aggregated, NullRegister, RegisterStop}
+use Rattle.format.proofs.Lengths.{length-assert, length-pair}
+use Rattle.packing.specs.Kinds.{entriesFor, formFor, zeroFor, recordSize, recordOctets, frontOf, headSize, Even}
+
+pub size-range : (k : Kind) → (8 ≤ entriesFor k .size) × (entriesFor k .size ≤ 16)
+size-range Hello = (omega arith, omega arith)
+size-range Assert = (omega arith, omega arith)
+size-range Simple = (omega arith, omega arith)
+size-range Aggregated = (omega arith, omega arith)
+size-range NullRegister = (omega arith, omega arith)
+size-range RegisterStop = (omega arith, omega arith)
+
+pub family-is : (k : Kind) → entriesFor k .family ≡ ipv4
+family-is Hello = refl
+family-is Assert = refl
+family-is Simple = refl
+family-is Aggregated = refl
+family-is NullRegister = refl
+family-is RegisterStop = refl
+
+-- a source that is 0, by whether it may be
+pub zero-may : (b : Bool) → b ≡ b && true
+zero-may true = refl
+zero-may false = refl
+
+pub allowed-is : (k : Kind) (o : List ℕ) (at : ℕ)
+    → entriesFor k .allowed (entriesFor k .entryAt o at) ≡ ipv4 .isGroup (numberAt 4 o at) && mayBeSource ipv4 (zeroFor k o at) (numberAt 4 o (at + 4))
+unfolding allowedAssert allowedPair assertAt pairAt zeroFor
+allowed-is Hello o at = refl
+allowed-is Assert o at = refl
+allowed-is Simple o at = refl
+allowed-is Aggregated o at = refl
+allowed-is NullRegister o at = refl
+allowed-is RegisterStop o at = refl
+
+-- ---- records
+
+-- an assert record goes on past the pair of its group and source
+assert-is : (o : List ℕ) (at : ℕ) → assertOctets ipv4 (assertAt ipv4 o at) ≡ pairOctets ipv4 (pairAt ipv4 o at) ++ (be 4 (numberAt 4 o (at + 8)) ++ be 4 (numberAt 4 o (at + 12)))
+unfolding assertOctets pairOctets assertAt pairAt
+assert-is o at = let e : at + 8 + 4 ≡ at + 12 = omega arith in rw (append-assoc, e)
+
+module _ (o : List ℕ) (at : ℕ) where
+  pub record-long : (k : Kind) → entriesFor k .size ≡ 16
+      → recordOctets k (entriesFor k .entryAt o at) ≡ pairOctets ipv4 (pairAt ipv4 o at) ++ (be 4 (numberAt 4 o (at + 8)) ++ be 4 (numberAt 4 o (at + 12)))
+  unfolding recordOctets
+  record-long Hello h = assert-is o at
+  record-long Assert h = assert-is o at
+  record-long Simple h = assert-is o at
+  record-long Aggregated h = assert-is o at
+  record-long NullRegister h = absurd (omega arith)
+  record-long RegisterStop h = absurd (omega arith)
+
+  pub record-short : (k : Kind) → (entriesFor k .size ≡ 16 → ⊥) → recordOctets k (entriesFor k .entryAt o at) ≡ pairOctets ipv4 (pairAt ipv4 o at)
+  unfolding recordOctets
+  record-short Hello h = absurd (h refl)
+  record-short Assert h = absurd (h refl)
+  record-short Simple h = absurd (h refl)
+  record-short Aggregated h = absurd (h refl)
+  record-short NullRegister h = refl
+  record-short RegisterStop h = refl
+
+pub record-sized : (k : Kind) (e : entriesFor k .Entry) → length (recordOctets k e) ≡ recordSize k
+unfolding recordOctets
+record-sized Hello e = length-assert ipv4 e
+record-sized Assert e = length-assert ipv4 e
+record-sized Simple e = length-assert ipv4 e
+record-sized Aggregated e = length-assert ipv4 e
+record-sized NullRegister e = length-pair ipv4 e
+record-sized RegisterStop e = length-pair ipv4 e
+
+-- ---- forms
+
+pub kind-is : (k : Kind) → formFor k .kind ≡ k
+kind-is Hello = refl
+kind-is Assert = refl
+kind-is Simple = refl
+kind-is Aggregated = refl
+kind-is NullRegister = refl
+kind-is RegisterStop = refl
+
+pub most-is : (k : Kind) (n : ℕ) → formFor k .atMost n ≤ n
+most-is Hello n = omega arith
+most-is Assert n = omega arith
+most-is Simple n = omega arith
+most-is Aggregated n = omega arith
+most-is NullRegister n = omega arith
+most-is RegisterStop n = omega arith
+
+pub front-long : (k : Kind) → headSize k ≡ 8 → frontOf k ≡ zeros
+front-long Hello h = absurd (omega arith)
+front-long Assert h = absurd (omega arith)
+front-long Simple h = refl
+front-long Aggregated h = refl
+front-long NullRegister h = absurd (omega arith)
+front-long RegisterStop h = absurd (omega arith)
+
+pub front-short : (k : Kind) → (headSize k ≡ 8 → ⊥) → frontOf k ≡ []
+front-short Hello h = refl
+front-short Assert h = refl
+front-short Simple h = absurd (h refl)
+front-short Aggregated h = absurd (h refl)
+front-short NullRegister h = refl
+front-short RegisterStop h = refl
+
+pub head-range : (k : Kind) → headSize k ≤ 8
+head-range Hello = omega arith
+head-range Assert = omega arith
+head-range Simple = omega arith
+head-range Aggregated = omega arith
+head-range NullRegister = omega arith
+head-range RegisterStop = omega arith
+
+pub plain-even : Even Assert
+unfolding plainBody recordOctets
+plain-even = record { body = λ es. refl }
+
+pub simple-even : Even Simple
+unfolding simpleBody recordOctets
+simple-even = record { body = λ es. refl }
+
+pub null-even : Even NullRegister
+unfolding pairBody recordOctets
+null-even = record { body = λ es. refl }
+
+pub stop-even : Even RegisterStop
+unfolding pairBody recordOctets
+stop-even = record { body = λ es. refl }

@@ -1,0 +1,109 @@
+-- Octets written into a lent buffer, from entries that stand one after another.
+--     number-is, copied          a number by its octets, and those octets stored as they stand
+--     put-number                 a number stored octet by octet
+--     Rows                       where a loop over entries stands: rows-start, rows-there, rows-next, rows-end
+--     sealed                     a message whose checksum was 0, with its checksum
+-- Assumes nothing.
+use Prim.Native.Nat.{ℕ, zero, suc, _+_, _*_, _^_, _≤_, _<_}
+use native.Mathlib.Nat.{mul-suc}
+use native.Mathlib.Omega.{arith}
+use mathlib.Core.Path.{_≡_, refl, sym, ap, _∙_}
+use mathlib.Core.List.{List, [], _∷_, _++_}
+use lib.ListN.{length, getD, take}
+use Rattle.octets.specs.Octets.{Octets, value, be, put}
+use Rattle.octets.proofs.Laws.{octetsFrom, stores, stores-put, field-got, field-back, be-value, octets-nil, octets-cons, put-nil, put-put, length-put, take-put, length-be, taken, taken-be}
+use Rattle.checksum.specs.Sum.{checksum}
+use Rattle.format.specs.Header.{octet0, octet1, message}
+use Rattle.format.specs.Record.{each}
+use Rattle.format.specs.Entry.{numberAt, Entries, entriesAt}
+use Rattle.format.specs.declared.Kind.{Kind}
+
+-- ---- a number
+
+pub number-is : (k : ℕ) (o : List ℕ) (at : ℕ) → at + k ≤ length o → numberAt k o at ≡ value (octetsFrom o at 0 k)
+unfolding numberAt
+number-is k o at h = sym (field-back k o at (sym (field-got k o at h refl)) .1)
+
+pub copied : (o d : List ℕ) (at out : ℕ) → Octets o → at + 4 ≤ length o → out + 4 ≤ length d
+    → stores d out 0 (octetsFrom o at 0 4) ≡ put d out (be 4 (numberAt 4 o at))
+copied o d at out octet there room =
+    let four : Octets (octetsFrom o at 0 4) =
+    octets-cons (getD o at 0) (octetsFrom o at 1 3) (octet at) (octets-cons (getD o (at + 1) 0) (octetsFrom o at 2 2) (octet (at + 1))
+    (octets-cons (getD o (at + 2) 0) (octetsFrom o at 3 1) (octet (at + 2)) (octets-cons (getD o (at + 3) 0) [] (octet (at + 3)) octets-nil))) in
+    stores-put d out (octetsFrom o at 0 4) room
+    ∙ ap (put d out) (sym (be-value (octetsFrom o at 0 4) four) ∙ ap (be 4) (sym (number-is 4 o at there)))
+
+pub put-number : (k : ℕ) (d : List ℕ) (at n : ℕ) → at + k ≤ length d → n < 256 ^ k → stores d at 0 (taken k n) ≡ put d at (be k n)
+put-number k d at n h s = rw (taken-be k n s) (stores-put d at (be k n) (rw length-be h))
+
+-- ---- entries one after another
+
+-- what is still to be written, at a place of the buffer, gives what was to be written
+pub record Rows (E : Entries) (enc : E .Entry → List ℕ) (r : ℕ) (o : List ℕ) (from n : ℕ) (d₀ : List ℕ) (start : ℕ) (d : List ℕ) (i at out : ℕ) : Type 0 where
+  pub left : ℕ
+  pub count : i + left ≡ n
+  pub there : at + E .size * left ≤ length o
+  pub room : out + r * left ≤ length d
+  pub same : length d ≡ length d₀
+  pub gives : put d out (each enc (entriesAt E o at left)) ≡ put d₀ start (each enc (entriesAt E o from n))
+
+module _ (E : Entries) (enc : E .Entry → List ℕ) (r : ℕ) (o : List ℕ) (from n : ℕ) (d₀ : List ℕ) (start : ℕ) where
+  pub rows-start : from + E .size * n ≤ length o → start + r * n ≤ length d₀ → Rows E enc r o from n d₀ start d₀ 0 from start
+  rows-start there room = record { left = n; count = omega arith; there = there; room = room; same = refl; gives = refl }
+
+module _ {E : Entries} {enc : E .Entry → List ℕ} {r : ℕ} {o : List ℕ} {from n : ℕ} {d₀ : List ℕ} {start : ℕ} {d : List ℕ} {i at out : ℕ} (t : Rows E enc r o from n d₀ start d i at out) where
+  pub rows-there : i < n → (at + E .size ≤ length o) × (out + r ≤ length d)
+  rows-there h = go (t .left) (t .count) (t .there) (t .room)
+    where
+      go : (left : ℕ) → i + left ≡ n → at + E .size * left ≤ length o → out + r * left ≤ length d → (at + E .size ≤ length o) × (out + r ≤ length d)
+      go zero e a b = absurd (omega arith)
+      go (suc left) e a b = (omega (arith, mul-suc (E .size) left), omega (arith, mul-suc r left))
+
+  pub rows-next : ((e : E .Entry) → length (enc e) ≡ r) → i < n → (d′ : List ℕ) (i′ at′ out′ : ℕ) → d′ ≡ put d out (enc (E .entryAt o at)) → i′ ≡ i + 1 → at′ ≡ at + E .size → out′ ≡ out + r
+      → Rows E enc r o from n d₀ start d′ i′ at′ out′
+  unfolding each entriesAt
+  rows-next sized h d′ i′ at′ out′ p u q s = go (t .left) (t .count) (t .there) (t .room) (t .gives)
+    where
+      go : (left : ℕ) → i + left ≡ n → at + E .size * left ≤ length o → out + r * left ≤ length d
+          → put d out (each enc (entriesAt E o at left)) ≡ put d₀ start (each enc (entriesAt E o from n)) → Rows E enc r o from n d₀ start d′ i′ at′ out′
+      go zero e a b g = absurd (omega arith)
+      go (suc left) e a b g =
+          let one = enc (E .entryAt o at) in
+          let size : length (enc (E .entryAt o at)) ≡ r = sized (E .entryAt o at) in
+          let long : length d′ ≡ length d = ap length p ∙ length-put d out one (omega (arith, mul-suc r left)) in
+          record {
+            left = left;
+            count = omega arith;
+            there = omega (arith, mul-suc (E .size) left);
+            room = omega (arith, mul-suc r left);
+            same = long ∙ t .same;
+            gives = rw (p, q, s, ← size, put-put) g;
+          }
+
+  pub rows-end : n ≤ i → d ≡ put d₀ start (each enc (entriesAt E o from n))
+  unfolding each entriesAt
+  rows-end h = go (t .left) (t .count) (t .gives)
+    where
+      go : (left : ℕ) → i + left ≡ n → put d out (each enc (entriesAt E o at left)) ≡ put d₀ start (each enc (entriesAt E o from n)) → d ≡ put d₀ start (each enc (entriesAt E o from n))
+      go zero e g = sym (put-nil d out) ∙ g
+      go (suc left) e g = absurd (omega arith)
+
+-- ---- the checksum
+
+-- a message as it stands before its checksum is known
+unfoldable pub unsealed : Kind → List ℕ → List ℕ
+unsealed k rest = octet0 k ∷ octet1 k ∷ 0 ∷ 0 ∷ rest
+
+-- the two octets of the field, written into what stands
+placed : (k : Kind) (rest d : List ℕ) (c : ℕ) → put (put d 0 (unsealed k rest)) 2 (be 2 c) ≡ put d 0 ((octet0 k ∷ octet1 k ∷ []) ++ (be 2 c ++ rest))
+unfolding put be unsealed
+placed k rest d c = refl
+
+is-message : (k : Kind) (rest : List ℕ) → (octet0 k ∷ octet1 k ∷ []) ++ (be 2 (checksum (unsealed k rest)) ++ rest) ≡ message k rest
+unfolding message unsealed
+is-message k rest = refl
+
+pub sealed : (k : Kind) (rest d : List ℕ) (n : ℕ) → n ≡ length (unsealed k rest)
+    → put (put d 0 (unsealed k rest)) 2 (be 2 (checksum (take n (put d 0 (unsealed k rest))))) ≡ put d 0 (message k rest)
+sealed k rest d n e =
+    rw (e, take-put d (unsealed k rest)) (placed k rest d (checksum (unsealed k rest)) ∙ ap (put d 0) (is-message k rest))

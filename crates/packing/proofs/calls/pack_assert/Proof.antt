@@ -1,0 +1,18 @@
+-- `packing::calls::pack_assert` meets its contract: its records have one length.
+-- Assumes nothing.
+use borrow.Author.Needs.{needs}
+use Rattle.packing.proofs.ByKind.{plain-even}
+use Rattle.packing.proofs.calls.pack_assert.Statement.{statement}
+use Rattle.packing.proofs.calls.pack_assert.Tie as tie
+
+pack-even-requires : tie.Need-pack-even-requires
+pack-even-requires c κs = plain-even
+
+same-length : tie.Need-same-length
+same-length c = search needs
+
+returns : tie.Need-returns
+returns c = search needs
+
+pub pack-assert-spec : {M : Type 1} → statement M
+pack-assert-spec = tie.close (tie.spec pack-even-requires same-length returns)

@@ -1,0 +1,106 @@
+-- `packing::entry::zero_allowed` meets its contract, kind by kind.
+-- Assumes nothing.
+use native.Mathlib.Omega.{arith}
+use borrow.Author.Needs.{needs}
+use Rattle.packing.specs.Kinds.{zeroFor}
+use Rattle.packing.proofs.entry.zero_allowed.Statement.{statement}
+use Rattle.packing.proofs.entry.zero_allowed.Tie as tie
+
+enum-told : tie.Need-enum-told
+enum-told c = search needs
+
+add-r-bit : tie.Need-add-r-bit
+add-r-bit c = search needs
+
+r-bit-requires : tie.Need-r-bit-requires
+r-bit-requires c κs =
+    let h = rw (c .enum-told .given .1) at (c .before .before .before .pre) in
+    omega arith
+
+enum-told-2 : tie.Need-enum-told-2
+enum-told-2 c = search needs
+
+add-r-bit-2 : tie.Need-add-r-bit-2
+add-r-bit-2 c = search needs
+
+r-bit-requires-2 : tie.Need-r-bit-requires-2
+r-bit-requires-2 c κs =
+    let h = rw (c .enum-told2 .given .1) at (c .before .before .before .pre) in
+    omega arith
+
+enum-told-3 : tie.Need-enum-told-3
+enum-told-3 c = search needs
+
+add-r-bit-3 : tie.Need-add-r-bit-3
+add-r-bit-3 c = search needs
+
+r-bit-requires-3 : tie.Need-r-bit-requires-3
+r-bit-requires-3 c κs =
+    let h = rw (c .enum-told3 .given .1) at (c .before .before .before .pre) in
+    omega arith
+
+enum-told-4 : tie.Need-enum-told-4
+enum-told-4 c = search needs
+
+add-r-bit-4 : tie.Need-add-r-bit-4
+add-r-bit-4 c = search needs
+
+r-bit-requires-4 : tie.Need-r-bit-requires-4
+r-bit-requires-4 c κs =
+    let h = rw (c .enum-told4 .given .1) at (c .before .before .before .pre) in
+    omega arith
+
+enum-told-5 : tie.Need-enum-told-5
+enum-told-5 c = search needs
+
+enum-told-6 : tie.Need-enum-told-6
+enum-told-6 c = search needs
+
+returns : tie.Need-returns
+unfolding zeroFor
+returns c = rw (c .before .enum-told .given .1) (c .r-bit .ensures)
+
+returns-2 : tie.Need-returns-2
+unfolding zeroFor
+returns-2 c = rw (c .before .enum-told2 .given .1) (c .r-bit2 .ensures)
+
+returns-3 : tie.Need-returns-3
+unfolding zeroFor
+returns-3 c = rw (c .before .enum-told3 .given .1) (c .r-bit3 .ensures)
+
+returns-4 : tie.Need-returns-4
+unfolding zeroFor
+returns-4 c = rw (c .before .enum-told4 .given .1) (c .r-bit4 .ensures)
+
+returns-5 : tie.Need-returns-5
+unfolding zeroFor
+returns-5 c = rw (c .enum-told5 .given .1)
+
+returns-6 : tie.Need-returns-6
+unfolding zeroFor
+returns-6 c = rw (c .enum-told6 .given .1)
+
+pub zero-allowed-spec : {M : Type 1} → statement M
+zero-allowed-spec =
+    tie.close
+    (tie.spec
+    enum-told
+    add-r-bit
+    r-bit-requires
+    enum-told-2
+    add-r-bit-2
+    r-bit-requires-2
+    enum-told-3
+    add-r-bit-3
+    r-bit-requires-3
+    enum-told-4
+    add-r-bit-4
+    r-bit-requires-4
+    enum-told-5
+    enum-told-6
+    returns
+    returns-2
+    returns-3
+    returns-4
+    returns-5
+    returns-6)

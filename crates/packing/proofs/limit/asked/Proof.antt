@@ -1,0 +1,139 @@
+-- `packing::limit::asked` meets its contract: the tests are those of the definition, in its order.
+-- Assumes nothing.
+use native.Mathlib.Nat.{mul-div-le}
+use native.Mathlib.Omega.{arith}
+use mathlib.Core.Path.{_≡_, sym, ap, _∙_}
+use lib.ListN.{length}
+use denote.Ref.{now}
+use borrow.Author.Needs.{needs}
+use Rattle.format.specs.Outcome.{gives}
+use Rattle.format.specs.Packing.{readLimit}
+use Rattle.packing.specs.Kinds.{entriesFor}
+use Rattle.packing.specs.Answers.{limitOf}
+use Rattle.packing.proofs.ByKind.{size-range}
+use Rattle.packing.proofs.Asks.{read-gives, read-refuses, ask-limit, ask-room, ask-part, ask-start, ask-bad, ask-fine}
+use Rattle.packing.proofs.limit.asked.Statement.{statement}
+use Rattle.packing.proofs.limit.asked.Tie as tie
+
+-- what reading the limit gave
+read : (c : tie.After-known-told) → readLimit (entriesFor (c .before .before .before .before .before .args .kind) .family) (c .before .before .before .before .before .args .limit) ≡ gives (c .before .x .given .0 .0)
+read c = read-gives (c .before .before .before .before .before .args .kind) (c .before .before .before .before .before .args .limit) (c .before .x .given .1) (c .before .before .before .read-limit .ensures)
+
+read-limit-requires : tie.Need-read-limit-requires
+read-limit-requires c κs = search needs
+
+enum-known-x : tie.Need-enum-known-x
+enum-known-x c = search needs
+
+enum-told : tie.Need-enum-told
+enum-told c = search needs
+
+returns : tie.Need-returns
+unfolding limitOf
+returns c =
+    let a = c .before .before .before .before .args in
+    let read = read-refuses (a .kind) (a .limit) (c .enum-told .given .1) (c .before .before .read-limit .ensures) in
+    ap limitOf (c .enum-told .given .1) ∙ sym (ask-limit (entriesFor (a .kind)) (now (a .e)) (a .start) (a .limit) (a .room) _ _ read)
+
+entry-size-requires : tie.Need-entry-size-requires
+entry-size-requires c κs = search needs
+
+div-count : tie.Need-div-count
+div-count c = omega (arith, size-range (c .before .before .before .before .before .before .args .kind))
+
+refused-requires : tie.Need-refused-requires
+refused-requires c κs = search needs
+
+returns-2 : tie.Need-returns-2
+unfolding limitOf
+returns-2 c =
+    let r = c .before .before .before in
+    let a = r .before .before .before .before .before .args in
+    let E = entriesFor (a .kind) in
+    let o = now (a .e) in
+    rw (c .refused .ensures) (sym (ask-room E o (a .start) (a .limit) (a .room) _ (read r) (c .before .if1 .taken)))
+
+rem-if2 : tie.Need-rem-if2
+rem-if2 c = omega (arith, size-range (c .before .before .before .before .before .before .before .args .kind))
+
+refused-requires-2 : tie.Need-refused-requires-2
+refused-requires-2 c κs = search needs
+
+returns-3 : tie.Need-returns-3
+unfolding limitOf
+returns-3 c =
+    let r = c .before .before .before .before in
+    let a = r .before .before .before .before .before .args in
+    let E = entriesFor (a .kind) in
+    let o = now (a .e) in
+    rw (c .refused2 .ensures)
+    (sym (ask-part E o (a .start) (a .limit) (a .room) _ (read r) (c .before .before .if1 .left) (rw (c .before .before .before .entry-size .ensures) at (c .before .if2 .taken))))
+
+refused-requires-3 : tie.Need-refused-requires-3
+refused-requires-3 c κs = search needs
+
+returns-4 : tie.Need-returns-4
+unfolding limitOf
+returns-4 c =
+    let r = c .before .before .before .before .before in
+    let a = r .before .before .before .before .before .args in
+    let E = entriesFor (a .kind) in
+    let o = now (a .e) in
+    let size = c .before .before .before .before .entry-size .ensures in
+    rw (c .refused3 .ensures)
+    (sym (ask-start E o (a .start) (a .limit) (a .room) _ (read r) (c .before .before .before .if1 .left) (rw size at (c .before .before .if2 .left)) (rw size at (c .before .if3 .taken))))
+
+first-bad-requires : tie.Need-first-bad-requires
+first-bad-requires c κs =
+    let a = c .before .before .before .before .before .before .before .before .before .args in
+    (c .if3 .left, rw (c .before .before .before .entry-size .ensures) (mul-div-le (length (now (a .e))) (entriesFor (a .kind) .size)))
+
+refused-requires-4 : tie.Need-refused-requires-4
+refused-requires-4 c κs = search needs
+
+returns-5 : tie.Need-returns-5
+unfolding limitOf
+returns-5 c =
+    let r = c .before .before .before .before .before .before .before in
+    let a = r .before .before .before .before .before .args in
+    let E = entriesFor (a .kind) in
+    let o = now (a .e) in
+    let size = c .before .before .before .before .before .before .entry-size .ensures in
+    rw (c .refused4 .ensures)
+    (sym (ask-bad E o (a .start) (a .limit) (a .room) _ (read r) (c .before .before .before .before .before .if1 .left) (rw size at (c .before .before .before .before .if2 .left)) (rw size at (c .before .before .before .if3 .left)) _
+    (rw size at (c .before .before .first-bad .ensures))
+    (rw size at (c .before .if4 .taken))))
+
+returns-6 : tie.Need-returns-6
+unfolding limitOf
+returns-6 c =
+    let r = c .before .before .before .before .before .before in
+    let a = r .before .before .before .before .before .args in
+    let E = entriesFor (a .kind) in
+    let o = now (a .e) in
+    let size = c .before .before .before .before .before .entry-size .ensures in
+    sym (ask-fine E o (a .start) (a .limit) (a .room) _ (read r) (c .before .before .before .before .if1 .left) (rw size at (c .before .before .before .if2 .left)) (rw size at (c .before .before .if3 .left)) _
+    (rw size at (c .before .first-bad .ensures))
+    (rw size at (c .if4 .left)))
+
+pub asked-spec : {M : Type 1} → statement M
+asked-spec =
+    tie.close
+    (tie.spec
+    read-limit-requires
+    enum-known-x
+    enum-told
+    returns
+    entry-size-requires
+    div-count
+    refused-requires
+    returns-2
+    rem-if2
+    refused-requires-2
+    returns-3
+    refused-requires-3
+    returns-4
+    first-bad-requires
+    refused-requires-4
+    returns-5
+    returns-6)

@@ -1,0 +1,102 @@
+// Entries by the kind of message that is made of them. A list that is not whole has been refused before.
+use format::Kind;
+ghost use mathlib.Core.Path.{_≡_};
+ghost use Prim.Native.Nat.{_+_, _-_, _*_, _≤_, _<_};
+ghost use lib.ListN.{length};
+ghost use Rattle.records.specs.Records.{rBit};
+ghost use Rattle.format.specs.Entry.{numberAt, entriesAt};
+ghost use Rattle.format.specs.Packing.{firstBad};
+ghost use Rattle.packing.specs.Kinds.{entriesFor, zeroFor, badAt};
+
+// Groups lie in 224.0.0.0/4.
+const FIRST_GROUP: u32 = 0xe000_0000;
+
+const PAST_GROUPS: u32 = 0xf000_0000;
+
+// The octets of an entry.
+pub(crate) fn entry_size(kind: Kind) -> usize
+    ensures { λ r. ⌜ r ≡ entriesFor kind .size ⌝ }
+{
+    match kind {
+        Kind::Hello => 16,
+        Kind::Assert => 16,
+        Kind::Simple => 16,
+        Kind::Aggregated => 16,
+        Kind::NullRegister => 8,
+        Kind::RegisterStop => 8,
+    }
+}
+
+// An octet as a wider number.
+fn wide(x: u8) -> u32
+    ensures { λ r. ⌜ (r ≡ x) × (r < 256) ⌝ }
+{
+    x as u32
+}
+
+// The number in four octets.
+fn number32(e: &[u8], at: usize) -> u32
+    requires { ⌜ at + 4 ≤ length (now e) ⌝ }
+    ensures { λ r. ⌜ r ≡ numberAt 4 (now (e .entry)) at ⌝ }
+{
+    ((wide(e[at]) * 256 + wide(e[at + 1])) * 256 + wide(e[at + 2])) * 256 + wide(e[at + 3])
+}
+
+// R is the highest bit of its word.
+fn r_bit(e: &[u8], at: usize) -> bool
+    requires { ⌜ at + 4 ≤ length (now e) ⌝ }
+    ensures { λ r. ⌜ r ≡ rBit (numberAt 4 (now (e .entry)) at) ⌝ }
+{
+    0x8000_0000 <= number32(e, at)
+}
+
+// Whether the source of an entry may be 0.
+fn zero_allowed(kind: Kind, e: &[u8], at: usize) -> bool
+    requires { ⌜ at + entriesFor kind .size ≤ length (now e) ⌝ }
+    ensures { λ r. ⌜ r ≡ zeroFor kind (now (e .entry)) at ⌝ }
+{
+    match kind {
+        Kind::Hello => r_bit(e, at + 8),
+        Kind::Assert => r_bit(e, at + 8),
+        Kind::Simple => r_bit(e, at + 8),
+        Kind::Aggregated => r_bit(e, at + 8),
+        Kind::NullRegister => false,
+        Kind::RegisterStop => true,
+    }
+}
+
+// Whether an entry is allowed: by its group, and by its source, which is not 0 where it may not be.
+fn allowed(kind: Kind, e: &[u8], at: usize) -> bool
+    requires { ⌜ at + entriesFor kind .size ≤ length (now e) ⌝ }
+    ensures { λ r. ⌜ r ≡ entriesFor kind .allowed (entriesFor kind .entryAt (now (e .entry)) at) ⌝ }
+{
+    let g = number32(e, at);
+    if g < FIRST_GROUP {
+        return false;
+    }
+    if PAST_GROUPS <= g {
+        return false;
+    }
+    if number32(e, at + 4) != 0 {
+        return true;
+    }
+    zero_allowed(kind, e, at)
+}
+
+// The first entry from `start` on that is not allowed, or `count` if there is none.
+pub(crate) fn first_bad(kind: Kind, e: &[u8], start: usize, count: usize) -> usize
+    requires { ⌜ (start ≤ count) × (entriesFor kind .size * count ≤ length (now e)) ⌝ }
+    ensures { λ r. ⌜ badAt r count ≡ firstBad (entriesFor kind .allowed) start (entriesAt (entriesFor kind) (now (e .entry)) (entriesFor kind .size * start) (count - start)) ⌝ }
+{
+    let size = entry_size(kind);
+    let mut i = start;
+    let mut at = size * start;
+    while i < count {
+        if !allowed(kind, e, at) {
+            return i;
+        }
+        i += 1;
+        at += size;
+    }
+    count
+}

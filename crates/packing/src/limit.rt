@@ -1,0 +1,70 @@
+// What a packing call refuses before it writes: 9, 8, 10, then 7.
+use crate::entry::entry_size;
+use crate::entry::first_bad;
+use format::Kind;
+use format::Refusal;
+ghost use mathlib.Core.Path.{_≡_};
+ghost use Rattle.format.specs.Family.{ipv4};
+ghost use Rattle.format.specs.Packing.{readLimit, asked as askedOf};
+ghost use Rattle.packing.specs.Kinds.{entriesFor};
+ghost use Rattle.packing.specs.Answers.{limitOf, limited};
+
+// What limit 0 is read as.
+const USUAL_LIMIT: usize = 1480;
+
+const LEAST_LIMIT: usize = 38;
+
+const GREATEST_LIMIT: usize = 65515;
+
+// The limit as read, or a refusal.
+pub enum Limit {
+    Is(usize),
+    Refused(Refusal),
+}
+
+fn refused(number: u8, place: usize) -> Limit
+    ensures { λ r. ⌜ r ≡ Limit.Refused (record { number = number; place = place }) ⌝ }
+{
+    Limit::Refused(Refusal { number, place })
+}
+
+fn read_limit(limit: usize) -> Limit
+    ensures { λ r. ⌜ limitOf r ≡ readLimit ipv4 limit ⌝ }
+{
+    if limit == 0 {
+        return Limit::Is(USUAL_LIMIT);
+    }
+    if limit < LEAST_LIMIT {
+        return refused(9, 0);
+    }
+    if GREATEST_LIMIT < limit {
+        return refused(9, 0);
+    }
+    Limit::Is(limit)
+}
+
+// The limit as read, where nothing is to be refused.
+pub(crate) fn asked(kind: Kind, e: &[u8], start: usize, limit: usize, room: usize) -> Limit
+    ensures { λ r. ⌜ limitOf r ≡ limited (askedOf (entriesFor kind) (now (e .entry)) start limit room) ⌝ }
+{
+    let x = read_limit(limit);
+    let Limit::Is(l) = x else {
+        return x;
+    };
+    let size = entry_size(kind);
+    let count = e.len() / size;
+    if room < l {
+        return refused(8, 0);
+    }
+    if e.len() % size != 0 {
+        return refused(10, 0);
+    }
+    if count < start {
+        return refused(10, 0);
+    }
+    let bad = first_bad(kind, e, start, count);
+    if bad < count {
+        return refused(7, bad);
+    }
+    x
+}
