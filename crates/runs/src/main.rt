@@ -3,10 +3,12 @@
 //
 // output.rt                               a case and its name
 // kinds.rt, refusals.rt, hellos.rt        messages made by hand
+// packs.rt                                entries packed, and the messages written
 // vectors_hello.rt, vectors_assert.rt     messages that others sent or read
 mod hellos;
 mod kinds;
 mod output;
+mod packs;
 mod refusals;
 mod vectors_assert;
 mod vectors_hello;
@@ -63,4 +65,5 @@ fn main() {
     hellos::run();
     vectors_hello::run();
     vectors_assert::run();
+    packs::run();
 }

@@ -1,0 +1,77 @@
+// Entries packed: what the call answers, then the listing of the message it wrote. The entries are those of
+// the packed messages of kinds.rt, so the listings are the same.
+use libc::STDOUT_FILENO;
+use packing::Packing;
+
+fn number(before: &[u8], n: u64) {
+    io::write_all(STDOUT_FILENO, before);
+    io::print_decimal(STDOUT_FILENO, n);
+}
+
+// The message stands at the front of what was lent.
+fn list_front(d: &[u8], n: usize) {
+    if n <= d.len() {
+        listing::list(&d[..n]);
+    }
+}
+
+fn show_packed(name: &[u8], answer: Packing, d: &[u8]) {
+    io::write_all(STDOUT_FILENO, name);
+    match answer {
+        Packing::Refused(r) => {
+            number(b"\nrefused ", r.number as u64);
+            number(b" at ", r.place as u64);
+            io::write_all(STDOUT_FILENO, b"\n");
+        }
+        Packing::Wrote { length, taken } => {
+            number(b"\noctets ", length as u64);
+            number(b", taken ", taken as u64);
+            io::write_all(STDOUT_FILENO, b"\n");
+            if 0 < length {
+                list_front(d, length);
+            }
+        }
+    }
+}
+
+// Two entries, with R=0 and with R=1.
+fn asserts() {
+    let e =
+        b"\xe4\x01\x02\x03\x0a\x04\x05\x06\x07\x08\x09\x0a\x0b\x0c\x0d\x0e\xe5\x11\x12\x13\x00\x00\x00\x00\x97\x18\x19\x1a\x1b\x1c\x1d\x1e";
+    let mut d = [0; 1480];
+    let whole = packing::pack_simple(e, 0, 0, &mut d);
+    show_packed(b"packed: two asserts, usual limit", whole, &d);
+    let one = packing::pack_simple(e, 0, 51, &mut d);
+    show_packed(b"packed: two asserts, limit 51", one, &d);
+    let two = packing::pack_simple(e, 0, 52, &mut d);
+    show_packed(b"packed: two asserts, limit 52", two, &d);
+    let plain = packing::pack_assert(e, 1, 0, &mut d);
+    show_packed(b"packed: a plain assert, from the second", plain, &d);
+    let end = packing::pack_assert(e, 2, 0, &mut d);
+    show_packed(b"packed: a plain assert, from the end", end, &d);
+    let past = packing::pack_assert(e, 3, 0, &mut d);
+    show_packed(b"packed: a plain assert, from past the end", past, &d);
+}
+
+// Two pairs, the second with source 0.
+fn pairs() {
+    let e = b"\xe9\x41\x42\x43\x0a\x44\x45\x46\xea\x51\x52\x53\x00\x00\x00\x00";
+    let mut d = [0; 1480];
+    let stops = packing::pack_register_stop(e, 0, 0, &mut d);
+    show_packed(b"packed: two Register-Stops", stops, &d);
+    let nulls = packing::pack_null_register(e, 0, 0, &mut d);
+    show_packed(
+        b"packed: two Null-Registers, the second with source 0",
+        nulls,
+        &d,
+    );
+    let short = packing::pack_register_stop(e, 0, 1481, &mut d);
+    show_packed(b"packed: a limit past the buffer", short, &d);
+    let low = packing::pack_register_stop(e, 0, 37, &mut d);
+    show_packed(b"packed: limit 37", low, &d);
+}
+
+pub(crate) fn run() {
+    asserts();
+    pairs();
+}
