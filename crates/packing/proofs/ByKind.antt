@@ -6,7 +6,7 @@
 --     record-sized                   a record is 6 octets longer than its entry
 --     kind-is, most-is               a form is of its kind, and takes no more than there is
 --     front-long, front-short, head-range     the beginning of a message, with Zero and Reserved or without
---     plain-even, simple-even, null-even, stop-even     four kinds whose records have one length
+--     plain-fixed, simple-fixed, null-fixed, stop-fixed     four kinds whose records have one length
 -- Assumes nothing.
 use Prim.Native.Nat.{ℕ, _+_, _≤_}
 use native.Mathlib.Omega.{arith}
@@ -22,7 +22,7 @@ use Rattle.format.specs.Record.{assertOctets, pairOctets}
 use Rattle.format.specs.declared.Kind.{Kind}
 use Rattle.format.specs.declared.Kind.the-variants.{Hello, Assert, Simple, Aggregated, NullRegister, RegisterStop}
 use Rattle.format.proofs.Lengths.{length-assert, length-pair}
-use Rattle.packing.specs.Kinds.{entriesFor, formFor, zeroFor, recordSize, recordOctets, frontOf, headSize, Even}
+use Rattle.packing.specs.Kinds.{entriesFor, formFor, zeroFor, recordSize, recordOctets, frontOf, headSize, FixedLength}
 
 pub size-range : (k : Kind) → (8 ≤ entriesFor k .size) × (entriesFor k .size ≤ 16)
 size-range Hello = (omega arith, omega arith)
@@ -133,18 +133,18 @@ head-range Aggregated = omega arith
 head-range NullRegister = omega arith
 head-range RegisterStop = omega arith
 
-pub plain-even : Even Assert
+pub plain-fixed : FixedLength Assert
 unfolding plainBody recordOctets
-plain-even = record { body = λ es. refl }
+plain-fixed = record { body = λ es. refl }
 
-pub simple-even : Even Simple
+pub simple-fixed : FixedLength Simple
 unfolding simpleBody recordOctets
-simple-even = record { body = λ es. refl }
+simple-fixed = record { body = λ es. refl }
 
-pub null-even : Even NullRegister
+pub null-fixed : FixedLength NullRegister
 unfolding pairBody recordOctets
-null-even = record { body = λ es. refl }
+null-fixed = record { body = λ es. refl }
 
-pub stop-even : Even RegisterStop
+pub stop-fixed : FixedLength RegisterStop
 unfolding pairBody recordOctets
-stop-even = record { body = λ es. refl }
+stop-fixed = record { body = λ es. refl }

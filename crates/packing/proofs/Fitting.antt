@@ -1,6 +1,6 @@
 -- How many entries fit is arithmetic where records have one length.
---     canonical-even, length-even     the message of entries, and its length
---     taken-even                      the most that fit
+--     canonical-fixed, length-fixed     the message of entries, and its length
+--     taken-fixed                       the most that fit
 -- Assumes nothing.
 use Prim.Native.Nat.{ℕ, suc, _+_, _-_, _*_, _/_, _≤_, _<_, min}
 use native.Mathlib.Nat.{mul-le-mul-left, mul-div-le, lt-mul-div-succ}
@@ -18,17 +18,17 @@ use Rattle.format.specs.Packing.{canonical, taken}
 use Rattle.format.specs.declared.Kind.{Kind}
 use Rattle.format.proofs.Lengths.{length-each}
 use Rattle.format.proofs.Messages.{length-message}
-use Rattle.packing.specs.Kinds.{entriesFor, formFor, recordSize, recordOctets, frontOf, headSize, Even, fitting}
+use Rattle.packing.specs.Kinds.{entriesFor, formFor, recordSize, recordOctets, frontOf, headSize, FixedLength, fitting}
 use Rattle.packing.proofs.ByKind.{size-range, record-sized, kind-is, most-is}
 
-module _ (k : Kind) (even : Even k) where
-  pub canonical-even : (es : List (entriesFor k .Entry)) → canonical (formFor k) es ≡ message k (frontOf k ++ each (recordOctets k) es)
+module _ (k : Kind) (fixed : FixedLength k) where
+  pub canonical-fixed : (es : List (entriesFor k .Entry)) → canonical (formFor k) es ≡ message k (frontOf k ++ each (recordOctets k) es)
   unfolding canonical
-  canonical-even es = rw (kind-is k, even .body es)
+  canonical-fixed es = rw (kind-is k, fixed .body es)
 
-  pub length-even : (es : List (entriesFor k .Entry)) → length (canonical (formFor k) es) ≡ headSize k + recordSize k * length es
-  length-even es =
-      rw (canonical-even es, length-message, length-append, length-each (recordOctets k) (recordSize k) (record-sized k) es) (omega arith)
+  pub length-fixed : (es : List (entriesFor k .Entry)) → length (canonical (formFor k) es) ≡ headSize k + recordSize k * length es
+  length-fixed es =
+      rw (canonical-fixed es, length-message, length-append, length-each (recordOctets k) (recordSize k) (record-sized k) es) (omega arith)
 
   module _ (l : ℕ) (es : List (entriesFor k .Entry)) (room : headSize k ≤ l) where
     fits : ℕ → Bool
@@ -36,7 +36,7 @@ module _ (k : Kind) (even : Even k) where
 
     -- the length by the number of entries
     prefix : (n : ℕ) → n ≤ length es → length (canonical (formFor k) (take n es)) ≡ headSize k + recordSize k * n
-    prefix n h = length-even (take n es) ∙ ap (λ m. headSize k + recordSize k * m) (simp length-take (omega arith))
+    prefix n h = length-fixed (take n es) ∙ ap (λ m. headSize k + recordSize k * m) (simp length-take (omega arith))
 
     fewer : (n : ℕ) → fits (suc n) ≡ true → fits n ≡ true
     unfolding fits
@@ -44,11 +44,11 @@ module _ (k : Kind) (even : Even k) where
         let more : length (take n es) ≤ length (take (suc n) es) = simp length-take (omega arith) in
         let octets : recordSize k * length (take n es) ≤ recordSize k * length (take (suc n) es) = mul-le-mul-left (recordSize k) more in
         let fit : length (canonical (formFor k) (take (suc n) es)) ≤ l = leb-true _ l e in
-        le-leb _ l (omega (arith, length-even (take n es), length-even (take (suc n) es)))
+        le-leb _ l (omega (arith, length-fixed (take n es), length-fixed (take (suc n) es)))
 
-    pub taken-even : taken (formFor k) l es ≡ fitting k l (length es)
+    pub taken-fixed : taken (formFor k) l es ≡ fitting k l (length es)
     unfolding taken fitting fits
-    taken-even =
+    taken-fixed =
         let most : formFor k .atMost (length es) ≤ length es = most-is k (length es) in
         let n : ℕ = min ((l - headSize k) / recordSize k) (formFor k .atMost (length es)) in
         let inside : n ≤ length es = omega arith in

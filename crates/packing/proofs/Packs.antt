@@ -23,13 +23,13 @@ use Rattle.format.specs.declared.Refusal.{Refusal}
 use Rattle.format.proofs.Outcomes.{no-refusal, gives-same}
 use Rattle.format.proofs.Entries.{length-entriesAt}
 use Rattle.format.proofs.Calls.{limit-range, Asked, gives-asked, pack-none, pack-some, packing-gives}
-use Rattle.packing.specs.Kinds.{entriesFor, formFor, recordSize, recordOctets, frontOf, headSize, Even, fitting}
+use Rattle.packing.specs.Kinds.{entriesFor, formFor, recordSize, recordOctets, frontOf, headSize, FixedLength, fitting}
 use Rattle.packing.specs.Answers.{limitOf, limited}
 use Rattle.packing.specs.declared.limit.Limit.{Limit}
 use Rattle.packing.specs.declared.limit.Limit.the-variants.{Is, Refused}
 use Rattle.packing.proofs.ByKind.{family-is, most-is, head-range}
 use Rattle.packing.proofs.Listed.{take-entries, drop-entries}
-use Rattle.packing.proofs.Fitting.{canonical-even, length-even, taken-even}
+use Rattle.packing.proofs.Fitting.{canonical-fixed, length-fixed, taken-fixed}
 
 pub limit-refused : {A : Type 0} (x : Outcome (Due A)) {a : Limit} {r : Refusal} → a ≡ Refused r → limitOf a ≡ limited x → x ≡ refuses (r .number) (r .place)
 unfolding limitOf limited
@@ -72,7 +72,7 @@ call-there k o start l n inside room e =
       omega (arith, mul-div-le (l - headSize k) (recordSize k)),
     )
 
-module _ (k : Kind) (even : Even k) (o : List ℕ) (start limit l : ℕ) (d : List ℕ) (h : Asked (entriesFor k) o start limit (length d) l) where
+module _ (k : Kind) (fixed : FixedLength k) (o : List ℕ) (start limit l : ℕ) (d : List ℕ) (h : Asked (entriesFor k) o start limit (length d) l) where
   room : headSize k ≤ l
   room = asked-room k o start limit (length d) l h
 
@@ -85,7 +85,7 @@ module _ (k : Kind) (even : Even k) (o : List ℕ) (start limit l : ℕ) (d : Li
 
   takes : taken (formFor k) l (drop start (entriesOf (entriesFor k) o)) ≡ fitting k l left
   takes =
-      taken-even k even l (drop start (entriesOf (entriesFor k) o)) room
+      taken-fixed k fixed l (drop start (entriesOf (entriesFor k) o)) room
       ∙ ap (fitting k l) (ap length listed ∙ length-entriesAt (entriesFor k) o (entriesFor k .size * start) left)
 
   pub call-none : fitting k l (length o / entriesFor k .size - start) ≡ 0 → packing (formFor k) o start limit d ≡ record { answer = gives (wrote 0 0); buffer = d }
@@ -106,6 +106,6 @@ module _ (k : Kind) (even : Even k) (o : List ℕ) (start limit l : ℕ) (d : Li
       let first-taken : take (taken (formFor k) l (drop start (entriesOf (entriesFor k) o))) (drop start (entriesOf (entriesFor k) o)) ≡ entriesAt (entriesFor k) o (entriesFor k .size * start) n =
       rw (t, listed) (take-entries (entriesFor k) o n left (entriesFor k .size * start) few) in
       let size : length (canonical (formFor k) first) ≡ headSize k + recordSize k * n =
-      length-even k even first ∙ ap (λ m. headSize k + recordSize k * m) (length-entriesAt (entriesFor k) o (entriesFor k .size * start) n) in
+      length-fixed k fixed first ∙ ap (λ m. headSize k + recordSize k * m) (length-entriesAt (entriesFor k) o (entriesFor k .size * start) n) in
       packing-gives (formFor k) o start limit l d (canonical (formFor k) (take (taken (formFor k) l es) es)) (taken (formFor k) l es) h (pack-some (formFor k) l es (omega arith))
-      ∙ same-call (ap (λ x. length (canonical (formFor k) x)) first-taken ∙ size) t (ap (put d 0) (ap (canonical (formFor k)) first-taken ∙ canonical-even k even first))
+      ∙ same-call (ap (λ x. length (canonical (formFor k) x)) first-taken ∙ size) t (ap (put d 0) (ap (canonical (formFor k)) first-taken ∙ canonical-fixed k fixed first))

@@ -3,7 +3,7 @@
 --     zeroFor                      whether the source of an entry may be 0
 --     recordSize, recordOctets     the record of an entry, where records have one length
 --     frontOf, headSize, beginning what comes before the records: of the body, in octets, and with the checksum as 0
---     Even                         a kind whose records have one length
+--     FixedLength                  a kind whose records have one length
 --     fitting                      how many entries of such a kind fit
 --     badAt                        what the first entry that is not allowed says
 -- A hello has no entries, and no call packs one. Assumes nothing: these are definitions.
@@ -77,7 +77,7 @@ headSize k = 4 + length (frontOf k)
 abbrev pub beginning : Kind → List ℕ
 beginning k = octet0 k ∷ octet1 k ∷ 0 ∷ 0 ∷ frontOf k
 
-pub record Even (k : Kind) : Type 0 where
+pub record FixedLength (k : Kind) : Type 0 where
   pub body : (es : List (entriesFor k .Entry)) → formFor k .body es ≡ frontOf k & each (recordOctets k) es
 
 -- as many records as there is room for past the head, and no more than there are entries

@@ -10,7 +10,7 @@ ghost use mathlib.Core.Path.{_≡_};
 ghost use Prim.Native.Nat.{_≤_};
 ghost use Rattle.format.specs.Family.{ipv4};
 ghost use Rattle.format.specs.Packing.{plain, simple, nullRegister, registerStop, packing};
-ghost use Rattle.packing.specs.Kinds.{formFor, headSize, fitting, Even};
+ghost use Rattle.packing.specs.Kinds.{formFor, headSize, fitting, FixedLength};
 ghost use Rattle.packing.specs.Answers.{packed};
 
 // What a packing call did.
@@ -53,8 +53,8 @@ fn how_many(kind: Kind, limit: usize, n: usize) -> usize
 }
 
 // Packs a message of a kind whose records have one length.
-fn pack_even(kind: Kind, e: &[u8], start: usize, limit: usize, d: &mut [u8]) -> Packing
-    requires { ⌜ Even kind ⌝ }
+fn pack_fixed(kind: Kind, e: &[u8], start: usize, limit: usize, d: &mut [u8]) -> Packing
+    requires { ⌜ FixedLength kind ⌝ }
     ensures answer { λ r. ⌜ packed r ≡ packing (formFor kind) (now (e .entry)) start limit (now (d .entry)) .answer ⌝ }
     ensures buffer { λ r. ⌜ now (d .exit) ≡ packing (formFor kind) (now (e .entry)) start limit (now (d .entry)) .buffer ⌝ }
 {
@@ -81,7 +81,7 @@ pub fn pack_assert(e: &[u8], start: usize, limit: usize, d: &mut [u8]) -> Packin
     ensures answer { λ r. ⌜ packed r ≡ packing (plain ipv4) (now (e .entry)) start limit (now (d .entry)) .answer ⌝ }
     ensures buffer { λ r. ⌜ now (d .exit) ≡ packing (plain ipv4) (now (e .entry)) start limit (now (d .entry)) .buffer ⌝ }
 {
-    pack_even(Kind::Assert, e, start, limit, d)
+    pack_fixed(Kind::Assert, e, start, limit, d)
 }
 
 // A packed simple assert.
@@ -89,7 +89,7 @@ pub fn pack_simple(e: &[u8], start: usize, limit: usize, d: &mut [u8]) -> Packin
     ensures answer { λ r. ⌜ packed r ≡ packing (simple ipv4) (now (e .entry)) start limit (now (d .entry)) .answer ⌝ }
     ensures buffer { λ r. ⌜ now (d .exit) ≡ packing (simple ipv4) (now (e .entry)) start limit (now (d .entry)) .buffer ⌝ }
 {
-    pack_even(Kind::Simple, e, start, limit, d)
+    pack_fixed(Kind::Simple, e, start, limit, d)
 }
 
 // A packed null-register.
@@ -97,7 +97,7 @@ pub fn pack_null_register(e: &[u8], start: usize, limit: usize, d: &mut [u8]) ->
     ensures answer { λ r. ⌜ packed r ≡ packing (nullRegister ipv4) (now (e .entry)) start limit (now (d .entry)) .answer ⌝ }
     ensures buffer { λ r. ⌜ now (d .exit) ≡ packing (nullRegister ipv4) (now (e .entry)) start limit (now (d .entry)) .buffer ⌝ }
 {
-    pack_even(Kind::NullRegister, e, start, limit, d)
+    pack_fixed(Kind::NullRegister, e, start, limit, d)
 }
 
 // A packed register-stop.
@@ -105,5 +105,5 @@ pub fn pack_register_stop(e: &[u8], start: usize, limit: usize, d: &mut [u8]) ->
     ensures answer { λ r. ⌜ packed r ≡ packing (registerStop ipv4) (now (e .entry)) start limit (now (d .entry)) .answer ⌝ }
     ensures buffer { λ r. ⌜ now (d .exit) ≡ packing (registerStop ipv4) (now (e .entry)) start limit (now (d .entry)) .buffer ⌝ }
 {
-    pack_even(Kind::RegisterStop, e, start, limit, d)
+    pack_fixed(Kind::RegisterStop, e, start, limit, d)
 }

@@ -1,4 +1,4 @@
-// The messages of specs/Messages.antt and specs/Marked.antt, each kind, with their octets as there.
+// The messages of crates/cases/specs/Messages.antt and Marked.antt, each kind, with their octets as there.
 use crate::output::show;
 
 // 01, examples 1 and 6.

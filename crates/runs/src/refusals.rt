@@ -1,4 +1,4 @@
-// Damaged messages of specs/Faults.antt, with their octets as there: a refusal of each number from 1 to 7.
+// Damaged messages of crates/cases/specs/Faults.antt, with their octets as there: a refusal of each number from 1 to 7.
 use crate::output::show;
 
 // 1 to 4: the header.

@@ -1,4 +1,4 @@
--- `packing::calls::pack_even` meets its contract: what `asked` answered says which way the call goes.
+-- `packing::calls::pack_fixed` meets its contract: what `asked` answered says which way the call goes.
 -- Assumes nothing.
 use Prim.Native.Nat.{ℕ, _+_, _-_, _*_, _/_, _≤_}
 use native.Mathlib.Omega.{arith}
@@ -14,8 +14,8 @@ use Rattle.packing.specs.Answers.{packed}
 use Rattle.packing.specs.Kinds.{entriesFor, formFor, headSize, recordSize, fitting}
 use Rattle.packing.proofs.ByKind.{size-range}
 use Rattle.packing.proofs.Packs.{limit-refused, limit-asked, asked-room, call-there, call-refused, call-none, call-some}
-use Rattle.packing.proofs.calls.pack_even.Statement.{statement}
-use Rattle.packing.proofs.calls.pack_even.Tie as tie
+use Rattle.packing.proofs.calls.pack_fixed.Statement.{statement}
+use Rattle.packing.proofs.calls.pack_fixed.Tie as tie
 
 abbrev start : tie.After-known-told2 → tie.Start
 start c = c .before .before .before .before .before .before
@@ -123,8 +123,8 @@ returns-3 c =
     let call = call-some (a .kind) (s .pre) (now (a .e)) (a .start) (a .limit) (limit r) (now (a .d)) (asks r) n (many (c .before .before .before .before .before)) (omega (arith, c .before .before .before .before .if1 .left)) in
     (ap (λ x. gives (wrote x n)) (wrote-it .0) ∙ sym (ap (λ x. x .answer) call), rw (ap (λ x. x .buffer) call) (rw (c .before .before .before .before .before .before .entry-size .ensures) at (wrote-it .1)))
 
-pub pack-even-spec : {M : Type 1} → statement M
-pack-even-spec =
+pub pack-fixed-spec : {M : Type 1} → statement M
+pack-fixed-spec =
     tie.close
     (tie.spec
     asked-requires
