@@ -2,7 +2,11 @@
 --     Asked, asked-gives, gives-asked     the four refusals do not apply, exactly if the call goes on
 --     asked-short                         a buffer below the limit is refused with 8
 --     limit-range                         a limit that is read lies within the limits
---     Packs, packing-gives                a call that is not refused: what it took and what it wrote
+--     allowed-every, every-allowed        no entry is bad, exactly if every one is allowed
+--     taken-most, taken-fits              the most that fit
+--     pack-none, pack-some                no message, and one
+--     packing-gives, packing-short        the whole call, and one refused with 8
+--     Wrote-by, wrote-by                  a call that is not refused: what it took and what it wrote
 -- Assumes nothing.
 use Prim.Native.Nat.{ℕ, zero, suc, _<_, _≤_}
 use native.Mathlib.Omega.{arith}

@@ -1,8 +1,8 @@
 -- Demand 3 of the definitions (specs/Demand3.antt).
 --     length-canonical               an aggregated message is as long as its records, and 8
 --     next, next-greedy, next-some   how many entries a call takes at a place: the most that fit, and one at least
---     Call, call-at                  what one call does
---     steps, all-within, all-unpack  what calls from a place on do
+--     CallAt, call-at                what one call does
+--     From                           what calls from a place on do
 --     blocks                         any other train, as blocks of entries that fit
 --     demand3, complete              the theorems: demand 3, and that calls with room take every entry
 --     comparable, empty              there is another train to compare with; the empty list yields no message

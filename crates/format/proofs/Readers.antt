@@ -1,5 +1,5 @@
 -- Reading back what was written: a reader reads octets as a value wherever they stand, whatever comes before and after them.
---     At, at-split, at-nil          octets stand at a place of others; they come apart as they were joined
+--     At, at-left, at-right, at-end octets stand at a place of others; they come apart as they were joined
 --     Reads                         a reader reads octets as a value
 --     reads-give .. reads-times     a law for each reader of specs/Reader.antt, so that a record is read line by line
 --     reads-toEnd, reads-records    records up to the end

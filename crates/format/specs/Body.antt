@@ -1,7 +1,7 @@
 -- The bodies of the kinds with records, read and written, from octet 4 of a message on.
 --     zeroReserved, zeros        Zero and Reserved of a packed assert message
 --     assertsBody, pairsBody     the entries that a body unpacks to
---     assertOctetsOf, pairOctetsOf     the canonical body of entries
+--     plainBody, simpleBody, aggregatedBody, pairBody     the canonical body of entries
 -- Assumes nothing: these are definitions.
 use Prim.Native.Nat.{ℕ}
 use mathlib.Core.Bool.{true, false}

@@ -1,11 +1,12 @@
 -- The packing calls of 01, "Writing": "A packing call gets entries, the number of the entry to start at, a limit and a buffer."
---     usualLimit, leastLimit, greatestLimit, readLimit     the limits
+--     usualLimit, leastLimit, readLimit            the limits
 --     Form                                         how one kind of message is made of entries
 --     plain, simple, aggregated, nullRegister, registerStop     the five kinds
---     firstBad, Due, due                           what a call refuses, in the order 9, 8, 10, 7
---     taken, Packed, packed                        "always the most that fit", and the message
---     PackingCall, packing                         answer, and buffer as the call returns
---     ChoiceCall, choice                           "Both assert forms may also be written into two lent buffers"
+--     canonical                                    the one message of entries
+--     firstBad, Due, asked                         what a call refuses, in the order 9, 8, 10, 7
+--     taken, Packed, pack                          "always the most that fit", and the message
+--     Wrote, PackingCall, written, packing         answer, and buffer as the call returns
+--     prefersAggregated, ChoiceCall, choice        "Both assert forms may also be written into two lent buffers"
 -- Assumes nothing: these are definitions.
 use Prim.Native.Nat.{ℕ, suc, _+_, _*_, min}
 use mathlib.Core.Bool.{Bool, true, false, not, _&&_, _||_, cond}

@@ -1,5 +1,6 @@
 -- The reading calls (01, "Octets of a message"): "A reading call unpacks all records into lent entries. Room past them stays."
---     Found, Read     the answer, the kind and the number of entries; the answer with the lent entries as the call returns
+--     Found, ReadingCall     the answer, the kind and the number of entries; the answer with the lent entries as the call returns
+--     roomFor, delivered     whether lent room is enough, and what it holds afterwards
 --     reading         of what a message unpacks to, and lent room: 8 comes last, and a refusal leaves the room as it was
 --     readAsserts, readPairs     the two calls
 -- Assumes nothing: these are definitions.
