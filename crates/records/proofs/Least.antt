@@ -1,5 +1,5 @@
 -- Joined records take the fewest octets, for addresses of any length w.
---     groupRunSize, group-size             the octets of a run of one group
+--     group-size                           the octets of a run of one group
 --     groupCost, groupsCost, recordCost    the octets of a run of one group, of the runs by group and of a run, as costs of runs
 --     rp-cost, source-cost, joined-size    what a run costs, by its R bit, and that joined records cost what their runs cost
 --     joined-parts                         the octets of two lists of entries, joined apart and joined together, from which
@@ -9,10 +9,10 @@
 --     least                                no records that stand for the same entries take fewer octets
 --     one-entry                            one entry takes at most an RP aggregated record with one source
 -- Assumes nothing.
-use Prim.Native.Nat.{ℕ, zero, suc, _+_, _*_, _≤_, min}
+use Prim.Native.Nat.{ℕ, zero, suc, _+_, _*_, _≤_}
 use native.Mathlib.Omega.{arith}
 use mathlib.Core.Path.{_≡_, refl, sym, _∙_}
-use mathlib.Core.Bool.{Bool, true, false, cond, _&&_}
+use mathlib.Core.Bool.{Bool, true, false, _&&_}
 use mathlib.Core.List.{List, [], _∷_, _++_, map, map-append}
 use lib.ListN.{length, replicate, take, drop, length-append, length-map, take-append-drop}
 use lib.Seq.{take-take}
@@ -22,17 +22,13 @@ use Rattle.records.specs.Every.{Every}
 use Rattle.records.specs.Records.{AssertRecord, assert, GroupRecord, ofGroup, AggregatedRecord, ofSource, ofRp, rBit, groupEntries, allGroupEntries, entries, allEntries, Formed}
 use Rattle.records.specs.Runs.{Run, run, glue, runs}
 use Rattle.records.specs.Joining.{together, sameGroup, allZero, groupRecords, allGroupRecords, aggregated, joined}
-use Rattle.records.specs.Sizes.{groupRecordSize, groupRecordsSize, aggregatedSize, allSize}
+use Rattle.records.specs.Sizes.{groupRecordSize, groupRunSize, groupRecordsSize, aggregatedSize, allSize}
 use Rattle.records.proofs.Every.{every-map, every-of-map, every-middle}
 use Rattle.records.proofs.Runs.{Block, total, Parts, parts, runs-one}
 use Rattle.records.proofs.Joining.{Shares, together-to, to-together, together-cong, sameGroup-cong, aggregated-rp, aggregated-source, groupRecords-elim}
 use Rattle.records.proofs.Lossless.{groups-share}
 
 -- ---- group records
-
--- the octets of a run of z entries of one group, by whether all its sources are 0
-unfoldable pub groupRunSize : ℕ → Bool → ℕ → ℕ
-groupRunSize w zeros z = cond zeros (min (z * groupRecordSize w 0) (groupRecordSize w z)) (groupRecordSize w z)
 
 group-run-parts : (w y z : ℕ) (s t : Bool) → Parts (w + 8) (groupRunSize w s y) (groupRunSize w t z) (groupRunSize w (s && t) (y + z))
 unfolding groupRunSize

@@ -4,6 +4,7 @@
 --     Block, runs-block           the elements of a run all go with its first
 --     joinRun, runs-join          a block before a list becomes one run, joined to the list's first run where they go together
 --     runs-one                    a block alone is one run
+--     runs-first                  the first run of a list: its first element and all at the front of the rest that go with it
 --     Cut, runs-cut               the runs of two lists and of the two lists joined: at most one run is cut in two
 --     total, Parts, parts         what a cut does to the cost of one run it does to the cost of a list
 --     runs-least                  the runs cost at most what any other blocks of the same list cost
@@ -13,8 +14,9 @@ use native.Mathlib.Omega.{arith}
 use mathlib.Core.Path.{_≡_, refl, sym, ap, _∙_, transport}
 use mathlib.Core.Bool.{Bool, true, false, cond}
 use mathlib.Core.List.{List, [], _∷_, _++_, flatMap, append-nil}
+use lib.ListN.{take, drop}
 use Rattle.records.specs.Every.{Every}
-use Rattle.records.specs.Runs.{Run, run, ofRun, glue, runs}
+use Rattle.records.specs.Runs.{Run, run, ofRun, glue, runs, leading}
 
 -- ---- what the laws speak of
 
@@ -131,6 +133,17 @@ module _ {A : Type 0} (same : A → A → Bool) (cong : (a b : A) → same a b �
   pub runs-one : (a : A) (l : List A) → Block same (run a l) → runs same (a ∷ l) ≡ run a l ∷ []
   unfolding runs joinRun
   runs-one a l h = ap (λ (m : List A). runs same (a ∷ m)) (sym (append-nil l)) ∙ runs-join a l [] h
+
+  pub runs-first : (a : A) (l : List A)
+      → runs same (a ∷ l) ≡ run a (take (leading (same a) l) l) ∷ runs same (drop (leading (same a) l) l)
+  unfolding runs glue leading
+  runs-first a [] = refl
+  runs-first a (b ∷ l) = go (same a b) refl (runs-first b l)
+    where
+      go : (t : Bool) → same a b ≡ t → runs same (b ∷ l) ≡ run b (take (leading (same b) l) l) ∷ runs same (drop (leading (same b) l) l)
+          → runs same (a ∷ b ∷ l) ≡ run a (take (leading (same a) (b ∷ l)) (b ∷ l)) ∷ runs same (drop (leading (same a) (b ∷ l)) (b ∷ l))
+      go true e ih = rw (ih, e, cong a b e)
+      go false e ih = rw (e, ih, e)
 
   -- ---- the cost of runs
 

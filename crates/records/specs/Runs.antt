@@ -2,8 +2,10 @@
 --     Run            the first element of a run and those after it
 --     glue, runs     the runs of a list, by a test on two elements
 --     ofRun          the elements of a run
+--     leading        how many at the front of a list pass a test
 -- Used twice: for the records of an aggregated message and, inside an RP aggregated record, for its group records.
 -- Assumes nothing: these are definitions.
+use Prim.Native.Nat.{ℕ, suc}
 use mathlib.Core.Bool.{Bool, cond}
 use mathlib.Core.List.{List, [], _∷_}
 
@@ -21,3 +23,7 @@ glue same a (run b l ∷ rs) = cond (same a b) (run a (b ∷ l) ∷ rs) (run a [
 unfoldable pub runs : {A : Type 0} → (A → A → Bool) → List A → List (Run A)
 runs same [] = []
 runs same (a ∷ l) = glue same a (runs same l)
+
+unfoldable pub leading : {A : Type 0} → (A → Bool) → List A → ℕ
+leading p [] = 0
+leading p (a ∷ l) = cond (p a) (suc (leading p l)) 0

@@ -1,6 +1,7 @@
 -- The number of octets of each record, for addresses of w octets (01, "Octets of a message"; 4 in IPv4).
 -- Assumes nothing: these are definitions.
-use Prim.Native.Nat.{ℕ, _+_, _*_}
+use Prim.Native.Nat.{ℕ, _+_, _*_, min}
+use mathlib.Core.Bool.{Bool, cond}
 use mathlib.Core.List.{List, [], _∷_}
 use lib.ListN.{length}
 use Rattle.records.specs.Records.{GroupRecord, ofGroup, AggregatedRecord, ofSource, ofRp}
@@ -24,6 +25,10 @@ pairSize w = groupSize w + sourceSize w
 -- a group record of p sources is "12 + 6p octets"
 abbrev pub groupRecordSize : ℕ → ℕ → ℕ
 groupRecordSize w p = groupSize w + 4 + sourceSize w * p
+
+-- the octets of a run of z entries of one group, by whether all its sources are 0
+unfoldable pub groupRunSize : ℕ → Bool → ℕ → ℕ
+groupRunSize w zeros z = cond zeros (min (z * groupRecordSize w 0) (groupRecordSize w z)) (groupRecordSize w z)
 
 unfoldable pub groupRecordsSize : ℕ → List GroupRecord → ℕ
 groupRecordsSize w [] = 0
