@@ -14,7 +14,7 @@ use Rattle.format.specs.Outcome.{gives, refuses, refuseIf}
 use Rattle.format.specs.Entry.{count, whole, entriesOf, entriesAt}
 use Rattle.records.specs.Most.{most}
 use Rattle.format.specs.Family.{ipv4}
-use Rattle.format.specs.Packing.{simple, aggregated, readLimit, packing, asked, firstBad, packDue, pack, taken, written, wrote}
+use Rattle.format.specs.Packing.{octetsOf, tookOf, simple, aggregated, readLimit, packing, asked, firstBad, packDue, pack, taken, written, wrote}
 use Rattle.format.specs.Train.{takenBy, messageOf, calls, messagesOf}
 use Rattle.cases.specs.Computed.{computed}
 use Rattle.cases.specs.Marked.{AssertForm, Right, marked, flows, shared}
@@ -22,7 +22,7 @@ use Rattle.cases.specs.Marked.{AssertForm, Right, marked, flows, shared}
 -- a call at the end of the list is refused with 8, or takes 0 and writes nothing
 at-end : (F : AssertForm) → F .atMost 0 ≡ 0 → (limit l : ℕ) → readLimit ipv4 limit ≡ gives l → (d : List ℕ)
     → packing F [] 0 limit d .answer ≡ cond (ltb (length d) l) (refuses 8 0) (gives (wrote 0 0))
-unfolding packing asked Outcome._>>=_ Outcome._>>_ refuseIf count whole entriesOf entriesAt firstBad packDue pack taken most written
+unfolding packing asked Outcome._>>=_ Outcome._>>_ refuseIf count whole entriesOf entriesAt firstBad packDue pack octetsOf tookOf taken most written
 at-end F none limit l e d = go (ltb (length d) l) refl
   where
     go : (b : Bool) → ltb (length d) l ≡ b → packing F [] 0 limit d .answer ≡ cond (ltb (length d) l) (refuses 8 0) (gives (wrote 0 0))

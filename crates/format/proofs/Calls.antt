@@ -27,7 +27,7 @@ use Rattle.format.specs.Family.{Family}
 use Rattle.format.specs.Header.{longest}
 use Rattle.format.specs.Entry.{Entries, count, whole, entriesOf}
 use Rattle.format.proofs.Outcomes.{no-refusal, gives-same, bind-gives, then-gives, unless-gives}
-use Rattle.format.specs.Packing.{usualLimit, leastLimit, readLimit, Form, canonical, firstBad, Due, due, asked, taken, packed, pack, wrote, written, packDue, packing}
+use Rattle.format.specs.Packing.{usualLimit, leastLimit, readLimit, Form, canonical, firstBad, Due, due, asked, taken, packed, octetsOf, tookOf, pack, wrote, written, packDue, packing}
 
 pub record Asked (E : Entries) (o : List ℕ) (start limit room l : ℕ) : Type 0 where
   pub limitRead : readLimit (E .family) limit ≡ gives l
@@ -123,7 +123,7 @@ module _ {E : Entries} (F : Form E) (l : ℕ) (es : List (E .Entry)) where
 pub packing-gives : {E : Entries} (F : Form E) (o : List ℕ) (start limit l : ℕ) (d m : List ℕ) (n : ℕ) → Asked E o start limit (length d) l
     → pack F l (drop start (entriesOf E o)) ≡ packed m n
     → packing F o start limit d ≡ record { answer = gives (wrote (length m) n); buffer = put d 0 m }
-unfolding packing packDue written Outcome._>>=_
+unfolding packing packDue written octetsOf tookOf Outcome._>>=_
 packing-gives {E} F o start limit l d m n h e = rw (asked-gives E o start limit (length d) l h, e)
 
 -- a call whose buffer is below the limit

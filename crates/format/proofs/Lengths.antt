@@ -1,4 +1,5 @@
 -- What is written is octets, and as many as the sizes of the records say.
+--     each-append                                                                the octets of two lists of things
 --     length-each, length-assert, length-pair, length-aggregated, length-all     lengths
 --     octets-each, octets-assert, octets-pair, octets-aggregated                 every element is below 256
 -- Assumes nothing.
@@ -6,7 +7,7 @@ use Prim.Native.Nat.{ℕ, _*_, _<_}
 use native.Mathlib.Nat.{mul-suc}
 use native.Mathlib.Omega.{arith}
 use mathlib.Core.Path.{_≡_, refl, _∙_}
-use mathlib.Core.List.{List, [], _∷_, _++_}
+use mathlib.Core.List.{List, [], _∷_, _++_, append-assoc}
 use lib.ListN.{length, length-append}
 use lib.Dec.{lit<}
 use Rattle.octets.specs.Octets.{Octets, be}
@@ -17,6 +18,11 @@ use Rattle.format.specs.Family.{Family, Lawful}
 use Rattle.format.specs.Address.{groupOctets, sourceOctets}
 use Rattle.format.specs.Body.{zeros}
 use Rattle.format.specs.Record.{each, assertOctets, pairOctets, groupRecordOctets, aggregatedOctets, reserved2}
+
+pub each-append : {A : Type 0} (octetsOf : A → List ℕ) (a b : List A) → each octetsOf (a ++ b) ≡ each octetsOf a ++ each octetsOf b
+unfolding each
+each-append octetsOf [] b = refl
+each-append octetsOf (x ∷ a) b = rw (each-append octetsOf a b, append-assoc)
 
 -- ---- lengths
 

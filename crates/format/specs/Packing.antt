@@ -4,7 +4,7 @@
 --     plain, simple, aggregated, nullRegister, registerStop     the five kinds
 --     canonical                                    the one message of entries
 --     firstBad, Due, asked                         what a call refuses, in the order 9, 8, 10, 7
---     taken, Packed, pack                          "always the most that fit", and the message
+--     taken, Packed, octetsOf, tookOf, pack        "always the most that fit", and the message
 --     Wrote, PackingCall, written, packing         answer, and buffer as the call returns
 --     prefersAggregated, ChoiceCall, choice        "Both assert forms may also be written into two lent buffers"
 -- Assumes nothing: these are definitions.
@@ -99,6 +99,12 @@ taken F l es = most (λ n. leb (length (canonical F (take n es))) l) (F .atMost 
 pub data Packed : Type 0 where
   packed : List ℕ → ℕ → Packed
 
+unfoldable pub octetsOf : Packed → List ℕ
+octetsOf (packed m n) = m
+
+unfoldable pub tookOf : Packed → ℕ
+tookOf (packed m n) = n
+
 -- "At the end of the list it takes 0, length 0, and writes nothing"
 unfoldable pub pack : {E : Entries} → Form E → ℕ → List (E .Entry) → Packed
 pack F l es = let n = taken F l es in packed (cond (eqb n 0) [] (canonical F (take n es))) n
@@ -115,7 +121,7 @@ pub record PackingCall : Type 0 where
   pub buffer : List ℕ
 
 unfoldable pub written : List ℕ → Outcome Packed → PackingCall
-written d (gives (packed m n)) = record { answer = gives (wrote (length m) n); buffer = put d 0 m }
+written d (gives p) = record { answer = gives (wrote (length (octetsOf p)) (tookOf p)); buffer = put d 0 (octetsOf p) }
 written d (refuses n p) = record { answer = refuses n p; buffer = d }
 
 unfoldable pub packDue : {E : Entries} → Form E → Due (E .Entry) → Packed
@@ -131,7 +137,7 @@ packing {E} F o start limit d = written d do
 -- "the one that took more entries, then the shorter, then the simple": whether the aggregated one is handed back, of the simple
 -- one and the aggregated one
 unfoldable pub prefersAggregated : Packed → Packed → Bool
-prefersAggregated (packed s m) (packed a n) = ltb m n || (eqb m n && ltb (length a) (length s))
+prefersAggregated s a = ltb (tookOf s) (tookOf a) || (eqb (tookOf s) (tookOf a) && ltb (length (octetsOf a)) (length (octetsOf s)))
 
 -- whether the aggregated one is handed back, and its length and taken
 pub data Chosen : Type 0 where
@@ -146,10 +152,7 @@ pub record ChoiceCall : Type 0 where
   pub aggregatedBuffer : List ℕ
 
 unfoldable pub chosenOf : Bool → Packed → Chosen
-chosenOf b (packed m n) = chosen b (length m) n
-
-unfoldable pub octetsOf : Packed → List ℕ
-octetsOf (packed m n) = m
+chosenOf b p = chosen b (length (octetsOf p)) (tookOf p)
 
 unfoldable pub bothWritten : List ℕ → List ℕ → Packed → Packed → ChoiceCall
 bothWritten ds da s a =

@@ -5,10 +5,10 @@
 --     be-suc, length-be, be-above                           the octets of a number: by the first, how many, and that what stands above them does not show
 --     value-be, value-be-mod, be-value                      both ways: from a number and back, of any number the rest, from octets and back
 --     put-nil, length-put, octets-put                       a write of nothing; a write keeps the length, and a list of octets
---     put-put, put-next                                     two writes in a row are one; the same for two calls, by what each promised
+--     put-put, put-next, put-before                         two writes in a row are one; the same for two calls, by what each promised, in either order
 --     take-put, drop-put, take-put-end, drop-put-end        what stands up to the end of a write and past it: at the start, and at any place
 --     part-put, field-put                                   what was written is read back: octets, and a field
---     stores-put, taken-be                                  stores one by one are a write; the octets as code takes them are those of the number
+--     stores-put, lows-be, taken-be                         stores one by one are a write; the octets as code takes them are those of the number
 --     field-got, field-short, write-next, write-full        what a reader or a writer answers, by the test that its code made
 --     field-back, field-lt, write-back, length-fitted       what a caller learns from an answer
 -- Assumes nothing.
@@ -23,7 +23,7 @@ use lib.Arith.{digits-lt, digits-div, mod-mul}
 use lib.Dec.{leb, lit<}
 use lib.Pow.{pow-add}
 use lib.ListN.{length, getD, set, take, drop, length-append, length-take, length-drop, take-append-drop, drop-of-length-le}
-use lib.Seq.{sets, sets-eq, take-all, take-at, drop-at, drop-cons, drop-drop, getD-drop, length-take-le}
+use lib.Seq.{sets, sets-eq, take-all, take-at, take-take, take-append-le, drop-at, drop-cons, drop-drop, getD-drop, length-take-le}
 use borrow.Author.Tests.{le-leb, lt-leb, leb-true}
 use Rattle.octets.specs.Octets.{Octets, value, be, put}
 use Rattle.octets.specs.Field.{fieldAt, writtenAt, fitted}
@@ -181,6 +181,13 @@ put-put d at e f =
 pub put-next : (l : List ℕ) (at : ℕ) (e f : List ℕ) {m n : List ℕ} {k : ℕ} → m ≡ put l at e → n ≡ put m k f → k ≡ at + length e → n ≡ put l at (e ++ f)
 put-next l at e f p q r = q ∙ rw (p, r) (put-put l at e f)
 
+-- octets before those that stand where they end
+pub put-before : (l : List ℕ) (at : ℕ) (e f : List ℕ) {m n : List ℕ} {k : ℕ} → m ≡ put l k f → n ≡ put m at e → k ≡ at + length e → k ≤ length l → n ≡ put l at (e ++ f)
+put-before l at e f p q r h =
+    let far : at + length e ≤ length l = omega (arith, r, h) in
+    q ∙ rw (p, r, put-eq (put l (at + length e) f) at e, put-eq l (at + length e) f, put-eq l at (e ++ f))
+    (rw (drop-at (take (at + length e) l) (f ++ drop (at + length e + length f) l) (at + length e) (length-take-le (at + length e) l far), take-append-le at (take (at + length e) l) (f ++ drop (at + length e + length f) l) (simp length-take (omega arith)), take-take at (at + length e) l (omega arith), append-assoc, length-append, add-assoc) refl)
+
 pub octets-put : (d : List ℕ) (at : ℕ) (e : List ℕ) → Octets d → Octets e → Octets (put d at e)
 unfolding put
 octets-put d at e hd he = octets-append (take at d) (e ++ drop (at + length e) d) (octets-take at d hd) (octets-append e (drop (at + length e) d) he (octets-drop (at + length e) d hd))
@@ -232,7 +239,7 @@ taken zero n = []
 taken (suc zero) n = n ∷ []
 taken (suc (suc k)) n = n / 256 ^ suc k ∷ lows (suc k) n
 
-lows-be : (k n : ℕ) → lows k n ≡ be k n
+pub lows-be : (k n : ℕ) → lows k n ≡ be k n
 unfolding be
 lows-be zero n = refl
 lows-be (suc zero) n = rw div-one

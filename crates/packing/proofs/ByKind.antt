@@ -6,7 +6,8 @@
 --     record-sized                   a record is 6 octets longer than its entry
 --     kind-is, most-is               a form is of its kind, and takes no more than there is
 --     front-long, front-short, head-range     the beginning of a message, with Zero and Reserved or without
---     plain-fixed, simple-fixed, null-fixed, stop-fixed     four kinds whose records have one length
+--     plain-packs, simple-packs, aggregated-packs, null-packs, stop-packs     the five kinds that are packed
+--     aggregated-is, each-record     the one kind with records of runs; the others have one for each entry
 -- Assumes nothing.
 use Prim.Native.Nat.{ℕ, _+_, _≤_}
 use native.Mathlib.Omega.{arith}
@@ -16,13 +17,13 @@ use mathlib.Core.List.{List, [], _++_, append-assoc}
 use lib.ListN.{length}
 use Rattle.octets.specs.Octets.{be}
 use Rattle.format.specs.Family.{ipv4, mayBeSource}
-use Rattle.format.specs.Body.{zeros, plainBody, simpleBody, pairBody}
+use Rattle.format.specs.Body.{zeros, plainBody, simpleBody, aggregatedBody, pairBody}
 use Rattle.format.specs.Entry.{numberAt, assertAt, allowedAssert, pairAt, allowedPair}
-use Rattle.format.specs.Record.{assertOctets, pairOctets}
+use Rattle.format.specs.Record.{each, assertOctets, pairOctets}
 use Rattle.format.specs.declared.Kind.{Kind}
 use Rattle.format.specs.declared.Kind.the-variants.{Hello, Assert, Simple, Aggregated, NullRegister, RegisterStop}
 use Rattle.format.proofs.Lengths.{length-assert, length-pair}
-use Rattle.packing.specs.Kinds.{entriesFor, formFor, zeroFor, recordSize, recordOctets, frontOf, headSize, FixedLength}
+use Rattle.packing.specs.Kinds.{entriesFor, formFor, zeroFor, recordSize, recordOctets, isAggregated, recordsFor, frontOf, headSize, Packs}
 
 pub size-range : (k : Kind) → (8 ≤ entriesFor k .size) × (entriesFor k .size ≤ 16)
 size-range Hello = (omega arith, omega arith)
@@ -133,18 +134,42 @@ head-range Aggregated = omega arith
 head-range NullRegister = omega arith
 head-range RegisterStop = omega arith
 
-pub plain-fixed : FixedLength Assert
-unfolding plainBody recordOctets
-plain-fixed = record { body = λ es. refl }
+pub plain-packs : Packs Assert
+unfolding plainBody recordOctets recordsFor
+plain-packs = record { body = λ es. refl }
 
-pub simple-fixed : FixedLength Simple
-unfolding simpleBody recordOctets
-simple-fixed = record { body = λ es. refl }
+pub simple-packs : Packs Simple
+unfolding simpleBody recordOctets recordsFor
+simple-packs = record { body = λ es. refl }
 
-pub null-fixed : FixedLength NullRegister
-unfolding pairBody recordOctets
-null-fixed = record { body = λ es. refl }
+pub aggregated-packs : Packs Aggregated
+unfolding aggregatedBody recordsFor
+aggregated-packs = record { body = λ es. refl }
 
-pub stop-fixed : FixedLength RegisterStop
-unfolding pairBody recordOctets
-stop-fixed = record { body = λ es. refl }
+pub null-packs : Packs NullRegister
+unfolding pairBody recordOctets recordsFor
+null-packs = record { body = λ es. refl }
+
+pub stop-packs : Packs RegisterStop
+unfolding pairBody recordOctets recordsFor
+stop-packs = record { body = λ es. refl }
+
+-- ---- which kind has records of runs
+
+pub aggregated-is : (k : Kind) → isAggregated k ≡ true → k ≡ Aggregated
+unfolding isAggregated
+aggregated-is Hello h = cc
+aggregated-is Assert h = cc
+aggregated-is Simple h = cc
+aggregated-is Aggregated h = refl
+aggregated-is NullRegister h = cc
+aggregated-is RegisterStop h = cc
+
+pub each-record : (k : Kind) → isAggregated k ≡ false → (es : List (entriesFor k .Entry)) → recordsFor k es ≡ each (recordOctets k) es
+unfolding isAggregated recordsFor
+each-record Hello h es = refl
+each-record Assert h es = refl
+each-record Simple h es = refl
+each-record Aggregated h es = cc
+each-record NullRegister h es = refl
+each-record RegisterStop h es = refl

@@ -4,3 +4,6 @@ pub mod ByKind
 pub mod Asks
 pub mod Fitting
 pub mod Packs
+pub mod Joins
+pub mod Aggregating
+pub mod Tallies

@@ -1,5 +1,5 @@
 -- Entries one after another, looked at one by one.
---     take-entries, drop-entries     the first of them, and those from a number on
+--     take-entries, drop-at, drop-entries     the first of them, and those from a number on
 --     Looking                        where a loop that looks for a bad entry stands: look-start, look-there, look-bad, look-next, look-end
 -- Assumes nothing.
 use Prim.Native.Nat.{ℕ, zero, suc, _+_, _-_, _*_, _≤_, _<_}
@@ -24,7 +24,7 @@ module _ (E : Entries) (o : List ℕ) where
   take-entries (suc n) zero at h = absurd (omega arith)
   take-entries (suc n) (suc m) at h = ap (λ l. E .entryAt o at ∷ l) (take-entries n m (at + E .size) (omega arith))
 
-  drop-at : (k m at : ℕ) → drop k (entriesAt E o at (k + m)) ≡ entriesAt E o (at + E .size * k) m
+  pub drop-at : (k m at : ℕ) → drop k (entriesAt E o at (k + m)) ≡ entriesAt E o (at + E .size * k) m
   unfolding entriesAt
   drop-at zero m at = rw (zero-add, mul-zero, add-zero)
   drop-at (suc k) m at =

@@ -1,7 +1,8 @@
--- What a packing call comes to, for a kind whose records have one length.
+-- What a packing call comes to.
 --     limit-refused, limit-asked     what the answer of `asked` says
---     asked-room, call-there         there is room for what begins a message, and for the records; the entries are there
---     call-refused, call-none, call-some     the call is refused, nothing is left, or a message is written
+--     asked-limits, asked-inside, asked-there     the limit that was read, and the entries from the start on
+--     call-refused, call-packs       the call is refused, or packs them
+--     most-none, most-inside, most-fits, most-some     of n entries none fit, or the message is of those that do
 -- Assumes nothing.
 use Prim.Native.Nat.{ℕ, _+_, _-_, _*_, _/_, _≤_, _<_}
 use native.Mathlib.Nat.{mul-le-mul-left, mul-add, mul-div-le}
@@ -17,19 +18,18 @@ use Rattle.format.specs.Header.{message}
 use Rattle.format.specs.Record.{each}
 use Rattle.format.specs.Entry.{Entries, count, entriesAt, entriesOf}
 use Rattle.format.specs.Family.{ipv4}
-use Rattle.format.specs.Packing.{leastLimit, usualLimit, Form, canonical, Due, due, asked, taken, wrote, PackingCall, written, packing}
+use Rattle.format.specs.Packing.{leastLimit, usualLimit, Form, canonical, Due, due, asked, taken, Packed, packed, octetsOf, tookOf, pack, wrote, written, packDue, packing}
 use Rattle.format.specs.declared.Kind.{Kind}
 use Rattle.format.specs.declared.Refusal.{Refusal}
 use Rattle.format.proofs.Outcomes.{no-refusal, gives-same}
 use Rattle.format.proofs.Entries.{length-entriesAt}
-use Rattle.format.proofs.Calls.{limit-range, Asked, gives-asked, pack-none, pack-some, packing-gives}
-use Rattle.packing.specs.Kinds.{entriesFor, formFor, recordSize, recordOctets, frontOf, headSize, FixedLength, fitting}
+use Rattle.format.proofs.Calls.{limit-range, Asked, asked-gives, gives-asked, taken-most, taken-fits, pack-none, pack-some}
+use Rattle.packing.specs.Kinds.{entriesFor, formFor}
 use Rattle.packing.specs.Answers.{limitOf, limited}
 use Rattle.packing.specs.declared.limit.Limit.{Limit}
 use Rattle.packing.specs.declared.limit.Limit.the-variants.{Is, Refused}
-use Rattle.packing.proofs.ByKind.{family-is, most-is, head-range}
+use Rattle.packing.proofs.ByKind.{family-is, most-is}
 use Rattle.packing.proofs.Listed.{take-entries, drop-entries}
-use Rattle.packing.proofs.Fitting.{canonical-fixed, length-fixed, taken-fixed}
 
 pub limit-refused : {A : Type 0} (x : Outcome (Due A)) {a : Limit} {r : Refusal} → a ≡ Refused r → limitOf a ≡ limited x → x ≡ refuses (r .number) (r .place)
 unfolding limitOf limited
@@ -49,63 +49,52 @@ pub call-refused : {E : Entries} (F : Form E) (o : List ℕ) (start limit : ℕ)
 unfolding packing written Outcome._>>=_
 call-refused F o start limit d n p e = rw e
 
-same-call : {a a′ t t′ : ℕ} {b b′ : List ℕ} → a ≡ a′ → t ≡ t′ → b ≡ b′
-    → _≡_ {A = PackingCall} (record { answer = gives (wrote a t); buffer = b }) (record { answer = gives (wrote a′ t′); buffer = b′ })
-same-call p q r = rw (p, q, r)
+-- the limit that was read, and the entries from the start on are there
+module _ (k : Kind) (o : List ℕ) (start limit : ℕ) (room l : ℕ) (h : Asked (entriesFor k) o start limit room l) where
+  pub asked-limits : (38 ≤ l) × (l ≤ 65515)
+  unfolding leastLimit usualLimit
+  asked-limits =
+      let range = limit-range ipv4 limit l (rw (family-is k) at (h .limitRead)) in
+      (range .0 (omega arith), range .1)
 
--- a limit that was read leaves room for what begins a message
-pub asked-room : (k : Kind) (o : List ℕ) (start limit room l : ℕ) → Asked (entriesFor k) o start limit room l → headSize k ≤ l
-unfolding leastLimit usualLimit
-asked-room k o start limit room l h =
-    let low : 38 ≤ l = limit-range ipv4 limit l (rw (family-is k) at (h .limitRead)) .0 (omega arith) in
-    omega (arith, head-range k)
+  pub asked-inside : start ≤ length o / entriesFor k .size
+  unfolding count
+  asked-inside = h .inside
 
--- the entries that are taken are there, and their records fit
-pub call-there : (k : Kind) (o : List ℕ) (start l n : ℕ) → start ≤ length o / entriesFor k .size → headSize k ≤ l → n ≡ fitting k l (length o / entriesFor k .size - start)
-    → (entriesFor k .size * start + entriesFor k .size * n ≤ length o) × (headSize k + recordSize k * n ≤ l)
-unfolding fitting
-call-there k o start l n inside room e =
-    let few : n ≤ length o / entriesFor k .size - start = omega (arith, most-is k (length o / entriesFor k .size - start)) in
-    let entries : entriesFor k .size * (start + n) ≤ entriesFor k .size * (length o / entriesFor k .size) = mul-le-mul-left (entriesFor k .size) (omega arith) in
-    let records : recordSize k * n ≤ recordSize k * ((l - headSize k) / recordSize k) = mul-le-mul-left (recordSize k) (omega arith) in (
-      omega (arith, mul-add (entriesFor k .size) start n, mul-div-le (length o) (entriesFor k .size)),
-      omega (arith, mul-div-le (l - headSize k) (recordSize k)),
-    )
+  pub asked-there : entriesFor k .size * start + entriesFor k .size * (length o / entriesFor k .size - start) ≤ length o
+  asked-there =
+      let size = entriesFor k .size in
+      let all : start + (length o / size - start) ≡ length o / size = omega (arith, asked-inside) in
+      let parts : size * (length o / size) ≡ size * start + size * (length o / size - start) = ap (λ x. size * x) (sym all) ∙ mul-add size start (length o / size - start) in
+      omega (arith, parts, mul-div-le (length o) size)
 
-module _ (k : Kind) (fixed : FixedLength k) (o : List ℕ) (start limit l : ℕ) (d : List ℕ) (h : Asked (entriesFor k) o start limit (length d) l) where
-  room : headSize k ≤ l
-  room = asked-room k o start limit (length d) l h
+-- a call that is not refused packs the entries from the start on
+pub call-packs : (k : Kind) (o : List ℕ) (start limit l : ℕ) (d : List ℕ) (p : Packed) → Asked (entriesFor k) o start limit (length d) l
+    → p ≡ pack (formFor k) l (entriesAt (entriesFor k) o (entriesFor k .size * start) (length o / entriesFor k .size - start))
+    → packing (formFor k) o start limit d ≡ record { answer = gives (wrote (length (octetsOf p)) (tookOf p)); buffer = put d 0 (octetsOf p) }
+unfolding packing packDue written count Outcome._>>=_
+call-packs k o start limit l d p h e =
+    let left : drop start (entriesOf (entriesFor k) o) ≡ entriesAt (entriesFor k) o (entriesFor k .size * start) (length o / entriesFor k .size - start) = drop-entries (entriesFor k) o start (h .inside) in
+    rw (asked-gives (entriesFor k) o start limit (length d) l h, left, ← e)
 
-  left : ℕ
-  left = length o / entriesFor k .size - start
+-- ---- the most of n entries that fit
 
-  listed : drop start (entriesOf (entriesFor k) o) ≡ entriesAt (entriesFor k) o (entriesFor k .size * start) left
-  unfolding left count
-  listed = drop-entries (entriesFor k) o start (h .inside)
+module _ (k : Kind) (o : List ℕ) (from n l t : ℕ) (e : t ≡ taken (formFor k) l (entriesAt (entriesFor k) o from n)) where
+  pub most-none : t ≡ 0 → pack (formFor k) l (entriesAt (entriesFor k) o from n) ≡ packed [] 0
+  most-none z = pack-none (formFor k) l (entriesAt (entriesFor k) o from n) (sym e ∙ z)
 
-  takes : taken (formFor k) l (drop start (entriesOf (entriesFor k) o)) ≡ fitting k l left
-  takes =
-      taken-fixed k fixed l (drop start (entriesOf (entriesFor k) o)) room
-      ∙ ap (fitting k l) (ap length listed ∙ length-entriesAt (entriesFor k) o (entriesFor k .size * start) left)
+  pub most-inside : t ≤ n
+  most-inside =
+      let long = length-entriesAt (entriesFor k) o from n in
+      omega (arith, e, taken-most (formFor k) l (entriesAt (entriesFor k) o from n), most-is k (length (entriesAt (entriesFor k) o from n)))
 
-  pub call-none : fitting k l (length o / entriesFor k .size - start) ≡ 0 → packing (formFor k) o start limit d ≡ record { answer = gives (wrote 0 0); buffer = d }
-  unfolding left
-  call-none e =
-      packing-gives (formFor k) o start limit l d [] 0 h (pack-none (formFor k) l (drop start (entriesOf (entriesFor k) o)) (takes ∙ e))
-      ∙ same-call refl refl (put-nil d 0)
+  first-taken : take (taken (formFor k) l (entriesAt (entriesFor k) o from n)) (entriesAt (entriesFor k) o from n) ≡ entriesAt (entriesFor k) o from t
+  first-taken = rw (← e) (take-entries (entriesFor k) o t n from most-inside)
 
-  pub call-some : (n : ℕ) → n ≡ fitting k l (length o / entriesFor k .size - start) → 0 < n
-      → packing (formFor k) o start limit d
-      ≡ record { answer = gives (wrote (headSize k + recordSize k * n) n); buffer = put d 0 (message k (frontOf k ++ each (recordOctets k) (entriesAt (entriesFor k) o (entriesFor k .size * start) n))) }
-  unfolding left fitting
-  call-some n e some =
-      let es = drop start (entriesOf (entriesFor k) o) in
-      let first = entriesAt (entriesFor k) o (entriesFor k .size * start) n in
-      let few : n ≤ left = omega (arith, most-is k left) in
-      let t : taken (formFor k) l (drop start (entriesOf (entriesFor k) o)) ≡ n = takes ∙ sym e in
-      let first-taken : take (taken (formFor k) l (drop start (entriesOf (entriesFor k) o))) (drop start (entriesOf (entriesFor k) o)) ≡ entriesAt (entriesFor k) o (entriesFor k .size * start) n =
-      rw (t, listed) (take-entries (entriesFor k) o n left (entriesFor k .size * start) few) in
-      let size : length (canonical (formFor k) first) ≡ headSize k + recordSize k * n =
-      length-fixed k fixed first ∙ ap (λ m. headSize k + recordSize k * m) (length-entriesAt (entriesFor k) o (entriesFor k .size * start) n) in
-      packing-gives (formFor k) o start limit l d (canonical (formFor k) (take (taken (formFor k) l es) es)) (taken (formFor k) l es) h (pack-some (formFor k) l es (omega arith))
-      ∙ same-call (ap (λ x. length (canonical (formFor k) x)) first-taken ∙ size) t (ap (put d 0) (ap (canonical (formFor k)) first-taken ∙ canonical-fixed k fixed first))
+  pub most-fits : 0 < t → length (canonical (formFor k) (entriesAt (entriesFor k) o from t)) ≤ l
+  most-fits some = rw first-taken at (taken-fits (formFor k) l (entriesAt (entriesFor k) o from n) (rw e at some))
+
+  pub most-some : 0 < t → pack (formFor k) l (entriesAt (entriesFor k) o from n) ≡ packed (canonical (formFor k) (entriesAt (entriesFor k) o from t)) t
+  most-some some =
+      pack-some (formFor k) l (entriesAt (entriesFor k) o from n) (rw e at some)
+      ∙ ap₂ packed (ap (canonical (formFor k)) first-taken) (sym e)

@@ -1,17 +1,17 @@
 -- Octets written into a lent buffer, from entries that stand one after another.
 --     number-is, copied          a number by its octets, and those octets stored as they stand
---     put-number                 a number stored octet by octet
---     Rows                       where a loop over entries stands: rows-start, rows-there, rows-next, rows-end
+--     put-number, put-counted    a number stored octet by octet, and one of 16 bits that is followed by reserved octets
+--     Rows                       where a loop over entries stands: rows-start, rows-there, rows-next, rows-end, rows-out
 --     sealed                     a message whose checksum was 0, with its checksum
 -- Assumes nothing.
-use Prim.Native.Nat.{ℕ, zero, suc, _+_, _*_, _^_, _≤_, _<_}
-use native.Mathlib.Nat.{mul-suc}
+use Prim.Native.Nat.{ℕ, zero, suc, _+_, _*_, _/_, _%_, _^_, _≤_, _<_}
+use native.Mathlib.Nat.{mul-suc, mul-zero}
 use native.Mathlib.Omega.{arith}
 use mathlib.Core.Path.{_≡_, refl, sym, ap, _∙_}
 use mathlib.Core.List.{List, [], _∷_, _++_}
 use lib.ListN.{length, getD, take}
 use Rattle.octets.specs.Octets.{Octets, value, be, put}
-use Rattle.octets.proofs.Laws.{octetsFrom, stores, stores-put, field-got, field-back, be-value, octets-nil, octets-cons, put-nil, put-put, length-put, take-put, length-be, taken, taken-be}
+use Rattle.octets.proofs.Laws.{octetsFrom, stores, stores-put, field-got, field-back, be-value, octets-nil, octets-cons, put-nil, put-put, length-put, take-put, length-be, lows-be, taken, taken-be}
 use Rattle.checksum.specs.Sum.{checksum}
 use Rattle.format.specs.Header.{octet0, octet1, message}
 use Rattle.format.specs.Record.{each}
@@ -36,6 +36,10 @@ copied o d at out octet there room =
 pub put-number : (k : ℕ) (d : List ℕ) (at n : ℕ) → at + k ≤ length d → n < 256 ^ k → stores d at 0 (taken k n) ≡ put d at (be k n)
 put-number k d at n h s = rw (taken-be k n s) (stores-put d at (be k n) (rw length-be h))
 
+-- a 16-bit number and two reserved octets
+pub put-counted : (d : List ℕ) (at n : ℕ) → at + 4 ≤ length d → stores d at 0 ((n / 256 % 256) ∷ (n % 256) ∷ 0 ∷ 0 ∷ []) ≡ put d at (be 2 n ++ (0 ∷ 0 ∷ []))
+put-counted d at n h = stores-put d at ((n / 256 % 256) ∷ (n % 256) ∷ 0 ∷ 0 ∷ []) h ∙ ap (λ x. put d at (x ++ (0 ∷ 0 ∷ []))) (lows-be 2 n)
+
 -- ---- entries one after another
 
 -- what is still to be written, at a place of the buffer, gives what was to be written
@@ -45,11 +49,12 @@ pub record Rows (E : Entries) (enc : E .Entry → List ℕ) (r : ℕ) (o : List 
   pub there : at + E .size * left ≤ length o
   pub room : out + r * left ≤ length d
   pub same : length d ≡ length d₀
+  pub place : out + r * left ≡ start + r * n
   pub gives : put d out (each enc (entriesAt E o at left)) ≡ put d₀ start (each enc (entriesAt E o from n))
 
 module _ (E : Entries) (enc : E .Entry → List ℕ) (r : ℕ) (o : List ℕ) (from n : ℕ) (d₀ : List ℕ) (start : ℕ) where
   pub rows-start : from + E .size * n ≤ length o → start + r * n ≤ length d₀ → Rows E enc r o from n d₀ start d₀ 0 from start
-  rows-start there room = record { left = n; count = omega arith; there = there; room = room; same = refl; gives = refl }
+  rows-start there room = record { left = n; count = omega arith; there = there; room = room; same = refl; place = refl; gives = refl }
 
 module _ {E : Entries} {enc : E .Entry → List ℕ} {r : ℕ} {o : List ℕ} {from n : ℕ} {d₀ : List ℕ} {start : ℕ} {d : List ℕ} {i at out : ℕ} (t : Rows E enc r o from n d₀ start d i at out) where
   pub rows-there : i < n → (at + E .size ≤ length o) × (out + r ≤ length d)
@@ -62,12 +67,12 @@ module _ {E : Entries} {enc : E .Entry → List ℕ} {r : ℕ} {o : List ℕ} {f
   pub rows-next : ((e : E .Entry) → length (enc e) ≡ r) → i < n → (d′ : List ℕ) (i′ at′ out′ : ℕ) → d′ ≡ put d out (enc (E .entryAt o at)) → i′ ≡ i + 1 → at′ ≡ at + E .size → out′ ≡ out + r
       → Rows E enc r o from n d₀ start d′ i′ at′ out′
   unfolding each entriesAt
-  rows-next sized h d′ i′ at′ out′ p u q s = go (t .left) (t .count) (t .there) (t .room) (t .gives)
+  rows-next sized h d′ i′ at′ out′ p u q s = go (t .left) (t .count) (t .there) (t .room) (t .place) (t .gives)
     where
-      go : (left : ℕ) → i + left ≡ n → at + E .size * left ≤ length o → out + r * left ≤ length d
+      go : (left : ℕ) → i + left ≡ n → at + E .size * left ≤ length o → out + r * left ≤ length d → out + r * left ≡ start + r * n
           → put d out (each enc (entriesAt E o at left)) ≡ put d₀ start (each enc (entriesAt E o from n)) → Rows E enc r o from n d₀ start d′ i′ at′ out′
-      go zero e a b g = absurd (omega arith)
-      go (suc left) e a b g =
+      go zero e a b l g = absurd (omega arith)
+      go (suc left) e a b l g =
           let one = enc (E .entryAt o at) in
           let size : length (enc (E .entryAt o at)) ≡ r = sized (E .entryAt o at) in
           let long : length d′ ≡ length d = ap length p ∙ length-put d out one (omega (arith, mul-suc r left)) in
@@ -77,6 +82,7 @@ module _ {E : Entries} {enc : E .Entry → List ℕ} {r : ℕ} {o : List ℕ} {f
             there = omega (arith, mul-suc (E .size) left);
             room = omega (arith, mul-suc r left);
             same = long ∙ t .same;
+            place = omega (arith, mul-suc r left);
             gives = rw (p, q, s, ← size, put-put) g;
           }
 
@@ -87,6 +93,13 @@ module _ {E : Entries} {enc : E .Entry → List ℕ} {r : ℕ} {o : List ℕ} {f
       go : (left : ℕ) → i + left ≡ n → put d out (each enc (entriesAt E o at left)) ≡ put d₀ start (each enc (entriesAt E o from n)) → d ≡ put d₀ start (each enc (entriesAt E o from n))
       go zero e g = sym (put-nil d out) ∙ g
       go (suc left) e g = absurd (omega arith)
+
+  pub rows-out : n ≤ i → out ≡ start + r * n
+  rows-out h = go (t .left) (t .count) (t .place)
+    where
+      go : (left : ℕ) → i + left ≡ n → out + r * left ≡ start + r * n → out ≡ start + r * n
+      go zero e l = omega (arith, mul-zero r)
+      go (suc left) e l = absurd (omega arith)
 
 -- ---- the checksum
 

@@ -2,9 +2,10 @@
 --     entriesFor, formFor          the entries of a kind, and its form
 --     zeroFor                      whether the source of an entry may be 0
 --     recordSize, recordOctets     the record of an entry, where records have one length
+--     isAggregated, recordsFor     the kind whose records have not, and the records of entries
 --     frontOf, headSize, beginning what comes before the records: of the body, in octets, and with the checksum as 0
---     FixedLength                  a kind whose records have one length
---     fitting                      how many entries of such a kind fit
+--     Packs                        a kind that is packed: its body is that and the records
+--     fitting                      how many entries fit where records have one length
 --     badAt                        what the first entry that is not allowed says
 -- A hello has no entries, and no call packs one. Assumes nothing: these are definitions.
 use Prim.Native.Nat.{ℕ, _+_, _-_, _/_, min}
@@ -15,10 +16,11 @@ use lib.ListN.{length}
 use lib.Dec.{ltb}
 use Rattle.octets.specs.Octets.{_&_}
 use Rattle.records.specs.Records.{rBit}
+use Rattle.records.specs.Joining.{joined}
 use Rattle.format.specs.Outcome.{Outcome, gives, refuses}
 use Rattle.format.specs.Family.{ipv4}
 use Rattle.format.specs.Header.{octet0, octet1}
-use Rattle.format.specs.Record.{each, assertOctets, pairOctets}
+use Rattle.format.specs.Record.{each, assertOctets, pairOctets, aggregatedOctets}
 use Rattle.format.specs.Body.{zeros}
 use Rattle.format.specs.Entry.{numberAt, Entries, assertEntries, pairEntries}
 use Rattle.format.specs.Packing.{Form, plain, simple, aggregated, nullRegister, registerStop}
@@ -62,6 +64,22 @@ recordOctets Aggregated = assertOctets ipv4
 recordOctets NullRegister = pairOctets ipv4
 recordOctets RegisterStop = pairOctets ipv4
 
+unfoldable pub isAggregated : Kind → Bool
+isAggregated Hello = false
+isAggregated Assert = false
+isAggregated Simple = false
+isAggregated Aggregated = true
+isAggregated NullRegister = false
+isAggregated RegisterStop = false
+
+unfoldable pub recordsFor : (k : Kind) → List (entriesFor k .Entry) → List ℕ
+recordsFor Hello es = each (recordOctets Hello) es
+recordsFor Assert es = each (recordOctets Assert) es
+recordsFor Simple es = each (recordOctets Simple) es
+recordsFor Aggregated es = each (aggregatedOctets ipv4) (joined 4 es)
+recordsFor NullRegister es = each (recordOctets NullRegister) es
+recordsFor RegisterStop es = each (recordOctets RegisterStop) es
+
 -- Zero and Reserved of a packed assert
 abbrev pub frontOf : Kind → List ℕ
 frontOf Hello = []
@@ -77,8 +95,8 @@ headSize k = 4 + length (frontOf k)
 abbrev pub beginning : Kind → List ℕ
 beginning k = octet0 k ∷ octet1 k ∷ 0 ∷ 0 ∷ frontOf k
 
-pub record FixedLength (k : Kind) : Type 0 where
-  pub body : (es : List (entriesFor k .Entry)) → formFor k .body es ≡ frontOf k & each (recordOctets k) es
+pub record Packs (k : Kind) : Type 0 where
+  pub body : (es : List (entriesFor k .Entry)) → formFor k .body es ≡ frontOf k & recordsFor k es
 
 -- as many records as there is room for past the head, and no more than there are entries
 unfoldable pub fitting : Kind → ℕ → ℕ → ℕ

@@ -1,2 +1,3 @@
 pub mod Kinds
+pub mod Aggregates
 pub mod Answers

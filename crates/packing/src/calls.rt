@@ -1,16 +1,21 @@
-// The four packing calls: how many entries fit is arithmetic, since every record has one length.
+// The five packing calls, by one function over the kind: how many entries fit, then the message of these.
 use crate::entry::entry_size;
 use crate::limit::Limit;
 use crate::limit::asked;
 use crate::message::head_size;
+use crate::message::is_aggregated;
 use crate::message::write_message;
+use crate::tally::how_many_fit;
 use format::Kind;
 use format::Refusal;
 ghost use mathlib.Core.Path.{_≡_};
-ghost use Prim.Native.Nat.{_≤_};
+ghost use Prim.Native.Nat.{_+_, _*_, _≤_};
+ghost use lib.ListN.{length};
+ghost use Rattle.octets.specs.Octets.{put};
 ghost use Rattle.format.specs.Family.{ipv4};
-ghost use Rattle.format.specs.Packing.{plain, simple, nullRegister, registerStop, packing};
-ghost use Rattle.packing.specs.Kinds.{formFor, headSize, fitting, FixedLength};
+ghost use Rattle.format.specs.Entry.{entriesAt};
+ghost use Rattle.format.specs.Packing.{plain, simple, aggregated, nullRegister, registerStop, taken, octetsOf, tookOf, pack, packing};
+ghost use Rattle.packing.specs.Kinds.{entriesFor, formFor, headSize, fitting, Packs};
 ghost use Rattle.packing.specs.Answers.{packed};
 
 // What a packing call did.
@@ -18,6 +23,12 @@ pub enum Packing {
     // One message of so many octets, of so many entries.
     Wrote { length: usize, taken: usize },
     Refused(Refusal),
+}
+
+// A message of so many octets, of so many entries; of none, no message.
+pub struct Written {
+    pub length: usize,
+    pub taken: usize,
 }
 
 // Of n entries, how many one message may take.
@@ -39,8 +50,8 @@ fn at_most(kind: Kind, n: usize) -> usize
     }
 }
 
-// How many of n entries the message takes: the most that fit.
-fn how_many(kind: Kind, limit: usize, n: usize) -> usize
+// How many of n entries fit, where every record has one length.
+fn how_many_fixed(kind: Kind, limit: usize, n: usize) -> usize
     requires { ⌜ headSize kind ≤ limit ⌝ }
     ensures { λ r. ⌜ r ≡ fitting kind limit n ⌝ }
 {
@@ -52,9 +63,41 @@ fn how_many(kind: Kind, limit: usize, n: usize) -> usize
     most
 }
 
-// Packs a message of a kind whose records have one length.
-fn pack_fixed(kind: Kind, e: &[u8], start: usize, limit: usize, d: &mut [u8]) -> Packing
-    requires { ⌜ FixedLength kind ⌝ }
+// How many of n entries the message takes: the most that fit.
+fn how_many(kind: Kind, e: &[u8], from: usize, n: usize, limit: usize) -> usize
+    requires { ⌜ Packs kind × (from + entriesFor kind .size * n ≤ length (now e)) × (38 ≤ limit) × (limit ≤ 65515) ⌝ }
+    ensures { λ r. ⌜ r ≡ taken (formFor kind) limit (entriesAt (entriesFor kind) (now (e .entry)) from n) ⌝ }
+{
+    if is_aggregated(kind) {
+        return how_many_fit(e, from, n, limit);
+    }
+    how_many_fixed(kind, limit, n)
+}
+
+// The message of the most of n entries that fit, if there are any.
+pub(crate) fn pack_most(
+    kind: Kind,
+    e: &[u8],
+    from: usize,
+    n: usize,
+    limit: usize,
+    d: &mut [u8],
+) -> Written
+    requires { ⌜ Packs kind × (from + entriesFor kind .size * n ≤ length (now e)) × (38 ≤ limit) × (limit ≤ 65515) × (limit ≤ length (now d)) ⌝ }
+    ensures answer { λ r. ⌜ (r .length ≡ length (octetsOf (pack (formFor kind) limit (entriesAt (entriesFor kind) (now (e .entry)) from n)))) × (r .taken ≡ tookOf (pack (formFor kind) limit (entriesAt (entriesFor kind) (now (e .entry)) from n))) ⌝ }
+    ensures buffer { λ r. ⌜ now (d .exit) ≡ put (now (d .entry)) 0 (octetsOf (pack (formFor kind) limit (entriesAt (entriesFor kind) (now (e .entry)) from n))) ⌝ }
+{
+    let taken = how_many(kind, e, from, n, limit);
+    if taken == 0 {
+        return Written { length: 0, taken };
+    }
+    let length = write_message(kind, e, from, taken, d);
+    Written { length, taken }
+}
+
+// Packs a message of a kind.
+fn pack(kind: Kind, e: &[u8], start: usize, limit: usize, d: &mut [u8]) -> Packing
+    requires { ⌜ Packs kind ⌝ }
     ensures answer { λ r. ⌜ packed r ≡ packing (formFor kind) (now (e .entry)) start limit (now (d .entry)) .answer ⌝ }
     ensures buffer { λ r. ⌜ now (d .exit) ≡ packing (formFor kind) (now (e .entry)) start limit (now (d .entry)) .buffer ⌝ }
 {
@@ -63,15 +106,11 @@ fn pack_fixed(kind: Kind, e: &[u8], start: usize, limit: usize, d: &mut [u8]) ->
         Limit::Refused(r) => Packing::Refused(r),
         Limit::Is(l) => {
             let size = entry_size(kind);
-            let n = how_many(kind, l, e.len() / size - start);
-            if n == 0 {
-                return Packing::Wrote {
-                    length: 0,
-                    taken: 0,
-                };
+            let w = pack_most(kind, e, size * start, e.len() / size - start, l, d);
+            Packing::Wrote {
+                length: w.length,
+                taken: w.taken,
             }
-            let length = write_message(kind, e, size * start, n, d);
-            Packing::Wrote { length, taken: n }
         }
     }
 }
@@ -81,7 +120,7 @@ pub fn pack_assert(e: &[u8], start: usize, limit: usize, d: &mut [u8]) -> Packin
     ensures answer { λ r. ⌜ packed r ≡ packing (plain ipv4) (now (e .entry)) start limit (now (d .entry)) .answer ⌝ }
     ensures buffer { λ r. ⌜ now (d .exit) ≡ packing (plain ipv4) (now (e .entry)) start limit (now (d .entry)) .buffer ⌝ }
 {
-    pack_fixed(Kind::Assert, e, start, limit, d)
+    pack(Kind::Assert, e, start, limit, d)
 }
 
 // A packed simple assert.
@@ -89,7 +128,15 @@ pub fn pack_simple(e: &[u8], start: usize, limit: usize, d: &mut [u8]) -> Packin
     ensures answer { λ r. ⌜ packed r ≡ packing (simple ipv4) (now (e .entry)) start limit (now (d .entry)) .answer ⌝ }
     ensures buffer { λ r. ⌜ now (d .exit) ≡ packing (simple ipv4) (now (e .entry)) start limit (now (d .entry)) .buffer ⌝ }
 {
-    pack_fixed(Kind::Simple, e, start, limit, d)
+    pack(Kind::Simple, e, start, limit, d)
+}
+
+// A packed aggregated assert.
+pub fn pack_aggregated(e: &[u8], start: usize, limit: usize, d: &mut [u8]) -> Packing
+    ensures answer { λ r. ⌜ packed r ≡ packing (aggregated ipv4) (now (e .entry)) start limit (now (d .entry)) .answer ⌝ }
+    ensures buffer { λ r. ⌜ now (d .exit) ≡ packing (aggregated ipv4) (now (e .entry)) start limit (now (d .entry)) .buffer ⌝ }
+{
+    pack(Kind::Aggregated, e, start, limit, d)
 }
 
 // A packed null-register.
@@ -97,7 +144,7 @@ pub fn pack_null_register(e: &[u8], start: usize, limit: usize, d: &mut [u8]) ->
     ensures answer { λ r. ⌜ packed r ≡ packing (nullRegister ipv4) (now (e .entry)) start limit (now (d .entry)) .answer ⌝ }
     ensures buffer { λ r. ⌜ now (d .exit) ≡ packing (nullRegister ipv4) (now (e .entry)) start limit (now (d .entry)) .buffer ⌝ }
 {
-    pack_fixed(Kind::NullRegister, e, start, limit, d)
+    pack(Kind::NullRegister, e, start, limit, d)
 }
 
 // A packed register-stop.
@@ -105,5 +152,5 @@ pub fn pack_register_stop(e: &[u8], start: usize, limit: usize, d: &mut [u8]) ->
     ensures answer { λ r. ⌜ packed r ≡ packing (registerStop ipv4) (now (e .entry)) start limit (now (d .entry)) .answer ⌝ }
     ensures buffer { λ r. ⌜ now (d .exit) ≡ packing (registerStop ipv4) (now (e .entry)) start limit (now (d .entry)) .buffer ⌝ }
 {
-    pack_fixed(Kind::RegisterStop, e, start, limit, d)
+    pack(Kind::RegisterStop, e, start, limit, d)
 }

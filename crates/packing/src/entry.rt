@@ -35,7 +35,7 @@ fn wide(x: u8) -> u32
 }
 
 // The number in four octets.
-fn number32(e: &[u8], at: usize) -> u32
+pub(crate) fn number32(e: &[u8], at: usize) -> u32
     requires { ⌜ at + 4 ≤ length (now e) ⌝ }
     ensures { λ r. ⌜ r ≡ numberAt 4 (now (e .entry)) at ⌝ }
 {
@@ -43,7 +43,7 @@ fn number32(e: &[u8], at: usize) -> u32
 }
 
 // R is the highest bit of its word.
-fn r_bit(e: &[u8], at: usize) -> bool
+pub(crate) fn r_bit(e: &[u8], at: usize) -> bool
     requires { ⌜ at + 4 ≤ length (now e) ⌝ }
     ensures { λ r. ⌜ r ≡ rBit (numberAt 4 (now (e .entry)) at) ⌝ }
 {

@@ -6,13 +6,17 @@
 // record.rt      records written from entries
 // message.rt     a whole message: what begins it, the records, the checksum
 // calls.rt       how many entries fit, and the four calls
+mod aggregate;
 mod calls;
 mod entry;
 mod limit;
 mod message;
 mod record;
+mod run;
+mod tally;
 
 pub use calls::Packing;
+pub use calls::pack_aggregated;
 pub use calls::pack_assert;
 pub use calls::pack_null_register;
 pub use calls::pack_register_stop;

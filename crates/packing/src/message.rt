@@ -1,17 +1,17 @@
 // A whole message in place: what begins it, with the checksum as 0, the records, and the checksum last.
-use crate::entry::entry_size;
+use crate::aggregate::put_all;
 use crate::record::put_records;
 use format::Kind;
 ghost use mathlib.Core.Path.{_≡_};
 ghost use mathlib.Core.List.{[], _∷_};
 ghost use Prim.Native.Nat.{_+_, _*_, _≤_};
 ghost use lib.ListN.{length, take};
-ghost use Rattle.octets.specs.Octets.{put, be, _&_};
+ghost use Rattle.octets.specs.Octets.{put, be};
 ghost use Rattle.checksum.specs.Sum.{checksum as checksumOf};
-ghost use Rattle.format.specs.Header.{octet0 as octet0Of, octet1 as octet1Of, message};
+ghost use Rattle.format.specs.Header.{octet0 as octet0Of, octet1 as octet1Of};
 ghost use Rattle.format.specs.Entry.{entriesAt};
-ghost use Rattle.format.specs.Record.{each};
-ghost use Rattle.packing.specs.Kinds.{entriesFor, recordOctets, recordSize, frontOf, headSize, beginning};
+ghost use Rattle.format.specs.Packing.{canonical};
+ghost use Rattle.packing.specs.Kinds.{entriesFor, formFor, isAggregated, recordsFor, headSize, beginning, Packs};
 
 // Version 2 and the type.
 fn octet0(kind: Kind) -> u8
@@ -93,15 +93,40 @@ fn seal(d: &mut [u8], n: usize)
     d[3] = (c % 256) as u8;
 }
 
+// Whether records are those of runs of entries, and not one for each entry.
+pub(crate) fn is_aggregated(kind: Kind) -> bool
+    ensures { λ r. ⌜ r ≡ isAggregated kind ⌝ }
+{
+    match kind {
+        Kind::Hello => false,
+        Kind::Assert => false,
+        Kind::Simple => false,
+        Kind::Aggregated => true,
+        Kind::NullRegister => false,
+        Kind::RegisterStop => false,
+    }
+}
+
+// The records of n entries, and the place past them.
+fn put_body(kind: Kind, e: &[u8], from: usize, n: usize, d: &mut [u8], out: usize) -> usize
+    requires { ⌜ (from + entriesFor kind .size * n ≤ length (now e)) × (out + length (recordsFor kind (entriesAt (entriesFor kind) (now e) from n)) ≤ length (now d)) ⌝ }
+    ensures next { λ r. ⌜ r ≡ out + length (recordsFor kind (entriesAt (entriesFor kind) (now (e .entry)) from n)) ⌝ }
+    ensures buffer { λ r. ⌜ now (d .exit) ≡ put (now (d .entry)) out (recordsFor kind (entriesAt (entriesFor kind) (now (e .entry)) from n)) ⌝ }
+{
+    if is_aggregated(kind) {
+        return put_all(e, from, n, d, out);
+    }
+    put_records(kind, e, from, n, d, out)
+}
+
 // The message of n entries, and its length.
 pub(crate) fn write_message(kind: Kind, e: &[u8], from: usize, n: usize, d: &mut [u8]) -> usize
-    requires { ⌜ (from + entriesFor kind .size * n ≤ length (now e)) × (headSize kind + recordSize kind * n ≤ length (now d)) ⌝ }
-    ensures size { λ r. ⌜ r ≡ headSize kind + recordSize kind * n ⌝ }
-    ensures buffer { λ r. ⌜ now (d .exit) ≡ put (now (d .entry)) 0 (message kind (frontOf kind & each (recordOctets kind) (entriesAt (entriesFor kind) (now (e .entry)) from n))) ⌝ }
+    requires { ⌜ Packs kind × (from + entriesFor kind .size * n ≤ length (now e)) × (length (canonical (formFor kind) (entriesAt (entriesFor kind) (now e) from n)) ≤ length (now d)) ⌝ }
+    ensures size { λ r. ⌜ r ≡ length (canonical (formFor kind) (entriesAt (entriesFor kind) (now (e .entry)) from n)) ⌝ }
+    ensures buffer { λ r. ⌜ now (d .exit) ≡ put (now (d .entry)) 0 (canonical (formFor kind) (entriesAt (entriesFor kind) (now (e .entry)) from n)) ⌝ }
 {
     let head = begin(kind, d);
-    put_records(kind, e, from, n, d, head);
-    let size = head + (entry_size(kind) + 6) * n;
+    let size = put_body(kind, e, from, n, d, head);
     seal(d, size);
     size
 }

@@ -5,7 +5,7 @@ use format::Kind;
 ghost use mathlib.Core.Path.{_≡_};
 ghost use Prim.Native.Nat.{_+_, _*_, _≤_};
 ghost use lib.ListN.{length};
-ghost use Rattle.octets.specs.Octets.{put, be};
+ghost use Rattle.octets.specs.Octets.{put, be, _&_};
 ghost use Rattle.format.specs.Family.{ipv4};
 ghost use Rattle.format.specs.Address.{groupOctets, sourceOctets};
 ghost use Rattle.format.specs.Entry.{numberAt, pairAt, entriesAt};
@@ -24,7 +24,7 @@ fn copy4(e: &[u8], at: usize, d: &mut [u8], out: usize)
 }
 
 // A group: 01, 00, flags 0, mask length 32, address.
-fn put_group(e: &[u8], at: usize, d: &mut [u8], out: usize)
+pub(crate) fn put_group(e: &[u8], at: usize, d: &mut [u8], out: usize)
     requires { ⌜ (at + 4 ≤ length (now e)) × (out + 8 ≤ length (now d)) ⌝ }
     ensures { λ r. ⌜ now (d .exit) ≡ put (now (d .entry)) out (groupOctets ipv4 (numberAt 4 (now (e .entry)) at)) ⌝ }
 {
@@ -36,7 +36,7 @@ fn put_group(e: &[u8], at: usize, d: &mut [u8], out: usize)
 }
 
 // A source: 01, 00, address.
-fn put_source(e: &[u8], at: usize, d: &mut [u8], out: usize)
+pub(crate) fn put_source(e: &[u8], at: usize, d: &mut [u8], out: usize)
     requires { ⌜ (at + 4 ≤ length (now e)) × (out + 6 ≤ length (now d)) ⌝ }
     ensures { λ r. ⌜ now (d .exit) ≡ put (now (d .entry)) out (sourceOctets ipv4 (numberAt 4 (now (e .entry)) at)) ⌝ }
 {
@@ -54,6 +54,15 @@ fn put_pair(e: &[u8], at: usize, d: &mut [u8], out: usize)
     put_source(e, at + 4, d, out + 8);
 }
 
+// R with preference and metric of an assert entry.
+pub(crate) fn put_metric(e: &[u8], at: usize, d: &mut [u8], out: usize)
+    requires { ⌜ (at + 16 ≤ length (now e)) × (out + 8 ≤ length (now d)) ⌝ }
+    ensures { λ r. ⌜ now (d .exit) ≡ put (now (d .entry)) out (be 4 (numberAt 4 (now (e .entry)) (at + 8)) & be 4 (numberAt 4 (now (e .entry)) (at + 12))) ⌝ }
+{
+    copy4(e, at + 8, d, out);
+    copy4(e, at + 12, d, out + 4);
+}
+
 // A record; the 16 octets of an assert entry go on with R, preference and metric.
 fn put_record(kind: Kind, e: &[u8], at: usize, d: &mut [u8], out: usize)
     requires { ⌜ (at + entriesFor kind .size ≤ length (now e)) × (out + recordSize kind ≤ length (now d)) ⌝ }
@@ -61,15 +70,22 @@ fn put_record(kind: Kind, e: &[u8], at: usize, d: &mut [u8], out: usize)
 {
     put_pair(e, at, d, out);
     if entry_size(kind) == 16 {
-        copy4(e, at + 8, d, out + 14);
-        copy4(e, at + 12, d, out + 18);
+        put_metric(e, at, d, out + 14);
     }
 }
 
-// The records of n entries, one after another.
-pub(crate) fn put_records(kind: Kind, e: &[u8], from: usize, n: usize, d: &mut [u8], start: usize)
+// The records of n entries, one after another. It answers the place past them.
+pub(crate) fn put_records(
+    kind: Kind,
+    e: &[u8],
+    from: usize,
+    n: usize,
+    d: &mut [u8],
+    start: usize,
+) -> usize
     requires { ⌜ (from + entriesFor kind .size * n ≤ length (now e)) × (start + recordSize kind * n ≤ length (now d)) ⌝ }
-    ensures { λ r. ⌜ now (d .exit) ≡ put (now (d .entry)) start (each (recordOctets kind) (entriesAt (entriesFor kind) (now (e .entry)) from n)) ⌝ }
+    ensures next { λ r. ⌜ r ≡ start + recordSize kind * n ⌝ }
+    ensures buffer { λ r. ⌜ now (d .exit) ≡ put (now (d .entry)) start (each (recordOctets kind) (entriesAt (entriesFor kind) (now (e .entry)) from n)) ⌝ }
 {
     let size = entry_size(kind);
     let mut i = 0;
@@ -81,4 +97,5 @@ pub(crate) fn put_records(kind: Kind, e: &[u8], from: usize, n: usize, d: &mut [
         out += size + 6;
         i += 1;
     }
+    out
 }

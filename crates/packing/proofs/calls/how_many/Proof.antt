@@ -1,51 +1,42 @@
--- `packing::calls::how_many` meets its contract: the smaller of two numbers.
+-- `packing::calls::how_many` meets its contract: an aggregated message is tallied, any other is arithmetic.
 -- Assumes nothing.
 use native.Mathlib.Omega.{arith}
+use mathlib.Core.Path.{_≡_, sym, ap, _∙_}
+use denote.Ref.{now}
+use Rattle.format.specs.Entry.{entriesAt}
+use Rattle.format.proofs.Entries.{length-entriesAt}
+use Rattle.packing.specs.Kinds.{entriesFor, fitting}
+use Rattle.packing.proofs.ByKind.{head-range, aggregated-is}
+use Rattle.packing.proofs.Fitting.{taken-fixed}
 use borrow.Author.Needs.{needs}
-use Rattle.packing.specs.Kinds.{fitting}
-use Rattle.packing.proofs.ByKind.{size-range}
 use Rattle.packing.proofs.calls.how_many.Statement.{statement}
 use Rattle.packing.proofs.calls.how_many.Tie as tie
 
-at-most-requires : tie.Need-at-most-requires
-at-most-requires c κs = search needs
+is-aggregated-requires : tie.Need-is-aggregated-requires
+is-aggregated-requires c κs = search needs
 
-head-size-requires : tie.Need-head-size-requires
-head-size-requires c κs = search needs
-
-sub-fit : tie.Need-sub-fit
-sub-fit c = search needs
-
-entry-size-requires : tie.Need-entry-size-requires
-entry-size-requires c κs = search needs
-
-add-fit : tie.Need-add-fit
-add-fit c = omega (arith, size-range (c .before .before .before .args .kind))
-
-div-fit : tie.Need-div-fit
-div-fit c = search needs
+how-many-fit-requires : tie.Need-how-many-fit-requires
+how-many-fit-requires c κs = (rw (aggregated-is (c .before .before .before .args .kind) (sym (c .before .is-aggregated .ensures) ∙ c .if1 .taken)) at (c .before .before .before .pre .1), c .before .before .before .pre .2, c .before .before .before .pre .3)
 
 returns : tie.Need-returns
-unfolding fitting
-returns c =
-    let less = rw (c .before .entry-size .ensures, c .before .before .head-size .ensures, c .before .before .before .at-most .ensures) at (c .if1 .taken) in
-    rw (c .before .entry-size .ensures, c .before .before .head-size .ensures) (omega arith)
+returns c = rw (aggregated-is (c .before .before .before .before .args .kind) (sym (c .before .before .is-aggregated .ensures) ∙ c .before .if1 .taken)) (c .how-many-fit .ensures)
+
+how-many-fixed-requires : tie.Need-how-many-fixed-requires
+how-many-fixed-requires c κs = omega (arith, head-range (c .before .before .before .args .kind), c .before .before .before .pre .2)
 
 returns-2 : tie.Need-returns-2
-unfolding fitting
 returns-2 c =
-    let less = rw (c .before .entry-size .ensures, c .before .before .head-size .ensures, c .before .before .before .at-most .ensures) at (c .if1 .left) in
-    rw (c .before .before .before .at-most .ensures) (omega arith)
+    let a = c .before .before .before .before .args in
+    let es = entriesAt (entriesFor (a .kind)) (now (a .e)) (a .from) (a .n) in
+    c .how-many-fixed .ensures
+    ∙ sym (taken-fixed (a .kind) (c .before .before .before .before .pre .0) (sym (c .before .before .is-aggregated .ensures) ∙ c .before .if1 .left) (a .limit) es (omega (arith, head-range (a .kind), c .before .before .before .before .pre .2)) ∙ ap (fitting (a .kind) (a .limit)) (length-entriesAt (entriesFor (a .kind)) (now (a .e)) (a .from) (a .n)))
 
 pub how-many-spec : {M : Type 1} → statement M
 how-many-spec =
     tie.close
     (tie.spec
-    at-most-requires
-    head-size-requires
-    sub-fit
-    entry-size-requires
-    add-fit
-    div-fit
+    is-aggregated-requires
+    how-many-fit-requires
     returns
+    how-many-fixed-requires
     returns-2)

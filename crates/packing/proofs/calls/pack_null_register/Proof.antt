@@ -1,12 +1,12 @@
--- `packing::calls::pack_null_register` meets its contract: its records have one length.
+-- `packing::calls::pack_null_register` meets its contract.
 -- Assumes nothing.
 use borrow.Author.Needs.{needs}
-use Rattle.packing.proofs.ByKind.{null-fixed}
+use Rattle.packing.proofs.ByKind.{null-packs}
 use Rattle.packing.proofs.calls.pack_null_register.Statement.{statement}
 use Rattle.packing.proofs.calls.pack_null_register.Tie as tie
 
-pack-fixed-requires : tie.Need-pack-fixed-requires
-pack-fixed-requires c κs = null-fixed
+pack-requires : tie.Need-pack-requires
+pack-requires c κs = null-packs
 
 same-length : tie.Need-same-length
 same-length c = search needs
@@ -15,4 +15,4 @@ returns : tie.Need-returns
 returns c = search needs
 
 pub pack-null-register-spec : {M : Type 1} → statement M
-pack-null-register-spec = tie.close (tie.spec pack-fixed-requires same-length returns)
+pack-null-register-spec = tie.close (tie.spec pack-requires same-length returns)

@@ -1,12 +1,12 @@
--- `packing::calls::pack_register_stop` meets its contract: its records have one length.
+-- `packing::calls::pack_register_stop` meets its contract.
 -- Assumes nothing.
 use borrow.Author.Needs.{needs}
-use Rattle.packing.proofs.ByKind.{stop-fixed}
+use Rattle.packing.proofs.ByKind.{stop-packs}
 use Rattle.packing.proofs.calls.pack_register_stop.Statement.{statement}
 use Rattle.packing.proofs.calls.pack_register_stop.Tie as tie
 
-pack-fixed-requires : tie.Need-pack-fixed-requires
-pack-fixed-requires c κs = stop-fixed
+pack-requires : tie.Need-pack-requires
+pack-requires c κs = stop-packs
 
 same-length : tie.Need-same-length
 same-length c = search needs
@@ -15,4 +15,4 @@ returns : tie.Need-returns
 returns c = search needs
 
 pub pack-register-stop-spec : {M : Type 1} → statement M
-pack-register-stop-spec = tie.close (tie.spec pack-fixed-requires same-length returns)
+pack-register-stop-spec = tie.close (tie.spec pack-requires same-length returns)

@@ -1,12 +1,12 @@
--- `packing::calls::pack_simple` meets its contract: its records have one length.
+-- `packing::calls::pack_simple` meets its contract.
 -- Assumes nothing.
 use borrow.Author.Needs.{needs}
-use Rattle.packing.proofs.ByKind.{simple-fixed}
+use Rattle.packing.proofs.ByKind.{simple-packs}
 use Rattle.packing.proofs.calls.pack_simple.Statement.{statement}
 use Rattle.packing.proofs.calls.pack_simple.Tie as tie
 
-pack-fixed-requires : tie.Need-pack-fixed-requires
-pack-fixed-requires c κs = simple-fixed
+pack-requires : tie.Need-pack-requires
+pack-requires c κs = simple-packs
 
 same-length : tie.Need-same-length
 same-length c = search needs
@@ -15,4 +15,4 @@ returns : tie.Need-returns
 returns c = search needs
 
 pub pack-simple-spec : {M : Type 1} → statement M
-pack-simple-spec = tie.close (tie.spec pack-fixed-requires same-length returns)
+pack-simple-spec = tie.close (tie.spec pack-requires same-length returns)

@@ -1,17 +1,16 @@
 -- `packing::record::put_record` meets its contract: past the pair an assert entry has eight octets more.
 -- Assumes nothing.
-use Prim.Native.Nat.{_+_}
 use native.Mathlib.Omega.{arith}
-use mathlib.Core.Path.{sym, _∙_}
 use denote.Ref.{now}
-use borrow.Author.Needs.{needs}
-use Rattle.octets.specs.Octets.{be}
-use Rattle.octets.proofs.Laws.{put-next, length-be}
+use mathlib.Core.Path.{sym, _∙_}
+use Prim.Native.Nat.{_+_}
+use Rattle.octets.proofs.Laws.{put-next}
 use Rattle.format.specs.Record.{pairOctets}
-use Rattle.format.specs.Entry.{numberAt, pairAt}
+use Rattle.format.specs.Entry.{pairAt}
 use Rattle.format.specs.Family.{ipv4}
 use Rattle.format.proofs.Lengths.{length-pair}
 use Rattle.packing.proofs.ByKind.{size-range, record-long, record-short}
+use borrow.Author.Needs.{needs}
 use Rattle.packing.proofs.record.put_record.Statement.{statement}
 use Rattle.packing.proofs.record.put_record.Tie as tie
 
@@ -21,36 +20,21 @@ put-pair-requires c κs = omega (arith, size-range (c .before .before .before .a
 entry-size-requires : tie.Need-entry-size-requires
 entry-size-requires c κs = search needs
 
-add-copy4 : tie.Need-add-copy4
-add-copy4 c = search needs
+add-put-metric : tie.Need-add-put-metric
+add-put-metric c = search needs
 
-add-copy4-2 : tie.Need-add-copy4-2
-add-copy4-2 c = search needs
-
-copy4-requires : tie.Need-copy4-requires
-copy4-requires c κs = search needs
-
-add-copy4-3 : tie.Need-add-copy4-3
-add-copy4-3 c = search needs
-
-add-copy4-4 : tie.Need-add-copy4-4
-add-copy4-4 c = search needs
-
-copy4-requires-2 : tie.Need-copy4-requires-2
-copy4-requires-2 c κs = search needs
+put-metric-requires : tie.Need-put-metric-requires
+put-metric-requires c κs = search needs
 
 same-length : tie.Need-same-length
 same-length c = search needs
 
 returns : tie.Need-returns
 returns c =
-    let a = c .before .before .before .before .before .before .before .before .before .before .before .before .before .before .before .before .args in
+    let a = c .before .before .before .before .before .before .before .before .before .before .before .before .args in
     let o = now (a .e) in
-    rw (record-long o (a .at) (a .kind) (sym (c .before .before .before .before .before .before .before .before .before .entry-size .ensures) ∙ c .before .before .before .before .before .before .before .before .if1 .taken))
-    (put-next (now (a .d)) (a .out) (pairOctets ipv4 (pairAt ipv4 o (a .at))) _ (c .before .before .before .before .before .before .before .before .before .before .before .before .put-pair .ensures)
-    (put-next _ (a .out + 14) (be 4 (numberAt 4 o (a .at + 8))) (be 4 (numberAt 4 o (a .at + 12))) (c .before .before .before .before .before .before .copy4 .ensures) (c .before .before .copy42 .ensures)
-    (omega (arith, length-be 4 (numberAt 4 o (a .at + 8)))))
-    (omega (arith, length-pair ipv4 (pairAt ipv4 o (a .at)))))
+    rw (record-long o (a .at) (a .kind) (sym (c .before .before .before .before .before .entry-size .ensures) ∙ c .before .before .before .before .if1 .taken))
+    (put-next (now (a .d)) (a .out) (pairOctets ipv4 (pairAt ipv4 o (a .at))) _ (c .before .before .before .before .before .before .before .before .put-pair .ensures) (c .before .before .put-metric .ensures) (omega (arith, length-pair ipv4 (pairAt ipv4 o (a .at)))))
 
 same-length-2 : tie.Need-same-length-2
 same-length-2 c = search needs
@@ -66,12 +50,8 @@ put-record-spec =
     (tie.spec
     put-pair-requires
     entry-size-requires
-    add-copy4
-    add-copy4-2
-    copy4-requires
-    add-copy4-3
-    add-copy4-4
-    copy4-requires-2
+    add-put-metric
+    put-metric-requires
     same-length
     returns
     same-length-2

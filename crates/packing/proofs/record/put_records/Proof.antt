@@ -7,7 +7,7 @@ use denote.Ref.{now}
 use borrow.Author.Needs.{needs}
 use Rattle.packing.specs.Kinds.{entriesFor, recordOctets, recordSize}
 use Rattle.packing.proofs.ByKind.{size-range, record-sized}
-use Rattle.packing.proofs.Writing.{Rows, rows-start, rows-there, rows-next, rows-end}
+use Rattle.packing.proofs.Writing.{Rows, rows-start, rows-there, rows-next, rows-end, rows-out}
 use Rattle.packing.proofs.record.put_records.Statement.{statement}
 use Rattle.packing.proofs.record.put_records.Tie as tie
 
@@ -58,7 +58,7 @@ same-length : tie.Need-same-length Inv-loop μ-loop
 same-length c = c .before .loop .inv .same
 
 returns : tie.Need-returns Inv-loop μ-loop
-returns c = rows-end (c .before .loop .inv) (c .loop-test .left)
+returns c = (rows-out (c .before .loop .inv) (c .loop-test .left), rows-end (c .before .loop .inv) (c .loop-test .left))
 
 pub put-records-spec : {M : Type 1} → statement M
 put-records-spec =

@@ -1,0 +1,105 @@
+-- `packing::calls::pack` meets its contract: what `asked` answered says which way the call goes.
+-- Assumes nothing.
+use native.Mathlib.Omega.{arith}
+use mathlib.Core.Path.{_≡_, refl, sym, ap, ap₂, _∙_}
+use denote.Ref.{now}
+use Prim.Native.Nat.{ℕ, _+_, _-_, _*_, _/_, _≤_}
+use lib.ListN.{length}
+use Rattle.format.specs.Outcome.{gives}
+use Rattle.format.specs.Entry.{entriesAt}
+use Rattle.format.specs.Packing.{asked, pack, octetsOf, tookOf, wrote}
+use Rattle.format.proofs.Calls.{Asked}
+use Rattle.packing.specs.Answers.{packed}
+use Rattle.packing.specs.Kinds.{entriesFor, formFor}
+use Rattle.packing.proofs.ByKind.{size-range}
+use Rattle.packing.proofs.Packs.{limit-refused, limit-asked, asked-limits, asked-inside, asked-there, call-refused, call-packs}
+use borrow.Author.Needs.{needs}
+use Rattle.packing.proofs.calls.pack.Statement.{statement}
+use Rattle.packing.proofs.calls.pack.Tie as tie
+
+abbrev start : tie.After-known-told2 → tie.Start
+start c = c .before .before .before .before .before .before
+
+-- nothing was refused: the limit as read
+abbrev limit : tie.After-known-told2 → ℕ
+limit c = c .before .x2 .given .0 .0
+
+asks : (c : tie.After-known-told2)
+    → Asked (entriesFor (start c .args .kind)) (now (start c .args .e)) (start c .args .start) (start c .args .limit) (length (now (start c .args .d))) (limit c)
+asks c =
+    let a = start c .args in
+    limit-asked (entriesFor (a .kind)) (now (a .e)) (a .start) (a .limit) (length (now (a .d))) (c .before .x2 .given .1) (c .before .before .before .asked .ensures)
+
+inside : (c : tie.After-known-told2) → start c .args .start ≤ length (now (start c .args .e)) / entriesFor (start c .args .kind) .size
+inside c = let a = start c .args in asked-inside (a .kind) (now (a .e)) (a .start) (a .limit) (length (now (a .d))) (limit c) (asks c)
+
+asked-requires : tie.Need-asked-requires
+asked-requires c κs = search needs
+
+enum-known-x : tie.Need-enum-known-x
+enum-known-x c = search needs
+
+enum-known-x-2 : tie.Need-enum-known-x-2
+enum-known-x-2 c = search needs
+
+entry-size-requires : tie.Need-entry-size-requires
+entry-size-requires c κs = search needs
+
+mul-pack-most : tie.Need-mul-pack-most
+mul-pack-most c =
+    let r = c .before in
+    let a = start r .args in
+    let same : c .entry-size .result * a .start ≡ entriesFor (a .kind) .size * a .start = ap (λ x. x * a .start) (c .entry-size .ensures) in
+    omega (arith, asked-there (a .kind) (now (a .e)) (a .start) (a .limit) (length (now (a .d))) (limit r) (asks r))
+
+div-pack-most : tie.Need-div-pack-most
+div-pack-most c = omega (arith, c .entry-size .ensures, size-range (c .before .before .before .before .before .before .before .args .kind))
+
+sub-pack-most : tie.Need-sub-pack-most
+sub-pack-most c = rw (c .entry-size .ensures) (inside (c .before))
+
+pack-most-requires : tie.Need-pack-most-requires
+pack-most-requires c κs =
+    let r = c .before .before in
+    let a = start r .args in
+    let limits = asked-limits (a .kind) (now (a .e)) (a .start) (a .limit) (length (now (a .d))) (limit r) (asks r) in
+    (c .before .before .before .before .before .before .before .before .pre, rw (c .before .entry-size .ensures) (asked-there (a .kind) (now (a .e)) (a .start) (a .limit) (length (now (a .d))) (limit r) (asks r)), limits .0, limits .1, asks r .enough)
+
+returns : tie.Need-returns
+unfolding packed
+returns c =
+    let a = c .before .before .before .before .before .before .args in
+    let refusal = c .before .x .given .0 .0 in
+    let asks = asked (entriesFor (a .kind)) (now (a .e)) (a .start) (a .limit) (length (now (a .d))) in
+    let call = call-refused (formFor (a .kind)) (now (a .e)) (a .start) (a .limit) (now (a .d)) (refusal .number) (refusal .place) (limit-refused asks (c .before .x .given .1) (c .before .before .before .asked .ensures)) in
+    (sym (ap (λ x. x .answer) call), sym (ap (λ x. x .buffer) call))
+
+same-length : tie.Need-same-length
+same-length c = search needs
+
+returns-2 : tie.Need-returns-2
+unfolding packed
+returns-2 c =
+    let r = c .before .before .before .before .before in
+    let a = start r .args in
+    let size = c .before .before .before .before .entry-size .ensures in
+    let p = pack (formFor (a .kind)) (limit r) (entriesAt (entriesFor (a .kind)) (now (a .e)) (entriesFor (a .kind) .size * a .start) (length (now (a .e)) / entriesFor (a .kind) .size - a .start)) in
+    let wrote-it = rw size at (c .before .before .pack-most .ensures) in
+    let call = call-packs (a .kind) (now (a .e)) (a .start) (a .limit) (limit r) (now (a .d)) p (asks r) refl in
+    (ap₂ (λ x y. gives (wrote x y)) (wrote-it .0 .0) (wrote-it .0 .1) ∙ sym (ap (λ x. x .answer) call), wrote-it .1 ∙ sym (ap (λ x. x .buffer) call))
+
+pub pack-spec : {M : Type 1} → statement M
+pack-spec =
+    tie.close
+    (tie.spec
+    asked-requires
+    enum-known-x
+    enum-known-x-2
+    entry-size-requires
+    mul-pack-most
+    div-pack-most
+    sub-pack-most
+    pack-most-requires
+    returns
+    same-length
+    returns-2)

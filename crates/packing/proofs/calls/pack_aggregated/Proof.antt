@@ -1,0 +1,18 @@
+-- `packing::calls::pack_aggregated` meets its contract.
+-- Assumes nothing.
+use borrow.Author.Needs.{needs}
+use Rattle.packing.proofs.ByKind.{aggregated-packs}
+use Rattle.packing.proofs.calls.pack_aggregated.Statement.{statement}
+use Rattle.packing.proofs.calls.pack_aggregated.Tie as tie
+
+pack-requires : tie.Need-pack-requires
+pack-requires c κs = aggregated-packs
+
+same-length : tie.Need-same-length
+same-length c = search needs
+
+returns : tie.Need-returns
+returns c = search needs
+
+pub pack-aggregated-spec : {M : Type 1} → statement M
+pack-aggregated-spec = tie.close (tie.spec pack-requires same-length returns)
