@@ -7,3 +7,4 @@ pub mod Packs
 pub mod Joins
 pub mod Aggregating
 pub mod Tallies
+pub mod Choices

@@ -8,6 +8,7 @@
 // calls.rt       how many entries fit, and the four calls
 mod aggregate;
 mod calls;
+mod choice;
 mod entry;
 mod limit;
 mod message;
@@ -21,3 +22,6 @@ pub use calls::pack_assert;
 pub use calls::pack_null_register;
 pub use calls::pack_register_stop;
 pub use calls::pack_simple;
+pub use choice::Choice;
+pub use choice::pack_both;
+pub use choice::pack_chosen;

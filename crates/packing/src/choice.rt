@@ -1,0 +1,98 @@
+// The choice between the two packed assert forms: both are written, each into a buffer of its own.
+use crate::calls::Written;
+use crate::calls::pack_most;
+use crate::limit::Limit;
+use crate::limit::asked;
+use format::Kind;
+use format::Refusal;
+ghost use mathlib.Core.Path.{_≡_};
+ghost use mathlib.Core.Bool.{_&&_, _||_};
+ghost use Prim.Native.Nat.{min};
+ghost use lib.Dec.{eqb, ltb};
+ghost use Rattle.format.specs.Family.{ipv4};
+ghost use Rattle.format.specs.Packing.{choice};
+ghost use Rattle.packing.specs.Answers.{chosenBy};
+
+// Which form was chosen, and its message.
+pub enum Choice {
+    // Whether the aggregated one; so many octets, of so many entries.
+    Wrote {
+        aggregated: bool,
+        length: usize,
+        taken: usize,
+    },
+    Refused(Refusal),
+}
+
+// The smaller of two numbers.
+fn smaller(a: usize, b: usize) -> usize
+    ensures { λ r. ⌜ r ≡ min a b ⌝ }
+{
+    if b < a {
+        return b;
+    }
+    a
+}
+
+// The one that took more entries, then the shorter, then the simple.
+fn prefers_aggregated(s: Written, a: Written) -> bool
+    ensures { λ r. ⌜ r ≡ ltb (s .taken) (a .taken) || (eqb (s .taken) (a .taken) && ltb (a .length) (s .length)) ⌝ }
+{
+    if s.taken < a.taken {
+        return true;
+    }
+    if s.taken != a.taken {
+        return false;
+    }
+    a.length < s.length
+}
+
+// Packs both forms and says which is chosen. Either buffer below the limit is refused with 8.
+pub fn pack_both(e: &[u8], start: usize, limit: usize, simple: &mut [u8], aggregated: &mut [u8]) -> Choice
+    ensures answer { λ r. ⌜ chosenBy r ≡ choice ipv4 (now (e .entry)) start limit (now (simple .entry)) (now (aggregated .entry)) .answer ⌝ }
+    ensures simple { λ r. ⌜ now (simple .exit) ≡ choice ipv4 (now (e .entry)) start limit (now (simple .entry)) (now (aggregated .entry)) .simpleBuffer ⌝ }
+    ensures aggregated { λ r. ⌜ now (aggregated .exit) ≡ choice ipv4 (now (e .entry)) start limit (now (simple .entry)) (now (aggregated .entry)) .aggregatedBuffer ⌝ }
+{
+    let room = smaller(simple.len(), aggregated.len());
+    let x = asked(Kind::Simple, e, start, limit, room);
+    match x {
+        Limit::Refused(r) => Choice::Refused(r),
+        Limit::Is(l) => {
+            let left = e.len() / 16 - start;
+            let s = pack_most(Kind::Simple, e, 16 * start, left, l, simple);
+            let a = pack_most(Kind::Aggregated, e, 16 * start, left, l, aggregated);
+            if prefers_aggregated(s, a) {
+                return Choice::Wrote {
+                    aggregated: true,
+                    length: a.length,
+                    taken: a.taken,
+                };
+            }
+            Choice::Wrote {
+                aggregated: false,
+                length: s.length,
+                taken: s.taken,
+            }
+        }
+    }
+}
+
+// The message that is chosen, as a part of the buffer that it was written into; empty where `pack_both` refuses
+// and at the end of the list.
+pub fn pack_chosen<'a>(e: &[u8], start: usize, limit: usize, simple: &'a mut [u8], aggregated: &'a mut [u8]) -> &'a mut [u8]
+    ensures { λ r. ⌜ now r ≡ choice ipv4 (now (e .entry)) start limit (now (simple .entry)) (now (aggregated .entry)) .part ⌝ }
+{
+    match pack_both(e, start, limit, simple, aggregated) {
+        Choice::Refused(_) => &mut simple[..0],
+        Choice::Wrote {
+            aggregated: better,
+            length,
+            taken: _,
+        } => {
+            if better {
+                return &mut aggregated[..length];
+            }
+            &mut simple[..length]
+        }
+    }
+}
