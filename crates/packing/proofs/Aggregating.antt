@@ -16,7 +16,7 @@ use lib.ListN.{length, length-append, length-map}
 use lib.Dec.{eqb}
 use Rattle.octets.specs.Octets.{be}
 use Rattle.octets.proofs.Laws.{length-be}
-use Rattle.records.specs.Records.{AssertRecord, GroupRecord, ofGroup, rBit}
+use Rattle.records.specs.Records.{AssertRecord, ofGroup, rBit}
 use Rattle.records.specs.Runs.{Run, run, runs}
 use Rattle.records.specs.Joining.{sameGroup, allZero, groupRecords, allGroupRecords}
 use Rattle.records.proofs.Joining.{aggregated-rp, aggregated-source, groupRecords-elim}

@@ -3,9 +3,9 @@
 --     preferred, both-aggregated, both-simple     which of the two is chosen
 --     part-none, part-aggregated, part-simple     the part that is handed back: empty, or the front of the buffer that was chosen
 -- Assumes nothing.
-use Prim.Native.Nat.{ℕ, zero, suc, _+_, _-_, _*_, _/_, _≤_, _<_, min}
+use Prim.Native.Nat.{ℕ, zero, suc, _-_, _*_, _/_, _≤_, _<_, min}
 use native.Mathlib.Omega.{arith}
-use mathlib.Core.Path.{_≡_, refl, sym, ap, _∙_}
+use mathlib.Core.Path.{_≡_, refl, sym}
 use mathlib.Core.Bool.{Bool, true, false, _&&_, _||_, cond}
 use mathlib.Core.List.{List, []}
 use lib.ListN.{length, take, drop, length-take}
@@ -15,8 +15,8 @@ use Rattle.octets.proofs.Laws.{length-put, take-put}
 use Rattle.records.specs.Records.{AssertRecord}
 use Rattle.format.specs.Outcome.{Outcome, gives, refuses}
 use Rattle.format.specs.Family.{ipv4}
-use Rattle.format.specs.Entry.{Entries, assertEntries, count, entriesAt, entriesOf}
-use Rattle.format.specs.Packing.{Form, simple, aggregated, Due, due, asked, taken, Packed, octetsOf, tookOf, pack, prefersAggregated, Chosen, chosen, chosenOf, ChoiceCall, bothWritten, choiceOf, choice}
+use Rattle.format.specs.Entry.{Entries, assertEntries, count, entriesOf}
+use Rattle.format.specs.Packing.{Form, simple, aggregated, Due, due, asked, taken, Packed, octetsOf, tookOf, pack, prefersAggregated, chosen, chosenOf, bothWritten, choiceOf, choice}
 use Rattle.format.proofs.Outcomes.{no-refusal, gives-same}
 use Rattle.format.proofs.Calls.{Asked, asked-gives, gives-asked, taken-fits, pack-none, pack-some}
 use Rattle.packing.specs.Aggregates.{asserts}

@@ -14,7 +14,6 @@ use lib.Dec.{leb}
 use lib.ListN.{length, take, length-take, length-append}
 use Rattle.records.proofs.Most.{most-unique}
 use Rattle.format.specs.Header.{message}
-use Rattle.format.specs.Record.{each}
 use Rattle.format.specs.Packing.{canonical, taken}
 use Rattle.format.specs.Entry.{entriesAt}
 use Rattle.format.specs.declared.Kind.{Kind}

@@ -5,17 +5,14 @@
 --     most-none, most-inside, most-fits, most-some     of n entries none fit, or the message is of those that do
 -- Assumes nothing.
 use Prim.Native.Nat.{ℕ, _+_, _-_, _*_, _/_, _≤_, _<_}
-use native.Mathlib.Nat.{mul-le-mul-left, mul-add, mul-div-le}
+use native.Mathlib.Nat.{mul-add, mul-div-le}
 use native.Mathlib.Omega.{arith}
 use mathlib.Core.Path.{_≡_, refl, sym, ap, ap₂, _∙_}
-use mathlib.Core.List.{List, [], _++_}
+use mathlib.Core.List.{List, []}
 use lib.ListN.{length, take, drop}
 use Rattle.octets.specs.Octets.{put}
-use Rattle.octets.proofs.Laws.{put-nil}
 use Rattle.format.specs.Outcome
 use Rattle.format.specs.Outcome.{Outcome, gives, refuses}
-use Rattle.format.specs.Header.{message}
-use Rattle.format.specs.Record.{each}
 use Rattle.format.specs.Entry.{Entries, count, entriesAt, entriesOf}
 use Rattle.format.specs.Family.{ipv4}
 use Rattle.format.specs.Packing.{leastLimit, usualLimit, Form, canonical, Due, due, asked, taken, Packed, packed, octetsOf, tookOf, pack, wrote, written, packDue, packing}

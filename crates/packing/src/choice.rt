@@ -48,7 +48,13 @@ fn prefers_aggregated(s: Written, a: Written) -> bool
 }
 
 // Packs both forms and says which is chosen. Either buffer below the limit is refused with 8.
-pub fn pack_both(e: &[u8], start: usize, limit: usize, simple: &mut [u8], aggregated: &mut [u8]) -> Choice
+pub fn pack_both(
+    e: &[u8],
+    start: usize,
+    limit: usize,
+    simple: &mut [u8],
+    aggregated: &mut [u8],
+) -> Choice
     ensures answer { λ r. ⌜ chosenBy r ≡ choice ipv4 (now (e .entry)) start limit (now (simple .entry)) (now (aggregated .entry)) .answer ⌝ }
     ensures simple { λ r. ⌜ now (simple .exit) ≡ choice ipv4 (now (e .entry)) start limit (now (simple .entry)) (now (aggregated .entry)) .simpleBuffer ⌝ }
     ensures aggregated { λ r. ⌜ now (aggregated .exit) ≡ choice ipv4 (now (e .entry)) start limit (now (simple .entry)) (now (aggregated .entry)) .aggregatedBuffer ⌝ }
@@ -79,7 +85,13 @@ pub fn pack_both(e: &[u8], start: usize, limit: usize, simple: &mut [u8], aggreg
 
 // The message that is chosen, as a part of the buffer that it was written into; empty where `pack_both` refuses
 // and at the end of the list.
-pub fn pack_chosen<'a>(e: &[u8], start: usize, limit: usize, simple: &'a mut [u8], aggregated: &'a mut [u8]) -> &'a mut [u8]
+pub fn pack_chosen<'a>(
+    e: &[u8],
+    start: usize,
+    limit: usize,
+    simple: &'a mut [u8],
+    aggregated: &'a mut [u8],
+) -> &'a mut [u8]
     ensures { λ r. ⌜ now r ≡ choice ipv4 (now (e .entry)) start limit (now (simple .entry)) (now (aggregated .entry)) .part ⌝ }
 {
     match pack_both(e, start, limit, simple, aggregated) {

@@ -1,7 +1,6 @@
 -- `packing::aggregate::number_of_sources` meets its contract: the tests are those of the definition.
 -- Assumes nothing.
 use borrow.Author.Tests.{eq-eqb, ne-eqb}
-use mathlib.Core.Path.{sym, _∙_}
 use Rattle.packing.specs.Aggregates.{sourcesIn}
 use borrow.Author.Needs.{needs}
 use Rattle.packing.proofs.aggregate.number_of_sources.Statement.{statement}

@@ -1,10 +1,10 @@
 -- `packing::aggregate::put_addresses` meets its contract: the loop's invariant is `Rows`. The measure is the entries left.
 -- Assumes nothing.
 use native.Mathlib.Omega.{arith}
-use mathlib.Core.Path.{_≡_, refl, sym, ap, _∙_}
+use mathlib.Core.Path.{refl, ap}
 use denote.Ref.{now}
 use borrow.Author.Needs.{needs}
-use Prim.Native.Nat.{_+_, _*_, _-_}
+use Prim.Native.Nat.{_+_, _-_}
 use Rattle.format.specs.Entry.{assertEntries}
 use Rattle.format.specs.Family.{ipv4}
 use Rattle.packing.specs.Aggregates.{addressSize, addressOctets}

@@ -1,12 +1,10 @@
 -- `packing::aggregate::put_all` meets its contract: the loop's invariant is `RunsLeft`. The measure is the entries left.
 -- Assumes nothing.
 use native.Mathlib.Omega.{arith}
-use mathlib.Core.Path.{_≡_, refl, sym, ap, _∙_}
 use denote.Ref.{now}
-use Prim.Native.Nat.{_+_, _*_, _-_, _≤_}
-use Rattle.packing.specs.Aggregates.{asserts, runLength}
+use Prim.Native.Nat.{_-_}
 use Rattle.packing.specs.declared.run.Run.the-variants.{Aggregated}
-use Rattle.packing.proofs.Joins.{RunsLeft, RunThere, runs-start, runs-there, runs-next, runs-end}
+use Rattle.packing.proofs.Joins.{RunsLeft, runs-start, runs-there, runs-next, runs-end}
 use Rattle.packing.proofs.aggregate.put_all.Statement.{statement}
 use Rattle.packing.proofs.aggregate.put_all.Tie as tie
 

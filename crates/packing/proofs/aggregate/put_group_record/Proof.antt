@@ -1,9 +1,9 @@
 -- `packing::aggregate::put_group_record` meets its contract: group, number, sources, as `group-is` lists them.
 -- Assumes nothing.
 use native.Mathlib.Omega.{arith}
-use mathlib.Core.Path.{_≡_, refl, sym, ap, _∙_}
+use mathlib.Core.Path.{_∙_}
 use denote.Ref.{now}
-use Prim.Native.Nat.{_+_, _*_, _≤_}
+use Prim.Native.Nat.{_+_}
 use mathlib.Core.List.{_++_}
 use Rattle.octets.specs.Octets.{be}
 use Rattle.octets.proofs.Laws.{put-next}
@@ -12,7 +12,7 @@ use Rattle.format.specs.Address.{groupOctets}
 use Rattle.format.specs.Record.{each, reserved2}
 use Rattle.format.specs.Entry.{numberAt}
 use Rattle.format.proofs.Lengths.{length-group}
-use Rattle.packing.specs.Aggregates.{asserts, sourcesIn, addressOctets}
+use Rattle.packing.specs.Aggregates.{asserts, addressOctets}
 use Rattle.packing.specs.declared.aggregate.Address.the-variants.{Source}
 use Rattle.packing.proofs.Aggregating.{number-long, group-is, sources-range, group-long}
 use borrow.Author.Needs.{needs}

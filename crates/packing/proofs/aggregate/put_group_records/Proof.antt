@@ -2,12 +2,10 @@
 -- left.
 -- Assumes nothing.
 use native.Mathlib.Omega.{arith}
-use mathlib.Core.Path.{_≡_, refl, sym, ap, _∙_}
 use denote.Ref.{now}
-use Prim.Native.Nat.{_+_, _*_, _-_, _≤_}
-use Rattle.packing.specs.Aggregates.{asserts, runLength}
+use Prim.Native.Nat.{_-_}
 use Rattle.packing.specs.declared.run.Run.the-variants.{Group}
-use Rattle.packing.proofs.Joins.{RunsLeft, RunThere, runs-start, runs-there, runs-next, runs-end, Numbered, number-start, number-next, number-end}
+use Rattle.packing.proofs.Joins.{RunsLeft, runs-start, runs-there, runs-next, runs-end, Numbered, number-start, number-next, number-end}
 use Rattle.packing.proofs.aggregate.put_group_records.Statement.{statement}
 use Rattle.packing.proofs.aggregate.put_group_records.Tie as tie
 

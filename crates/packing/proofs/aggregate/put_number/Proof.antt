@@ -2,9 +2,7 @@
 -- Assumes nothing.
 use native.Mathlib.Omega.{arith}
 use denote.Ref.{now}
-use mathlib.Core.List.{[], _∷_}
 use lib.ListN.{length-set}
-use Rattle.octets.specs.Octets.{be}
 use Rattle.packing.proofs.Writing.{put-counted}
 use borrow.Author.Needs.{needs}
 use Rattle.packing.proofs.aggregate.put_number.Statement.{statement}

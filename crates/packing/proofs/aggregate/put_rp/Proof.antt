@@ -1,9 +1,9 @@
 -- `packing::aggregate::put_rp` meets its contract: the group records first, then what stands before them, as `rp-is` lists them.
 -- Assumes nothing.
 use native.Mathlib.Omega.{arith}
-use mathlib.Core.Path.{_≡_, refl, sym, ap, _∙_}
+use mathlib.Core.Path.{_≡_, _∙_}
 use denote.Ref.{now}
-use Prim.Native.Nat.{_+_, _≤_}
+use Prim.Native.Nat.{_+_}
 use mathlib.Core.List.{_++_}
 use lib.ListN.{length, length-append}
 use Rattle.octets.specs.Octets.{be}

@@ -1,9 +1,9 @@
 -- `packing::aggregate::put_source_aggregated` meets its contract: metric, source, number, groups, as `source-is` lists them.
 -- Assumes nothing.
 use native.Mathlib.Omega.{arith}
-use mathlib.Core.Path.{_≡_, refl, sym, ap, _∙_}
+use mathlib.Core.Path.{_∙_}
 use denote.Ref.{now}
-use Prim.Native.Nat.{_+_, _*_, _≤_}
+use Prim.Native.Nat.{_+_}
 use mathlib.Core.List.{_++_}
 use Rattle.octets.specs.Octets.{be}
 use Rattle.octets.proofs.Laws.{put-next}

@@ -1,7 +1,7 @@
 -- `packing::calls::how_many` meets its contract: an aggregated message is tallied, any other is arithmetic.
 -- Assumes nothing.
 use native.Mathlib.Omega.{arith}
-use mathlib.Core.Path.{_≡_, sym, ap, _∙_}
+use mathlib.Core.Path.{sym, ap, _∙_}
 use denote.Ref.{now}
 use Rattle.format.specs.Entry.{entriesAt}
 use Rattle.format.proofs.Entries.{length-entriesAt}

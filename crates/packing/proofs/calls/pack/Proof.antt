@@ -3,11 +3,11 @@
 use native.Mathlib.Omega.{arith}
 use mathlib.Core.Path.{_≡_, refl, sym, ap, ap₂, _∙_}
 use denote.Ref.{now}
-use Prim.Native.Nat.{ℕ, _+_, _-_, _*_, _/_, _≤_}
+use Prim.Native.Nat.{ℕ, _-_, _*_, _/_, _≤_}
 use lib.ListN.{length}
 use Rattle.format.specs.Outcome.{gives}
 use Rattle.format.specs.Entry.{entriesAt}
-use Rattle.format.specs.Packing.{asked, pack, octetsOf, tookOf, wrote}
+use Rattle.format.specs.Packing.{asked, pack, wrote}
 use Rattle.format.proofs.Calls.{Asked}
 use Rattle.packing.specs.Answers.{packed}
 use Rattle.packing.specs.Kinds.{entriesFor, formFor}

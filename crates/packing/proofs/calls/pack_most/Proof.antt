@@ -1,10 +1,9 @@
 -- `packing::calls::pack_most` meets its contract: none fit, or the message of those that do is written.
 -- Assumes nothing.
 use native.Mathlib.Omega.{arith}
-use mathlib.Core.Path.{_≡_, refl, sym}
+use mathlib.Core.Path.{refl, sym}
 use denote.Ref.{now}
 use Prim.Native.Nat.{_<_}
-use lib.ListN.{length}
 use native.Mathlib.Nat.{mul-le-mul-left}
 use Rattle.octets.proofs.Laws.{put-nil}
 use Rattle.format.specs.Packing.{octetsOf, tookOf}

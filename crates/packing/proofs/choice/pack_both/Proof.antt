@@ -88,7 +88,7 @@ mul-pack-most : tie.Need-mul-pack-most
 mul-pack-most c = omega (arith, there c)
 
 pack-most-requires : tie.Need-pack-most-requires
-pack-most-requires c κs = 
+pack-most-requires c κs =
     let r = c .before in
     (simple-packs, there r, limits r .0, limits r .1, omega (arith, asks r .enough))
 
@@ -96,7 +96,7 @@ mul-pack-most-2 : tie.Need-mul-pack-most-2
 mul-pack-most-2 c = omega (arith, there (c .before .before .before .before))
 
 pack-most-requires-2 : tie.Need-pack-most-requires-2
-pack-most-requires-2 c κs = 
+pack-most-requires-2 c κs =
     let r = c .before .before .before .before .before in
     (aggregated-packs, there r, limits r .0, limits r .1, omega (arith, asks r .enough))
 
@@ -111,7 +111,7 @@ same-length-2 c = search needs
 
 returns : tie.Need-returns
 unfolding chosenBy
-returns c = 
+returns c =
     let s = c .before .before .before .before .before .before .before .before .pack-most .ensures in
     let a = c .before .before .before .before .pack-most2 .ensures in
     let better = both-aggregated _ _ _ _ (sym (prefers (c .before)) ∙ c .if1 .taken) in
@@ -120,7 +120,7 @@ returns c =
 
 returns-2 : tie.Need-returns-2
 unfolding chosenBy
-returns-2 c = 
+returns-2 c =
     let a = c .before .before .before .before .before .before .before .before .args in
     let refusal = c .before .x .given .0 .0 in
     let asks = asked (assertEntries ipv4) (now (a .e)) (a .start) (a .limit) (min (length (now (a .simple))) (length (now (a .aggregated)))) in
@@ -136,7 +136,7 @@ same-length-4 c = search needs
 
 returns-3 : tie.Need-returns-3
 unfolding chosenBy
-returns-3 c = 
+returns-3 c =
     let s = c .before .before .before .before .before .before .before .before .pack-most .ensures in
     let a = c .before .before .before .before .pack-most2 .ensures in
     let simpler = both-simple _ _ _ _ (sym (prefers (c .before)) ∙ c .if1 .left) in

@@ -1,7 +1,7 @@
 -- `packing::message::put_body` meets its contract: records of runs, or one for each entry.
 -- Assumes nothing.
 use native.Mathlib.Omega.{arith}
-use mathlib.Core.Path.{_≡_, sym, ap, _∙_}
+use mathlib.Core.Path.{sym, _∙_}
 use denote.Ref.{now}
 use Rattle.format.specs.Entry.{entriesAt}
 use Rattle.packing.specs.Kinds.{entriesFor, recordsFor}

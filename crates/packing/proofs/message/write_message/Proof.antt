@@ -1,7 +1,7 @@
 -- `packing::message::write_message` meets its contract: the beginning, the records past it, and then the checksum over both.
 -- Assumes nothing.
 use native.Mathlib.Omega.{arith}
-use mathlib.Core.Path.{_≡_, sym, ap, _∙_}
+use mathlib.Core.Path.{_≡_, sym, _∙_}
 use denote.Ref.{now}
 use Prim.Native.Nat.{_+_}
 use mathlib.Core.List.{_++_}

@@ -3,7 +3,6 @@
 use native.Mathlib.Omega.{arith}
 use denote.Ref.{now}
 use mathlib.Core.Path.{sym, _∙_}
-use Prim.Native.Nat.{_+_}
 use Rattle.octets.proofs.Laws.{put-next}
 use Rattle.format.specs.Record.{pairOctets}
 use Rattle.format.specs.Entry.{pairAt}

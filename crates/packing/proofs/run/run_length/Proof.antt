@@ -1,7 +1,7 @@
 -- `packing::run::run_length` meets its contract: the loop's invariant is `Counting`. The measure is the entries left.
 -- Assumes nothing.
 use native.Mathlib.Omega.{arith}
-use mathlib.Core.Path.{_≡_, refl, sym, ap, _∙_}
+use mathlib.Core.Path.{sym, _∙_}
 use denote.Ref.{now}
 use Prim.Native.Nat.{_-_}
 use borrow.Author.Tests.{not-true, not-false}

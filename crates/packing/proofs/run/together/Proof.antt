@@ -1,7 +1,6 @@
 -- `packing::run::together` meets its contract: the tests are those of the definition.
 -- Assumes nothing.
 use denote.Ref.{now}
-use mathlib.Core.Path.{_≡_, sym, ap, _∙_}
 use borrow.Author.Tests.{not-true, not-false}
 use Rattle.packing.proofs.Joins.{together-is}
 use borrow.Author.Needs.{needs}
