@@ -8,6 +8,7 @@ pub mod Taken
 pub mod Entries
 pub mod Calls
 pub mod RoundTrip
+pub mod Reading
 pub mod Demand3
 pub mod MostThatFit
 pub mod Ipv4

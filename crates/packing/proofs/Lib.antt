@@ -8,3 +8,4 @@ pub mod Joins
 pub mod Aggregating
 pub mod Tallies
 pub mod Choices
+pub mod Trains

@@ -1,3 +1,4 @@
 pub mod Kinds
 pub mod Aggregates
 pub mod Answers
+pub mod Trains
