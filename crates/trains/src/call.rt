@@ -1,0 +1,7 @@
+// The aggregated packing call, in the one place that names it. Nothing is promised of it here: what it answers is what
+// the program puts to the test.
+use packing::Packing;
+
+pub(crate) fn pack(e: &[u8], start: usize, limit: usize, d: &mut [u8]) -> Packing {
+    packing::pack_aggregated(e, start, limit, d)
+}
