@@ -1,7 +1,7 @@
 -- Every definition of octets, checksum, records and format, opened at once, so that the tables of this crate compute.
 --     computed     a declaration that says `unfolding computed` sees through all of them
 -- Assumes nothing.
-use Rattle.octets.specs.Octets.{value, be, put}
+use Rattle.octets.specs.Octets.{numberAt, value, be, put}
 use Rattle.checksum.specs.Sum.{words, add, sumFrom, sum, checksum, holds}
 use Rattle.records.specs.Joining.{together, sameGroup, allZero, groupRecords, allGroupRecords, aggregated as recordOf, joined}
 use Rattle.records.specs.Most.{most}
@@ -9,7 +9,7 @@ use Rattle.records.specs.Records.{groupEntries, allGroupEntries, entries, allEn
 use Rattle.records.specs.Runs.{ofRun, glue, runs}
 use Rattle.format.specs.Address.{groupForm, groupField, groupOctets, sourceForm, sourceField, sourceOctets}
 use Rattle.format.specs.Body.{zeroReserved, assertsBody, pairsBody, plainBody, simpleBody, aggregatedBody, pairBody}
-use Rattle.format.specs.Entry.{numberAt, assertAt, assertEntryOctets, allowedAssert, pairAt, pairEntryOctets, allowedPair, count, whole, entriesAt, entriesOf, entriesOctets}
+use Rattle.format.specs.Entry.{assertAt, assertEntryOctets, allowedAssert, pairAt, pairEntryOctets, allowedPair, count, whole, entriesAt, entriesOf, entriesOctets}
 use Rattle.format.specs.Family.{mayBeSource}
 use Rattle.format.specs.Header.{assertKind, registerKind, kindOf, octet0, octet1, header, bodyOf, body, message}
 use Rattle.format.specs.Packing.{usualLimit, leastLimit, readLimit, canonical, firstBad, asked, taken, pack, written, packDue, packing, prefersAggregated, chosenOf, octetsOf, tookOf, bothWritten, choiceOf, choice}

@@ -11,11 +11,11 @@ use mathlib.Core.Path.{_≡_, refl, ap}
 use mathlib.Core.Bool.{Bool}
 use mathlib.Core.List.{List}
 use lib.ListN.{length, take, drop, length-take}
-use Rattle.octets.specs.Octets.{Octets}
+use Rattle.octets.specs.Octets.{numberAt, Octets}
 use Rattle.octets.proofs.Laws.{value-lt, octets-take, octets-drop}
 use Rattle.records.specs.Every.{Every}
 use Rattle.format.specs.Family.{Family}
-use Rattle.format.specs.Entry.{numberAt, Entries, assertAt, assertEntries, pairAt, pairEntries, count, entriesAt, entriesOf}
+use Rattle.format.specs.Entry.{Entries, assertAt, assertEntries, pairAt, pairEntries, count, entriesAt, entriesOf}
 use Rattle.format.proofs.Records.{Fits, PairFits}
 
 pub numberAt-lt : (k : ℕ) (o : List ℕ) (at : ℕ) → Octets o → numberAt k o at < 256 ^ k

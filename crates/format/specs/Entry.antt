@@ -1,6 +1,5 @@
 -- Entries: the octets in which a caller lends records and gets them back (01, "Octets of a message"): "16 octets for an assert
 -- (group, source, R with preference, metric), 8 for a pair (group, source)".
---     numberAt                   the number in k octets at a place
 --     Entries                    one sort of entry: its size, its reading, its writing, and which are allowed
 --     assertEntries, pairEntries the asserts of a family, and its pairs, with source 0 allowed or not
 --     count, whole, entriesOf    how many entries octets hold, whether nothing is over, and the entries
@@ -11,13 +10,10 @@ use mathlib.Core.Bool.{Bool, _&&_}
 use mathlib.Core.List.{List, [], _∷_}
 use lib.ListN.{length, take, drop}
 use lib.Dec.{eqb}
-use Rattle.octets.specs.Octets.{value, be, _&_}
+use Rattle.octets.specs.Octets.{numberAt, be, _&_}
 use Rattle.records.specs.Records.{AssertRecord, assert, PairRecord, pair, rBit}
 use Rattle.format.specs.Family.{Family, mayBeSource}
 use Rattle.format.specs.Record.{each}
-
-unfoldable pub numberAt : ℕ → List ℕ → ℕ → ℕ
-numberAt k o at = value (take k (drop at o))
 
 pub record Entries : Type 1 where
   pub family : Family

@@ -5,7 +5,7 @@ ghost use mathlib.Core.Bool.{cond};
 ghost use Prim.Native.Nat.{_+_, _≤_};
 ghost use lib.ListN.{length};
 ghost use Rattle.records.specs.Records.{rBit, preference as preferenceOf};
-ghost use Rattle.format.specs.Entry.{numberAt};
+ghost use Rattle.octets.specs.Octets.{numberAt};
 
 // An octet as a wider number.
 pub(crate) fn wide(x: u8) -> u64

@@ -9,13 +9,14 @@
 --     take-put, drop-put, take-put-end, drop-put-end        what stands up to the end of a write and past it: at the start, and at any place
 --     part-put, field-put                                   what was written is read back: octets, and a field
 --     stores-put, lows-be, taken-be                         stores one by one are a write; the octets as code takes them are those of the number
+--     number-is, number-short                               a number by its octets, and where fewer are there
 --     field-got, field-short, write-next, write-full        what a reader or a writer answers, by the test that its code made
 --     field-back, field-lt, write-back, length-fitted       what a caller learns from an answer
 -- Assumes nothing.
 use mathlib.Core.Path.{_≡_, refl, sym, ap, ap₂, _∙_}
 use mathlib.Core.Bool.{Bool, true, false, cond}
 use mathlib.Core.List.{List, [], _∷_, _++_, append-assoc, append-nil}
-use Prim.Native.Nat.{ℕ, zero, suc, _+_, _*_, _/_, _%_, _^_, _≤_, _<_}
+use Prim.Native.Nat.{ℕ, zero, suc, _+_, _-_, _*_, _/_, _%_, _^_, _≤_, _<_}
 use native.Mathlib.Nat.{add-zero, add-suc, zero-add, mul-assoc, add-mul, add-assoc, one-le-pow, zero-lt-suc, pow-succ', mod-one, mod-lt, mod-eq-of-lt, div-one, div-lt-iff-lt-mul, mul-add-div-right, mul-add-mod-self-right}
 use native.Mathlib.Decide.{decLe}
 use native.Mathlib.Omega.{arith}
@@ -25,7 +26,7 @@ use lib.Pow.{pow-add}
 use lib.ListN.{length, getD, set, take, drop, length-append, length-take, length-drop, take-append-drop, drop-of-length-le}
 use lib.Seq.{sets, sets-eq, take-all, take-at, take-take, take-append-le, drop-at, drop-cons, drop-drop, getD-drop, length-take-le}
 use borrow.Author.Tests.{le-leb, lt-leb, leb-true}
-use Rattle.octets.specs.Octets.{Octets, value, be, put}
+use Rattle.octets.specs.Octets.{Octets, value, numberAt, be, put}
 use Rattle.octets.specs.Field.{fieldAt, writtenAt, fitted}
 use Rattle.octets.specs.declared.Field.the-variants.{Got, Short}
 use Rattle.octets.specs.declared.Written.the-variants.{Next, Full}
@@ -251,6 +252,16 @@ taken-be (suc zero) n h = rw (← lows-be, mod-eq-of-lt h)
 taken-be (suc (suc k)) n h =
     let l : n / 256 ^ suc k < 256 = div-lt-iff-lt-mul (pow-pos (suc k)) .1 (rw pow-succ' at h) in
     rw (lows-be (suc k) n, be-suc (suc k) n, mod-eq-of-lt l)
+
+-- a number by its octets
+pub number-is : (k : ℕ) (o : List ℕ) (at : ℕ) → at + k ≤ length o → numberAt k o at ≡ value (octetsFrom o at 0 k)
+unfolding numberAt
+number-is k o at h = ap value (sym (from-part o at 0 k (omega arith) ∙ ap (λ x. take k (drop x o)) (add-zero at)))
+
+-- where fewer octets are there, it is the number in those
+pub number-short : (k n : ℕ) (o : List ℕ) (at : ℕ) → n ≡ length o - at → n ≤ k → numberAt k o at ≡ numberAt n o at
+unfolding numberAt
+number-short k n o at e h = ap value (take-all k (drop at o) (simp length-drop (omega arith)) ∙ sym (take-all n (drop at o) (simp length-drop (omega arith))))
 
 -- ---- the answers, from the tests that the code made
 

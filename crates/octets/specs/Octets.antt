@@ -1,6 +1,7 @@
 -- Numbers and octets. "All numbers are big-endian" (01, "Octets of a message").
 --     Octets         every element of a list is an octet
 --     value          the number that octets spell, the most significant first
+--     numberAt       the number in the k octets at a place
 --     be             the k octets of a number, the most significant first
 --     put            a buffer with octets written at a place: the one shape of every promise about a lent buffer
 --     _&_            octets, then further octets: grouped to the right, as fields are listed
@@ -18,6 +19,10 @@ Octets o = (i : ℕ) → getD o i 0 < 256
 unfoldable pub value : List ℕ → ℕ
 value [] = 0
 value (x ∷ o) = x * 256 ^ length o + value o
+
+-- the number in the k octets at a place, or in those that are there
+unfoldable pub numberAt : ℕ → List ℕ → ℕ → ℕ
+numberAt k o at = value (take k (drop at o))
 
 -- of a number that needs more octets the lowest k
 unfoldable pub be : ℕ → ℕ → List ℕ

@@ -1,8 +1,10 @@
 // Field readers and writers at any place of a slice: numbers of 8, 16 and 32 bits, big-endian. Each is
-// total: a place from which the field does not fit is answered, and never reached.
+// total: a place from which the field does not fit is answered, and never reached. `number16` and `number32`
+// are for callers who know that the field is there.
 ghost use mathlib.Core.Path.{_≡_};
 ghost use Prim.Native.Nat.{_-_, _<_};
-ghost use Rattle.octets.specs.Octets.{be};
+ghost use lib.ListN.{length};
+ghost use Rattle.octets.specs.Octets.{numberAt, be};
 ghost use Rattle.octets.specs.Field.{fieldAt, writtenAt, fitted};
 
 // What reading a field finds.
@@ -78,6 +80,45 @@ pub fn read32(s: &[u8], at: usize) -> Field
         value: ((a * 256 + b) * 256 + c) * 256 + d,
         next: at + 4,
     }
+}
+
+// The number in the octets at a place, of which there are fewer than four.
+fn short_number(s: &[u8], at: usize, n: usize) -> u32
+    requires { ⌜ (n ≡ length (now s) - at) × (n < 4) ⌝ }
+    ensures { λ r. ⌜ r ≡ numberAt n (now (s .entry)) at ⌝ }
+{
+    if n == 0 {
+        return 0;
+    }
+    if n == 1 {
+        return wide(s[at]);
+    }
+    if n == 2 {
+        return wide(s[at]) * 256 + wide(s[at + 1]);
+    }
+    (wide(s[at]) * 256 + wide(s[at + 1])) * 256 + wide(s[at + 2])
+}
+
+// The number in the two octets at a place, or in those that are there: for a count.
+pub fn number16(s: &[u8], at: usize) -> usize
+    ensures { λ r. ⌜ r ≡ numberAt 2 (now (s .entry)) at ⌝ }
+{
+    let n = left(s.len(), at);
+    if n < 2 {
+        return short_number(s, at, n) as usize;
+    }
+    (wide(s[at]) * 256 + wide(s[at + 1])) as usize
+}
+
+// The number in the four octets at a place, or in those that are there.
+pub fn number32(s: &[u8], at: usize) -> u32
+    ensures { λ r. ⌜ r ≡ numberAt 4 (now (s .entry)) at ⌝ }
+{
+    let n = left(s.len(), at);
+    if n < 4 {
+        return short_number(s, at, n);
+    }
+    ((wide(s[at]) * 256 + wide(s[at + 1])) * 256 + wide(s[at + 2])) * 256 + wide(s[at + 3])
 }
 
 pub fn write8(d: &mut [u8], at: usize, n: u8) -> Written

@@ -14,7 +14,7 @@ use mathlib.Core.List.{List, [], _∷_, _++_, map, append-assoc, append-nil}
 use borrow.Author.Tests.{ne-eqb}
 use lib.ListN.{length, length-append, length-map}
 use lib.Dec.{eqb}
-use Rattle.octets.specs.Octets.{be}
+use Rattle.octets.specs.Octets.{numberAt, be}
 use Rattle.octets.proofs.Laws.{length-be}
 use Rattle.records.specs.Records.{AssertRecord, ofGroup, rBit}
 use Rattle.records.specs.Runs.{Run, run, runs}
@@ -23,7 +23,7 @@ use Rattle.records.proofs.Joining.{aggregated-rp, aggregated-source, groupRecor
 use Rattle.format.specs.Family.{ipv4}
 use Rattle.format.specs.Address.{groupOctets, sourceOctets}
 use Rattle.format.specs.Record.{each, reserved2, groupRecordOctets, aggregatedOctets}
-use Rattle.format.specs.Entry.{numberAt, assertAt, assertEntries, entriesAt}
+use Rattle.format.specs.Entry.{assertAt, assertEntries, entriesAt}
 use Rattle.format.proofs.Lengths.{length-group, length-source, length-each}
 use Rattle.format.proofs.Entries.{length-entriesAt}
 use Rattle.packing.specs.Aggregates.{asserts, joins, oneOf, allOf, numberOf, addressSize, addressOctets, sourcesIn}

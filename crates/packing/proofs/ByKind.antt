@@ -15,10 +15,10 @@ use mathlib.Core.Path.{_≡_, refl}
 use mathlib.Core.Bool.{Bool, true, false, _&&_}
 use mathlib.Core.List.{List, [], _++_, append-assoc}
 use lib.ListN.{length}
-use Rattle.octets.specs.Octets.{be}
+use Rattle.octets.specs.Octets.{numberAt, be}
 use Rattle.format.specs.Family.{ipv4, mayBeSource}
 use Rattle.format.specs.Body.{zeros, plainBody, simpleBody, aggregatedBody, pairBody}
-use Rattle.format.specs.Entry.{numberAt, assertAt, allowedAssert, pairAt, allowedPair}
+use Rattle.format.specs.Entry.{assertAt, allowedAssert, pairAt, allowedPair}
 use Rattle.format.specs.Record.{each, assertOctets, pairOctets}
 use Rattle.format.specs.declared.Kind.{Kind}
 use Rattle.format.specs.declared.Kind.the-variants.{Hello, Assert, Simple, Aggregated, NullRegister, RegisterStop}

@@ -12,7 +12,7 @@ use mathlib.Core.Bool.{Bool, true, false, _&&_, _||_, cond}
 use mathlib.Core.List.{List, [], _∷_, _++_}
 use lib.ListN.{length, take, drop, length-append}
 use lib.Dec.{eqb}
-use Rattle.octets.specs.Octets.{put}
+use Rattle.octets.specs.Octets.{numberAt, put}
 use Rattle.octets.proofs.Laws.{put-put, put-nil, length-put}
 use Rattle.records.specs.Records.{AssertRecord, rBit}
 use Rattle.records.specs.Runs.{run, runs, leading}
@@ -21,7 +21,7 @@ use Rattle.records.proofs.Runs.{runs-first}
 use Rattle.records.proofs.Joining.{together-cong, sameGroup-cong}
 use Rattle.format.specs.Family.{ipv4}
 use Rattle.format.specs.Record.{each}
-use Rattle.format.specs.Entry.{numberAt, assertAt, assertEntries, entriesAt}
+use Rattle.format.specs.Entry.{assertAt, assertEntries, entriesAt}
 use Rattle.format.proofs.Lengths.{each-append}
 use Rattle.format.proofs.Entries.{length-entriesAt}
 use Rattle.packing.specs.Aggregates.{asserts, joins, runLength, oneOf, allOf, numberOf}

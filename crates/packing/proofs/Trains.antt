@@ -3,7 +3,7 @@
 --     calls-keep-demand3      so the statement holds of them
 -- Assumes nothing.
 use Prim.Native.Nat.{ℕ}
-use mathlib.Core.Path.{_≡_, refl, ap, ap₂, _∙_}
+use mathlib.Core.Path.{_≡_, refl, ap, ap₂}
 use mathlib.Core.List.{List, [], _∷_, map}
 use Rattle.format.specs.Outcome.{Outcome}
 use Rattle.format.specs.Family.{ipv4}

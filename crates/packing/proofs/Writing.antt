@@ -1,5 +1,5 @@
 -- Octets written into a lent buffer, from entries that stand one after another.
---     number-is, copied          a number by its octets, and those octets stored as they stand
+--     copied                     the octets of a number stored as they stand
 --     put-number, put-counted    a number stored octet by octet, and one of 16 bits that is followed by reserved octets
 --     Rows                       where a loop over entries stands: rows-start, rows-there, rows-next, rows-end, rows-out
 --     sealed                     a message whose checksum was 0, with its checksum
@@ -10,19 +10,15 @@ use native.Mathlib.Omega.{arith}
 use mathlib.Core.Path.{_≡_, refl, sym, ap, _∙_}
 use mathlib.Core.List.{List, [], _∷_, _++_}
 use lib.ListN.{length, getD, take}
-use Rattle.octets.specs.Octets.{Octets, value, be, put}
-use Rattle.octets.proofs.Laws.{octetsFrom, stores, stores-put, field-got, field-back, be-value, octets-nil, octets-cons, put-nil, put-put, length-put, take-put, length-be, lows-be, taken, taken-be}
+use Rattle.octets.specs.Octets.{numberAt, Octets, be, put}
+use Rattle.octets.proofs.Laws.{number-is, octetsFrom, stores, stores-put, be-value, octets-nil, octets-cons, put-nil, put-put, length-put, take-put, length-be, lows-be, taken, taken-be}
 use Rattle.checksum.specs.Sum.{checksum}
 use Rattle.format.specs.Header.{octet0, octet1, message}
 use Rattle.format.specs.Record.{each}
-use Rattle.format.specs.Entry.{numberAt, Entries, entriesAt}
+use Rattle.format.specs.Entry.{Entries, entriesAt}
 use Rattle.format.specs.declared.Kind.{Kind}
 
 -- ---- a number
-
-pub number-is : (k : ℕ) (o : List ℕ) (at : ℕ) → at + k ≤ length o → numberAt k o at ≡ value (octetsFrom o at 0 k)
-unfolding numberAt
-number-is k o at h = sym (field-back k o at (sym (field-got k o at h refl)) .1)
 
 pub copied : (o d : List ℕ) (at out : ℕ) → Octets o → at + 4 ≤ length o → out + 4 ≤ length d
     → stores d out 0 (octetsFrom o at 0 4) ≡ put d out (be 4 (numberAt 4 o at))

@@ -18,7 +18,8 @@ use Rattle.records.specs.Joining.{together, sameGroup, groupRecords, allGroupRe
 use Rattle.format.specs.Family.{ipv4}
 use Rattle.format.specs.Address.{groupOctets, sourceOctets}
 use Rattle.format.specs.Record.{each, groupRecordOctets, aggregatedOctets}
-use Rattle.format.specs.Entry.{numberAt, assertAt, assertEntries, entriesAt}
+use Rattle.octets.specs.Octets.{numberAt}
+use Rattle.format.specs.Entry.{assertAt, assertEntries, entriesAt}
 use Rattle.packing.specs.declared.run.Run.{Run}
 use Rattle.packing.specs.declared.run.Run.the-variants.{Aggregated, Group as OfGroup}
 use Rattle.packing.specs.declared.tally.Tally.{Tally as TallyHere}

@@ -14,7 +14,7 @@ use mathlib.Core.Bool.{Bool, true, false, cond}
 use mathlib.Core.List.{List, [], _∷_}
 use lib.ListN.{length}
 use lib.Dec.{ltb}
-use Rattle.octets.specs.Octets.{_&_}
+use Rattle.octets.specs.Octets.{numberAt, _&_}
 use Rattle.records.specs.Records.{rBit}
 use Rattle.records.specs.Joining.{joined}
 use Rattle.format.specs.Outcome.{Outcome, gives, refuses}
@@ -22,7 +22,7 @@ use Rattle.format.specs.Family.{ipv4}
 use Rattle.format.specs.Header.{octet0, octet1}
 use Rattle.format.specs.Record.{each, assertOctets, pairOctets, aggregatedOctets}
 use Rattle.format.specs.Body.{zeros}
-use Rattle.format.specs.Entry.{numberAt, Entries, assertEntries, pairEntries}
+use Rattle.format.specs.Entry.{Entries, assertEntries, pairEntries}
 use Rattle.format.specs.Packing.{Form, plain, simple, aggregated, nullRegister, registerStop}
 use Rattle.format.specs.declared.Kind.{Kind}
 use Rattle.format.specs.declared.Kind.the-variants.{Hello, Assert, Simple, Aggregated, NullRegister, RegisterStop}

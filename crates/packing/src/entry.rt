@@ -1,10 +1,12 @@
 // Entries by the kind of message that is made of them. A list that is not whole has been refused before.
 use format::Kind;
+use octets::number32;
 ghost use mathlib.Core.Path.{_≡_};
 ghost use Prim.Native.Nat.{_+_, _-_, _*_, _≤_, _<_};
 ghost use lib.ListN.{length};
 ghost use Rattle.records.specs.Records.{rBit};
-ghost use Rattle.format.specs.Entry.{numberAt, entriesAt};
+ghost use Rattle.octets.specs.Octets.{numberAt};
+ghost use Rattle.format.specs.Entry.{entriesAt};
 ghost use Rattle.format.specs.Packing.{firstBad};
 ghost use Rattle.packing.specs.Kinds.{entriesFor, zeroFor, badAt};
 
@@ -27,24 +29,8 @@ pub(crate) fn entry_size(kind: Kind) -> usize
     }
 }
 
-// An octet as a wider number.
-fn wide(x: u8) -> u32
-    ensures { λ r. ⌜ (r ≡ x) × (r < 256) ⌝ }
-{
-    x as u32
-}
-
-// The number in four octets.
-pub(crate) fn number32(e: &[u8], at: usize) -> u32
-    requires { ⌜ at + 4 ≤ length (now e) ⌝ }
-    ensures { λ r. ⌜ r ≡ numberAt 4 (now (e .entry)) at ⌝ }
-{
-    ((wide(e[at]) * 256 + wide(e[at + 1])) * 256 + wide(e[at + 2])) * 256 + wide(e[at + 3])
-}
-
 // R is the highest bit of its word.
 pub(crate) fn r_bit(e: &[u8], at: usize) -> bool
-    requires { ⌜ at + 4 ≤ length (now e) ⌝ }
     ensures { λ r. ⌜ r ≡ rBit (numberAt 4 (now (e .entry)) at) ⌝ }
 {
     0x8000_0000 <= number32(e, at)

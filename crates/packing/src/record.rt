@@ -5,10 +5,10 @@ use format::Kind;
 ghost use mathlib.Core.Path.{_≡_};
 ghost use Prim.Native.Nat.{_+_, _*_, _≤_};
 ghost use lib.ListN.{length};
-ghost use Rattle.octets.specs.Octets.{put, be, _&_};
+ghost use Rattle.octets.specs.Octets.{numberAt, put, be, _&_};
 ghost use Rattle.format.specs.Family.{ipv4};
 ghost use Rattle.format.specs.Address.{groupOctets, sourceOctets};
-ghost use Rattle.format.specs.Entry.{numberAt, pairAt, entriesAt};
+ghost use Rattle.format.specs.Entry.{pairAt, entriesAt};
 ghost use Rattle.format.specs.Record.{each, pairOctets};
 ghost use Rattle.packing.specs.Kinds.{entriesFor, recordOctets, recordSize};
 

@@ -1,14 +1,15 @@
 // Where a run of entries ends: neighbouring asserts that are joined into one aggregated record, and inside one
 // with R=1 those of one group. Nothing is tested here: each function knows that its entries are there.
-use crate::entry::number32;
 use crate::entry::r_bit;
+use octets::number32;
 ghost use mathlib.Core.Path.{_≡_};
 ghost use Prim.Native.Nat.{_+_, _*_, _≤_, _<_};
 ghost use lib.ListN.{length};
 ghost use lib.Dec.{eqb};
 ghost use Rattle.records.specs.Joining.{together as togetherOf};
 ghost use Rattle.format.specs.Family.{ipv4};
-ghost use Rattle.format.specs.Entry.{numberAt, assertAt};
+ghost use Rattle.octets.specs.Octets.{numberAt};
+ghost use Rattle.format.specs.Entry.{assertAt};
 ghost use Rattle.packing.specs.Aggregates.{joins, runLength};
 
 // What a run is for.

@@ -1,10 +1,10 @@
 // How many entries fit into one aggregated message: its octets are tallied entry by entry, as definition `tallied`
 // of the crate records does. Nothing is tested here: each function knows that its entries are there. A tally stays
 // far below 2^32, so no sum wraps.
-use crate::entry::number32;
 use crate::entry::r_bit;
 use crate::run::same;
 use crate::run::together;
+use octets::number32;
 ghost use mathlib.Core.Path.{_≡_};
 ghost use Prim.Native.Nat.{_+_, _*_, _^_, _≤_, _<_};
 ghost use lib.ListN.{length};

@@ -18,7 +18,7 @@ use Rattle.format.specs.Reader.{Read, got, bad, Reader, _>>=_, _>>_, give, octe
 use Rattle.format.specs.Family.{ipv4}
 use Rattle.format.specs.Address.{groupField, sourceField}
 use Rattle.format.specs.Record.{positive, groupRecord, sourceAggregated, rpAggregated, aggregatedFields, aggregatedRecord}
-use Rattle.format.specs.Entry.{numberAt}
+use Rattle.octets.specs.Octets.{numberAt}
 use Rattle.reading.specs.Plain.{plainAddresses, plainGroupRecord, plainGroupRecords, plainAggregated, plainRecords}
 use Rattle.reading.proofs.Skipped.{no-got, continue-back}
 use Rattle.reading.proofs.Tallied.{positive-back}

@@ -12,12 +12,11 @@ use mathlib.Core.Bool.{Bool, true, false, not, _&&_}
 use mathlib.Core.List.{List}
 use lib.Dec.{eqb, leb}
 use lib.ListN.{length, getD}
-use Rattle.octets.specs.Octets.{Octets}
+use Rattle.octets.specs.Octets.{numberAt, Octets}
 use Rattle.records.specs.Records.{assert, rBit}
 use Rattle.format.specs.Reader.{Read, got, continue, _>>=_, _>>_, give, here, octets, number, refuse}
 use Rattle.format.specs.Family.{ipv4}
 use Rattle.format.specs.Address.{groupField, sourceField}
-use Rattle.format.specs.Entry.{numberAt}
 use Rattle.format.specs.Record.{assertFields}
 use Rattle.format.specs.declared.Refusal.{Refusal}
 use Rattle.reading.specs.Answers.{checked, skipped}

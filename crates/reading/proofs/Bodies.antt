@@ -9,10 +9,9 @@ use mathlib.Core.List.{List, [], _∷_}
 use lib.ListN.{length, getD}
 use lib.Dec.{leb}
 use borrow.Author.Tests.{le-leb, lt-leb, leb-false, eq-eqb, ne-eqb}
-use Rattle.octets.specs.Octets.{value}
+use Rattle.octets.specs.Octets.{numberAt, value}
 use Rattle.format.specs.Reader.{Read, got, bad, Reader, continue, _>>=_, _>>_, give, number, must, placed, handUp, inRecord, toEnd, records, nothingMore}
 use Rattle.format.specs.Body.{zeroReserved, assertsBody, pairsBody}
-use Rattle.format.specs.Entry.{numberAt}
 use Rattle.records.specs.Records.{AggregatedRecord, allEntries}
 use Rattle.format.specs.Family.{ipv4}
 use Rattle.format.specs.Record.{Single, anAssert, aPair, assertRecord, pairRecord, aggregatedRecord, recordAt}

@@ -19,13 +19,12 @@ use borrow.Author.Tests.{le-leb, lt-leb, lt-ltb, le-ltb, leb-true, leb-false, eq
 use lib.Dec.{leb, ltb, eqb, lit<}
 use lib.ListN.{length, getD, take, drop, length-drop}
 use lib.Seq.{take-add, drop-drop, getD-drop, getD-take, length-take-le, drop-at}
-use Rattle.octets.specs.Octets.{Octets, value}
+use Rattle.octets.specs.Octets.{numberAt, Octets, value}
 use Rattle.octets.proofs.Laws.{octetsFrom, field-got, field-back}
 use Rattle.records.specs.Records.{rBit}
 use Rattle.format.specs.Reader.{Read, Reader, got, bad, continue, _>>=_, give, octets, number, must}
 use Rattle.format.specs.Family.{ipv4, mayBeSource}
 use Rattle.format.specs.Address.{groupForm, groupField, sourceForm, sourceField}
-use Rattle.format.specs.Entry.{numberAt}
 use Rattle.format.specs.declared.Refusal.{Refusal}
 use Rattle.reading.specs.Answers.{checked, skipped}
 use Rattle.reading.specs.declared.field.Checked.{Checked}

@@ -14,7 +14,7 @@ use Rattle.records.specs.Records.{AssertRecord, PairRecord, rBit}
 use Rattle.format.specs.Reader.{Read, got, bad, continue, _>>=_, _>>_, give, here, number, refuse, handUp, inRecord}
 use Rattle.format.specs.Family.{ipv4}
 use Rattle.format.specs.Address.{groupField, sourceField}
-use Rattle.format.specs.Entry.{numberAt}
+use Rattle.octets.specs.Octets.{numberAt}
 use Rattle.format.specs.Record.{Single, anAssert, aPair, assertFields, assertRecord, pairFields, pairRecord, recordAt}
 use Rattle.format.specs.declared.Kind.{Kind}
 use Rattle.format.specs.declared.Kind.the-variants.{Hello, Assert, Simple, Aggregated, NullRegister, RegisterStop}

@@ -27,7 +27,7 @@ use Rattle.format.specs.Reader.{Read, Reader, got, bad, continue, _>>=_, _>>_, 
 use Rattle.format.specs.Family.{ipv4}
 use Rattle.format.specs.Address.{groupField, sourceField}
 use Rattle.format.specs.Record.{positive, groupRecord, sourceAggregated, rpAggregated, aggregatedRecord}
-use Rattle.format.specs.Entry.{numberAt}
+use Rattle.octets.specs.Octets.{numberAt}
 use Rattle.format.specs.declared.Refusal.{Refusal}
 use Rattle.format.proofs.Taken.{takes-groupRecord, takes-aggregatedRecord}
 use Rattle.reading.specs.Answers.{checked, skipped}

@@ -10,7 +10,7 @@ use mathlib.Core.List.{List}
 use Rattle.records.specs.Records.{AssertRecord, assert, PairRecord, pair}
 use Rattle.format.specs.Outcome.{Outcome, gives, refuses}
 use Rattle.format.specs.Reader.{Read, got, bad}
-use Rattle.format.specs.Entry.{numberAt}
+use Rattle.octets.specs.Octets.{numberAt}
 use Rattle.format.specs.Record.{Single, anAssert, aPair}
 use Rattle.format.specs.declared.Kind.{Kind}
 use Rattle.format.specs.declared.Kind.the-variants.{Hello, Assert as AssertKind, Simple, Aggregated, NullRegister, RegisterStop}

@@ -12,7 +12,7 @@ use lib.ListN.{length}
 use lib.Dec.{leb}
 use Rattle.records.specs.Records.{AssertRecord, PairRecord, rBit, GroupRecord, ofGroup, AggregatedRecord, ofSource, ofRp}
 use Rattle.records.specs.Sizes.{groupRecordSize, aggregatedSize}
-use Rattle.format.specs.Entry.{numberAt}
+use Rattle.octets.specs.Octets.{numberAt}
 use Rattle.reading.specs.Answers.{plainAssert, plainPair}
 
 unfoldable pub plainAsserts : List ℕ → ℕ → ℕ → List AssertRecord

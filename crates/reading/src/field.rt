@@ -7,7 +7,7 @@ ghost use lib.ListN.{length};
 ghost use Rattle.format.specs.Reader.{octets, handUp};
 ghost use Rattle.format.specs.Family.{ipv4};
 ghost use Rattle.format.specs.Address.{groupField, sourceField};
-ghost use Rattle.format.specs.Entry.{numberAt};
+ghost use Rattle.octets.specs.Octets.{numberAt};
 ghost use Rattle.reading.specs.Answers.{checked, skipped};
 
 // What a check finds.

@@ -5,7 +5,7 @@ use native.Mathlib.Omega.{arith}
 use borrow.Author.Needs.{needs}
 use denote.Ref.{now}
 use Rattle.octets.proofs.Laws.{field-back}
-use Rattle.format.specs.Entry.{numberAt}
+use Rattle.octets.specs.Octets.{numberAt}
 use Rattle.hello.proofs.Laws.{field-end}
 use Rattle.listing.proofs.value.word.Statement.{statement}
 use Rattle.listing.proofs.value.word.Tie as tie

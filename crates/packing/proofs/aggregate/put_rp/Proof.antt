@@ -6,10 +6,9 @@ use denote.Ref.{now}
 use Prim.Native.Nat.{_+_}
 use mathlib.Core.List.{_++_}
 use lib.ListN.{length, length-append}
-use Rattle.octets.specs.Octets.{be}
+use Rattle.octets.specs.Octets.{numberAt, be}
 use Rattle.octets.proofs.Laws.{put-next, put-before}
 use Rattle.format.specs.Record.{reserved2}
-use Rattle.format.specs.Entry.{numberAt}
 use Rattle.packing.specs.Aggregates.{asserts, allOf, numberOf}
 use Rattle.packing.specs.declared.run.Run.the-variants.{Group}
 use Rattle.packing.proofs.Aggregating.{number-long, metric-long, rp-is, rp-long}

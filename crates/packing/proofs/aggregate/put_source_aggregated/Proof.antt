@@ -5,12 +5,11 @@ use mathlib.Core.Path.{_∙_}
 use denote.Ref.{now}
 use Prim.Native.Nat.{_+_}
 use mathlib.Core.List.{_++_}
-use Rattle.octets.specs.Octets.{be}
+use Rattle.octets.specs.Octets.{numberAt, be}
 use Rattle.octets.proofs.Laws.{put-next}
 use Rattle.format.specs.Family.{ipv4}
 use Rattle.format.specs.Address.{sourceOctets}
 use Rattle.format.specs.Record.{each, reserved2}
-use Rattle.format.specs.Entry.{numberAt}
 use Rattle.format.proofs.Lengths.{length-source}
 use Rattle.packing.specs.Aggregates.{asserts, addressOctets}
 use Rattle.packing.specs.declared.aggregate.Address.the-variants.{Group}

@@ -3,9 +3,8 @@
 use native.Mathlib.Omega.{arith}
 use denote.Ref.{now}
 use Prim.Native.Nat.{_+_}
-use Rattle.octets.specs.Octets.{be}
+use Rattle.octets.specs.Octets.{numberAt, be}
 use Rattle.octets.proofs.Laws.{put-next, length-be}
-use Rattle.format.specs.Entry.{numberAt}
 use borrow.Author.Needs.{needs}
 use Rattle.packing.proofs.record.put_metric.Statement.{statement}
 use Rattle.packing.proofs.record.put_metric.Tie as tie

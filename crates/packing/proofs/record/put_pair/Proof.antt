@@ -7,7 +7,8 @@ use borrow.Author.Needs.{needs}
 use Rattle.octets.proofs.Laws.{put-next}
 use Rattle.format.specs.Address.{groupOctets, sourceOctets}
 use Rattle.format.specs.Record.{pairOctets}
-use Rattle.format.specs.Entry.{numberAt, pairAt}
+use Rattle.octets.specs.Octets.{numberAt}
+use Rattle.format.specs.Entry.{pairAt}
 use Rattle.format.specs.Family.{ipv4}
 use Rattle.format.proofs.Lengths.{length-group}
 use Rattle.packing.proofs.record.put_pair.Statement.{statement}

@@ -12,7 +12,7 @@ use Rattle.records.specs.Records.{rBit}
 use Rattle.format.specs.Reader.{Read, _>>=_, number}
 use Rattle.format.specs.Family.{ipv4}
 use Rattle.format.specs.Record.{sourceAggregated, rpAggregated, aggregatedFields}
-use Rattle.format.specs.Entry.{numberAt}
+use Rattle.octets.specs.Octets.{numberAt}
 use Rattle.reading.specs.Counts.{tallied, recordCount}
 use Rattle.reading.proofs.Fields.{octets-room, rBit-is}
 use Rattle.reading.proofs.Tallied.{tallies-bad, tallies-number, checks-number, either-alike}

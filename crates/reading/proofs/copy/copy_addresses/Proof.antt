@@ -7,7 +7,8 @@ use mathlib.Core.List.{map}
 use mathlib.Core.Path.{_≡_, ap, _∙_}
 use lib.ListN.{length}
 use denote.Ref.{now}
-use Rattle.format.specs.Entry.{numberAt, assertEntryOctets}
+use Rattle.octets.specs.Octets.{numberAt}
+use Rattle.format.specs.Entry.{assertEntryOctets}
 use Rattle.format.specs.Family.{ipv4}
 use Rattle.format.specs.Values.{assertOf}
 use Rattle.reading.specs.Counts.{likeButFor}

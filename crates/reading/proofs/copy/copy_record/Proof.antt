@@ -11,7 +11,7 @@ use denote.Ref.{now}
 use borrow.Author.Needs.{needs}
 use Rattle.records.specs.Records.{AggregatedRecord, assert, entries, allGroupEntries}
 use Rattle.records.specs.Sizes.{aggregatedSize, groupRecordsSize}
-use Rattle.format.specs.Entry.{numberAt}
+use Rattle.octets.specs.Octets.{numberAt}
 use Rattle.format.specs.Values.{assertOf}
 use Rattle.reading.specs.Counts.{likeButFor}
 use Rattle.reading.specs.Plain.{plainAggregated, plainAddresses, plainGroupRecords}

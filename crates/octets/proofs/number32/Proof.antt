@@ -1,12 +1,22 @@
--- `packing::entry::number32` meets its contract: the sum spells the octets read, each below 256.
+-- `octets::number32` meets its contract: the sum spells the octets, or those that are there.
 -- Assumes nothing.
 use native.Mathlib.Omega.{arith}
 use denote.Ref.{now}
+use mathlib.Core.Path.{sym, _∙_}
+use Rattle.octets.specs.Octets.{value}
+use Rattle.octets.proofs.Laws.{number-is, number-short}
 use borrow.Author.Needs.{needs}
-use Rattle.octets.specs.Octets.{value}
-use Rattle.packing.proofs.Writing.{number-is}
-use Rattle.packing.proofs.entry.number32.Statement.{statement}
-use Rattle.packing.proofs.entry.number32.Tie as tie
+use Rattle.octets.proofs.number32.Statement.{statement}
+use Rattle.octets.proofs.number32.Tie as tie
+
+left-requires : tie.Need-left-requires
+left-requires c κs = search needs
+
+short-number-requires : tie.Need-short-number-requires
+short-number-requires c κs = search needs
+
+returns : tie.Need-returns
+returns c = c .short-number .ensures ∙ sym (number-short 4 _ (now (c .before .before .before .before .args .s)) (c .before .before .before .before .args .at) (c .before .before .left .ensures) (omega (arith, c .before .if1 .taken)))
 
 shared-slice-read-wide : tie.Need-shared-slice-read-wide
 shared-slice-read-wide c = search needs
@@ -59,17 +69,17 @@ wide-requires-4 c κs = search needs
 add-result-3 : tie.Need-add-result-3
 add-result-3 c = search needs
 
-returns : tie.Need-returns
+returns-2 : tie.Need-returns-2
 unfolding value
-returns c =
-    let s = c .before .before .before .before .before .before .before .before .before in
-    let a = s .args in
-    omega (arith, number-is 4 (now (a .e)) (a .at) (s .pre))
+returns-2 c = omega (arith, number-is 4 (now (c .before .before .before .before .before .before .before .before .before .before .before .args .s)) (c .before .before .before .before .before .before .before .before .before .before .before .args .at) (omega (arith, c .before .before .before .before .before .before .before .before .before .left .ensures, c .before .before .before .before .before .before .before .before .if1 .left)))
 
 pub number32-spec : {M : Type 1} → statement M
 number32-spec =
     tie.close
     (tie.spec
+    left-requires
+    short-number-requires
+    returns
     shared-slice-read-wide
     wide-requires
     mul-result
@@ -87,4 +97,4 @@ number32-spec =
     shared-slice-read-wide-4
     wide-requires-4
     add-result-3
-    returns)
+    returns-2)
