@@ -16,12 +16,13 @@ use Rattle.format.specs.Packing.{usualLimit, leastLimit, readLimit, firstBad, a
 use Rattle.format.proofs.Calls.{asked-short}
 use Rattle.format.specs.declared.Kind.{Kind}
 use Rattle.format.specs.declared.Refusal.{Refusal}
-use Rattle.packing.specs.Kinds.{entriesFor, badAt}
+use Rattle.writing.specs.Kinds.{entriesFor}
+use Rattle.packing.specs.Kinds.{badAt}
 use Rattle.packing.specs.Answers.{limitOf, limited}
 use Rattle.packing.specs.declared.limit.Limit.{Limit}
 use Rattle.packing.specs.declared.limit.Limit.the-variants.{Is, Refused}
-use Rattle.packing.proofs.ByKind.{family-is}
-use Rattle.packing.proofs.Listed.{drop-entries}
+use Rattle.writing.proofs.ByKind.{family-is}
+use Rattle.writing.proofs.Listed.{drop-entries}
 
 -- what the answer about the limit says
 module _ (k : Kind) (limit : ℕ) {x : Limit} where

@@ -1,11 +1,6 @@
-pub mod Writing
 pub mod Listed
 pub mod ByKind
 pub mod Asks
-pub mod Fitting
 pub mod Packs
-pub mod Joins
-pub mod Aggregating
-pub mod Tallies
 pub mod Choices
 pub mod Trains

@@ -1,32 +1,33 @@
 -- What a packing call comes to.
 --     limit-refused, limit-asked     what the answer of `asked` says
---     asked-limits, asked-inside, asked-there     the limit that was read, and the entries from the start on
+--     asked-inside, asked-there, asked-most     the entries from the start on, and the message that can be asked for
 --     call-refused, call-packs       the call is refused, or packs them
---     most-none, most-inside, most-fits, most-some     of n entries none fit, or the message is of those that do
 -- Assumes nothing.
-use Prim.Native.Nat.{ℕ, _+_, _-_, _*_, _/_, _≤_, _<_}
+use Prim.Native.Nat.{ℕ, _+_, _-_, _*_, _/_, _≤_}
 use native.Mathlib.Nat.{mul-add, mul-div-le}
 use native.Mathlib.Omega.{arith}
 use mathlib.Core.Path.{_≡_, refl, sym, ap, ap₂, _∙_}
-use mathlib.Core.List.{List, []}
-use lib.ListN.{length, take, drop}
+use mathlib.Core.Bool.{true}
+use mathlib.Core.List.{List}
+use lib.ListN.{length, drop}
 use Rattle.octets.specs.Octets.{put}
 use Rattle.format.specs.Outcome
 use Rattle.format.specs.Outcome.{Outcome, gives, refuses}
 use Rattle.format.specs.Entry.{Entries, count, entriesAt, entriesOf}
 use Rattle.format.specs.Family.{ipv4}
-use Rattle.format.specs.Packing.{leastLimit, usualLimit, Form, canonical, Due, due, asked, taken, Packed, packed, octetsOf, tookOf, pack, wrote, written, packDue, packing}
+use Rattle.format.specs.Packing.{leastLimit, usualLimit, Form, Due, due, asked, Packed, octetsOf, tookOf, pack, wrote, written, packDue, packing}
 use Rattle.format.specs.declared.Kind.{Kind}
 use Rattle.format.specs.declared.Refusal.{Refusal}
 use Rattle.format.proofs.Outcomes.{no-refusal, gives-same}
-use Rattle.format.proofs.Entries.{length-entriesAt}
-use Rattle.format.proofs.Calls.{limit-range, Asked, asked-gives, gives-asked, taken-most, taken-fits, pack-none, pack-some}
-use Rattle.packing.specs.Kinds.{entriesFor, formFor}
+use Rattle.format.proofs.Calls.{limit-range, Asked, asked-gives, gives-asked}
+use Rattle.writing.specs.Kinds.{entriesFor, formFor, isPacked}
+use Rattle.writing.specs.Most.{mostOf}
+use Rattle.writing.proofs.Packs.{possible-is, possible-most}
 use Rattle.packing.specs.Answers.{limitOf, limited}
 use Rattle.packing.specs.declared.limit.Limit.{Limit}
 use Rattle.packing.specs.declared.limit.Limit.the-variants.{Is, Refused}
-use Rattle.packing.proofs.ByKind.{family-is, most-is}
-use Rattle.packing.proofs.Listed.{take-entries, drop-entries}
+use Rattle.writing.proofs.ByKind.{family-is}
+use Rattle.writing.proofs.Listed.{drop-entries}
 
 pub limit-refused : {A : Type 0} (x : Outcome (Due A)) {a : Limit} {r : Refusal} → a ≡ Refused r → limitOf a ≡ limited x → x ≡ refuses (r .number) (r .place)
 unfolding limitOf limited
@@ -48,7 +49,7 @@ call-refused F o start limit d n p e = rw e
 
 -- the limit that was read, and the entries from the start on are there
 module _ (k : Kind) (o : List ℕ) (start limit : ℕ) (room l : ℕ) (h : Asked (entriesFor k) o start limit room l) where
-  pub asked-limits : (38 ≤ l) × (l ≤ 65515)
+  asked-limits : (38 ≤ l) × (l ≤ 65515)
   unfolding leastLimit usualLimit
   asked-limits =
       let range = limit-range ipv4 limit l (rw (family-is k) at (h .limitRead)) in
@@ -65,6 +66,13 @@ module _ (k : Kind) (o : List ℕ) (start limit : ℕ) (room l : ℕ) (h : Asked
       let parts : size * (length o / size) ≡ size * start + size * (length o / size - start) = ap (λ x. size * x) (sym all) ∙ mul-add size start (length o / size - start) in
       omega (arith, parts, mul-div-le (length o) size)
 
+  -- the message can be asked for, in any buffer with room for the limit
+  pub asked-most : isPacked k ≡ true → (r : ℕ) → l ≤ r
+      → mostOf k o (entriesFor k .size * start) (length o / entriesFor k .size - start) l r ≡ pack (formFor k) l (entriesAt (entriesFor k) o (entriesFor k .size * start) (length o / entriesFor k .size - start))
+  asked-most p r fits =
+      possible-most k o (entriesFor k .size * start) (length o / entriesFor k .size - start) l r
+      (possible-is k (length o) (entriesFor k .size * start) (length o / entriesFor k .size - start) l r p asked-there (asked-limits .0) (asked-limits .1) fits)
+
 -- a call that is not refused packs the entries from the start on
 pub call-packs : (k : Kind) (o : List ℕ) (start limit l : ℕ) (d : List ℕ) (p : Packed) → Asked (entriesFor k) o start limit (length d) l
     → p ≡ pack (formFor k) l (entriesAt (entriesFor k) o (entriesFor k .size * start) (length o / entriesFor k .size - start))
@@ -73,25 +81,3 @@ unfolding packing packDue written count Outcome._>>=_
 call-packs k o start limit l d p h e =
     let left : drop start (entriesOf (entriesFor k) o) ≡ entriesAt (entriesFor k) o (entriesFor k .size * start) (length o / entriesFor k .size - start) = drop-entries (entriesFor k) o start (h .inside) in
     rw (asked-gives (entriesFor k) o start limit (length d) l h, left, ← e)
-
--- ---- the most of n entries that fit
-
-module _ (k : Kind) (o : List ℕ) (from n l t : ℕ) (e : t ≡ taken (formFor k) l (entriesAt (entriesFor k) o from n)) where
-  pub most-none : t ≡ 0 → pack (formFor k) l (entriesAt (entriesFor k) o from n) ≡ packed [] 0
-  most-none z = pack-none (formFor k) l (entriesAt (entriesFor k) o from n) (sym e ∙ z)
-
-  pub most-inside : t ≤ n
-  most-inside =
-      let long = length-entriesAt (entriesFor k) o from n in
-      omega (arith, e, taken-most (formFor k) l (entriesAt (entriesFor k) o from n), most-is k (length (entriesAt (entriesFor k) o from n)))
-
-  first-taken : take (taken (formFor k) l (entriesAt (entriesFor k) o from n)) (entriesAt (entriesFor k) o from n) ≡ entriesAt (entriesFor k) o from t
-  first-taken = rw (← e) (take-entries (entriesFor k) o t n from most-inside)
-
-  pub most-fits : 0 < t → length (canonical (formFor k) (entriesAt (entriesFor k) o from t)) ≤ l
-  most-fits some = rw first-taken at (taken-fits (formFor k) l (entriesAt (entriesFor k) o from n) (rw e at some))
-
-  pub most-some : 0 < t → pack (formFor k) l (entriesAt (entriesFor k) o from n) ≡ packed (canonical (formFor k) (entriesAt (entriesFor k) o from t)) t
-  most-some some =
-      pack-some (formFor k) l (entriesAt (entriesFor k) o from n) (rw e at some)
-      ∙ ap₂ packed (ap (canonical (formFor k)) first-taken) (sym e)

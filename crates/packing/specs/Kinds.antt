@@ -1,47 +1,16 @@
--- The packing calls by the kind of message, in IPv4.
---     entriesFor, formFor          the entries of a kind, and its form
---     zeroFor                      whether the source of an entry may be 0
---     recordSize, recordOctets     the record of an entry, where records have one length
---     isAggregated, recordsFor     the kind whose records have not, and the records of entries
---     frontOf, headSize, beginning what comes before the records: of the body, in octets, and with the checksum as 0
---     Packs                        a kind that is packed: its body is that and the records
---     fitting                      how many entries fit where records have one length
---     badAt                        what the first entry that is not allowed says
--- A hello has no entries, and no call packs one. Assumes nothing: these are definitions.
-use Prim.Native.Nat.{ℕ, _+_, _-_, _/_, min}
-use mathlib.Core.Path.{_≡_}
+-- Entries by the kind of message.
+--     zeroFor     whether the source of an entry may be 0
+--     badAt       what the first entry that is not allowed says
+-- Assumes nothing: these are definitions.
+use Prim.Native.Nat.{ℕ, _+_}
 use mathlib.Core.Bool.{Bool, true, false, cond}
-use mathlib.Core.List.{List, [], _∷_}
-use lib.ListN.{length}
+use mathlib.Core.List.{List}
 use lib.Dec.{ltb}
-use Rattle.octets.specs.Octets.{numberAt, _&_}
+use Rattle.octets.specs.Octets.{numberAt}
 use Rattle.records.specs.Records.{rBit}
-use Rattle.records.specs.Joining.{joined}
 use Rattle.format.specs.Outcome.{Outcome, gives, refuses}
-use Rattle.format.specs.Family.{ipv4}
-use Rattle.format.specs.Header.{octet0, octet1}
-use Rattle.format.specs.Record.{each, assertOctets, pairOctets, aggregatedOctets}
-use Rattle.format.specs.Body.{zeros}
-use Rattle.format.specs.Entry.{Entries, assertEntries, pairEntries}
-use Rattle.format.specs.Packing.{Form, plain, simple, aggregated, nullRegister, registerStop}
 use Rattle.format.specs.declared.Kind.{Kind}
 use Rattle.format.specs.declared.Kind.the-variants.{Hello, Assert, Simple, Aggregated, NullRegister, RegisterStop}
-
-abbrev pub entriesFor : Kind → Entries
-entriesFor Hello = assertEntries ipv4
-entriesFor Assert = assertEntries ipv4
-entriesFor Simple = assertEntries ipv4
-entriesFor Aggregated = assertEntries ipv4
-entriesFor NullRegister = pairEntries ipv4 false
-entriesFor RegisterStop = pairEntries ipv4 true
-
-abbrev pub formFor : (k : Kind) → Form (entriesFor k)
-formFor Hello = record { kind = Hello; atMost = λ n. 0; body = λ es. []; size = λ es. 4 }
-formFor Assert = plain ipv4
-formFor Simple = simple ipv4
-formFor Aggregated = aggregated ipv4
-formFor NullRegister = nullRegister ipv4
-formFor RegisterStop = registerStop ipv4
 
 -- of an assert by its R bit, at octet 8 of the entry
 unfoldable pub zeroFor : Kind → List ℕ → ℕ → Bool
@@ -51,56 +20,6 @@ zeroFor Simple o at = rBit (numberAt 4 o (at + 8))
 zeroFor Aggregated o at = rBit (numberAt 4 o (at + 8))
 zeroFor NullRegister o at = false
 zeroFor RegisterStop o at = true
-
--- 01, 00, 00, 20 before the group, 01, 00 before the source
-abbrev pub recordSize : Kind → ℕ
-recordSize k = entriesFor k .size + 6
-
-unfoldable pub recordOctets : (k : Kind) → entriesFor k .Entry → List ℕ
-recordOctets Hello = assertOctets ipv4
-recordOctets Assert = assertOctets ipv4
-recordOctets Simple = assertOctets ipv4
-recordOctets Aggregated = assertOctets ipv4
-recordOctets NullRegister = pairOctets ipv4
-recordOctets RegisterStop = pairOctets ipv4
-
-unfoldable pub isAggregated : Kind → Bool
-isAggregated Hello = false
-isAggregated Assert = false
-isAggregated Simple = false
-isAggregated Aggregated = true
-isAggregated NullRegister = false
-isAggregated RegisterStop = false
-
-unfoldable pub recordsFor : (k : Kind) → List (entriesFor k .Entry) → List ℕ
-recordsFor Hello es = each (recordOctets Hello) es
-recordsFor Assert es = each (recordOctets Assert) es
-recordsFor Simple es = each (recordOctets Simple) es
-recordsFor Aggregated es = each (aggregatedOctets ipv4) (joined 4 es)
-recordsFor NullRegister es = each (recordOctets NullRegister) es
-recordsFor RegisterStop es = each (recordOctets RegisterStop) es
-
--- Zero and Reserved of a packed assert
-abbrev pub frontOf : Kind → List ℕ
-frontOf Hello = []
-frontOf Assert = []
-frontOf Simple = zeros
-frontOf Aggregated = zeros
-frontOf NullRegister = []
-frontOf RegisterStop = []
-
-abbrev pub headSize : Kind → ℕ
-headSize k = 4 + length (frontOf k)
-
-abbrev pub beginning : Kind → List ℕ
-beginning k = octet0 k ∷ octet1 k ∷ 0 ∷ 0 ∷ frontOf k
-
-pub record Packs (k : Kind) : Type 0 where
-  pub body : (es : List (entriesFor k .Entry)) → formFor k .body es ≡ frontOf k & recordsFor k es
-
--- as many records as there is room for past the head, and no more than there are entries
-unfoldable pub fitting : Kind → ℕ → ℕ → ℕ
-fitting k limit n = min ((limit - headSize k) / recordSize k) (formFor k .atMost n)
 
 unfoldable pub badAt : ℕ → ℕ → Outcome (Unit {0})
 badAt i n = cond (ltb i n) (refuses 7 i) (gives tt)

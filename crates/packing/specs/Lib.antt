@@ -1,4 +1,3 @@
 pub mod Kinds
-pub mod Aggregates
 pub mod Answers
 pub mod Trains

@@ -1,10 +1,10 @@
 // The choice between the two packed assert forms: both are written, each into a buffer of its own.
-use crate::calls::Written;
-use crate::calls::pack_most;
 use crate::limit::Limit;
 use crate::limit::asked;
 use format::Kind;
 use format::Refusal;
+use writing::Written;
+use writing::write_most;
 ghost use mathlib.Core.Path.{_≡_};
 ghost use mathlib.Core.Bool.{_&&_, _||_};
 ghost use Prim.Native.Nat.{min};
@@ -65,8 +65,8 @@ pub fn pack_both(
         Limit::Refused(r) => Choice::Refused(r),
         Limit::Is(l) => {
             let left = e.len() / 16 - start;
-            let s = pack_most(Kind::Simple, e, 16 * start, left, l, simple);
-            let a = pack_most(Kind::Aggregated, e, 16 * start, left, l, aggregated);
+            let s = write_most(Kind::Simple, e, 16 * start, left, l, simple);
+            let a = write_most(Kind::Aggregated, e, 16 * start, left, l, aggregated);
             if prefers_aggregated(s, a) {
                 return Choice::Wrote {
                     aggregated: true,

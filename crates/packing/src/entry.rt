@@ -1,40 +1,20 @@
 // Entries by the kind of message that is made of them. A list that is not whole has been refused before.
 use format::Kind;
 use octets::number32;
+use writing::entry_size;
+use writing::r_bit;
 ghost use mathlib.Core.Path.{_≡_};
 ghost use Prim.Native.Nat.{_+_, _-_, _*_, _≤_, _<_};
 ghost use lib.ListN.{length};
-ghost use Rattle.records.specs.Records.{rBit};
-ghost use Rattle.octets.specs.Octets.{numberAt};
 ghost use Rattle.format.specs.Entry.{entriesAt};
 ghost use Rattle.format.specs.Packing.{firstBad};
-ghost use Rattle.packing.specs.Kinds.{entriesFor, zeroFor, badAt};
+ghost use Rattle.writing.specs.Kinds.{entriesFor};
+ghost use Rattle.packing.specs.Kinds.{zeroFor, badAt};
 
 // Groups lie in 224.0.0.0/4.
 const FIRST_GROUP: u32 = 0xe000_0000;
 
 const PAST_GROUPS: u32 = 0xf000_0000;
-
-// The octets of an entry.
-pub(crate) fn entry_size(kind: Kind) -> usize
-    ensures { λ r. ⌜ r ≡ entriesFor kind .size ⌝ }
-{
-    match kind {
-        Kind::Hello => 16,
-        Kind::Assert => 16,
-        Kind::Simple => 16,
-        Kind::Aggregated => 16,
-        Kind::NullRegister => 8,
-        Kind::RegisterStop => 8,
-    }
-}
-
-// R is the highest bit of its word.
-pub(crate) fn r_bit(e: &[u8], at: usize) -> bool
-    ensures { λ r. ⌜ r ≡ rBit (numberAt 4 (now (e .entry)) at) ⌝ }
-{
-    0x8000_0000 <= number32(e, at)
-}
 
 // Whether the source of an entry may be 0.
 fn zero_allowed(kind: Kind, e: &[u8], at: usize) -> bool

@@ -1,20 +1,15 @@
-// Packing messages whose records have one length: a plain assert, and packed simple asserts, null-registers and
-// register-stops. Every public call is total; what it answers and what it writes is a definition of the crate format.
+// The packing calls: plain asserts, packed simple and aggregated asserts, null-registers and register-stops, and the
+// choice between the two packed assert forms. Every public call is total; what it answers and what it writes is a
+// definition of the crate format. How a message is written is the crate writing's.
 //
-// entry.rt       entries by the kind of message: their size, and the first that is not allowed
+// entry.rt       the first entry that is not allowed
 // limit.rt       what a call refuses, in the order 9, 8, 10, 7
-// record.rt      records written from entries
-// message.rt     a whole message: what begins it, the records, the checksum
-// calls.rt       how many entries fit, and the four calls
-mod aggregate;
+// calls.rt       the five calls
+// choice.rt      both packed assert forms, and the one that is chosen
 mod calls;
 mod choice;
 mod entry;
 mod limit;
-mod message;
-mod record;
-mod run;
-mod tally;
 
 pub use calls::Packing;
 pub use calls::pack_aggregated;

@@ -1,12 +1,12 @@
 // What a packing call refuses before it writes: 9, 8, 10, then 7.
-use crate::entry::entry_size;
 use crate::entry::first_bad;
 use format::Kind;
 use format::Refusal;
+use writing::entry_size;
 ghost use mathlib.Core.Path.{_≡_};
 ghost use Rattle.format.specs.Family.{ipv4};
 ghost use Rattle.format.specs.Packing.{readLimit, asked as askedOf};
-ghost use Rattle.packing.specs.Kinds.{entriesFor};
+ghost use Rattle.writing.specs.Kinds.{entriesFor};
 ghost use Rattle.packing.specs.Answers.{limitOf, limited};
 
 // What limit 0 is read as.

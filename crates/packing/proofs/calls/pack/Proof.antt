@@ -10,9 +10,9 @@ use Rattle.format.specs.Entry.{entriesAt}
 use Rattle.format.specs.Packing.{asked, pack, wrote}
 use Rattle.format.proofs.Calls.{Asked}
 use Rattle.packing.specs.Answers.{packed}
-use Rattle.packing.specs.Kinds.{entriesFor, formFor}
-use Rattle.packing.proofs.ByKind.{size-range}
-use Rattle.packing.proofs.Packs.{limit-refused, limit-asked, asked-limits, asked-inside, asked-there, call-refused, call-packs}
+use Rattle.writing.specs.Kinds.{entriesFor, formFor}
+use Rattle.writing.proofs.ByKind.{size-range}
+use Rattle.packing.proofs.Packs.{limit-refused, limit-asked, asked-inside, asked-there, asked-most, call-refused, call-packs}
 use borrow.Author.Needs.{needs}
 use Rattle.packing.proofs.calls.pack.Statement.{statement}
 use Rattle.packing.proofs.calls.pack.Tie as tie
@@ -45,25 +45,21 @@ enum-known-x-2 c = search needs
 entry-size-requires : tie.Need-entry-size-requires
 entry-size-requires c κs = search needs
 
-mul-pack-most : tie.Need-mul-pack-most
-mul-pack-most c =
+mul-write-most : tie.Need-mul-write-most
+mul-write-most c =
     let r = c .before in
     let a = start r .args in
     let same : c .entry-size .result * a .start ≡ entriesFor (a .kind) .size * a .start = ap (λ x. x * a .start) (c .entry-size .ensures) in
     omega (arith, asked-there (a .kind) (now (a .e)) (a .start) (a .limit) (length (now (a .d))) (limit r) (asks r))
 
-div-pack-most : tie.Need-div-pack-most
-div-pack-most c = omega (arith, c .entry-size .ensures, size-range (c .before .before .before .before .before .before .before .args .kind))
+div-write-most : tie.Need-div-write-most
+div-write-most c = omega (arith, c .entry-size .ensures, size-range (c .before .before .before .before .before .before .before .args .kind))
 
-sub-pack-most : tie.Need-sub-pack-most
-sub-pack-most c = rw (c .entry-size .ensures) (inside (c .before))
+sub-write-most : tie.Need-sub-write-most
+sub-write-most c = rw (c .entry-size .ensures) (inside (c .before))
 
-pack-most-requires : tie.Need-pack-most-requires
-pack-most-requires c κs =
-    let r = c .before .before in
-    let a = start r .args in
-    let limits = asked-limits (a .kind) (now (a .e)) (a .start) (a .limit) (length (now (a .d))) (limit r) (asks r) in
-    (c .before .before .before .before .before .before .before .before .pre, rw (c .before .entry-size .ensures) (asked-there (a .kind) (now (a .e)) (a .start) (a .limit) (length (now (a .d))) (limit r) (asks r)), limits .0, limits .1, asks r .enough)
+write-most-requires : tie.Need-write-most-requires
+write-most-requires c κs = search needs
 
 returns : tie.Need-returns
 unfolding packed
@@ -84,7 +80,8 @@ returns-2 c =
     let a = start r .args in
     let size = c .before .before .before .before .entry-size .ensures in
     let p = pack (formFor (a .kind)) (limit r) (entriesAt (entriesFor (a .kind)) (now (a .e)) (entriesFor (a .kind) .size * a .start) (length (now (a .e)) / entriesFor (a .kind) .size - a .start)) in
-    let wrote-it = rw size at (c .before .before .pack-most .ensures) in
+    let most = asked-most (a .kind) (now (a .e)) (a .start) (a .limit) (length (now (a .d))) (limit r) (asks r) (start r .pre) (length (now (a .d))) (asks r .enough) in
+    let wrote-it = rw (size, most) at (c .before .before .write-most .ensures) in
     let call = call-packs (a .kind) (now (a .e)) (a .start) (a .limit) (limit r) (now (a .d)) p (asks r) refl in
     (ap₂ (λ x y. gives (wrote x y)) (wrote-it .0 .0) (wrote-it .0 .1) ∙ sym (ap (λ x. x .answer) call), wrote-it .1 ∙ sym (ap (λ x. x .buffer) call))
 
@@ -96,10 +93,10 @@ pack-spec =
     enum-known-x
     enum-known-x-2
     entry-size-requires
-    mul-pack-most
-    div-pack-most
-    sub-pack-most
-    pack-most-requires
+    mul-write-most
+    div-write-most
+    sub-write-most
+    write-most-requires
     returns
     same-length
     returns-2)

@@ -1,12 +1,12 @@
 -- `packing::calls::pack_aggregated` meets its contract.
 -- Assumes nothing.
 use borrow.Author.Needs.{needs}
-use Rattle.packing.proofs.ByKind.{aggregated-packs}
+use mathlib.Core.Path.{refl}
 use Rattle.packing.proofs.calls.pack_aggregated.Statement.{statement}
 use Rattle.packing.proofs.calls.pack_aggregated.Tie as tie
 
 pack-requires : tie.Need-pack-requires
-pack-requires c κs = aggregated-packs
+pack-requires c κs = refl
 
 same-length : tie.Need-same-length
 same-length c = search needs

@@ -1,12 +1,12 @@
 -- `packing::calls::pack_register_stop` meets its contract.
 -- Assumes nothing.
 use borrow.Author.Needs.{needs}
-use Rattle.packing.proofs.ByKind.{stop-packs}
+use mathlib.Core.Path.{refl}
 use Rattle.packing.proofs.calls.pack_register_stop.Statement.{statement}
 use Rattle.packing.proofs.calls.pack_register_stop.Tie as tie
 
 pack-requires : tie.Need-pack-requires
-pack-requires c κs = stop-packs
+pack-requires c κs = refl
 
 same-length : tie.Need-same-length
 same-length c = search needs

@@ -5,7 +5,8 @@ use denote.Ref.{now}
 use borrow.Author.Tests.{le-leb, lt-leb, lt-ltb, le-ltb, eq-eqb, ne-eqb}
 use borrow.Author.Needs.{needs}
 use Rattle.format.specs.Family.{mayBeSource}
-use Rattle.packing.proofs.ByKind.{size-range, allowed-is, zero-may}
+use Rattle.writing.proofs.ByKind.{size-range}
+use Rattle.packing.proofs.ByKind.{allowed-is, zero-may}
 use Rattle.packing.proofs.entry.allowed.Statement.{statement}
 use Rattle.packing.proofs.entry.allowed.Tie as tie
 

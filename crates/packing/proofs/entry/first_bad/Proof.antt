@@ -7,7 +7,7 @@ use mathlib.Core.Path.{_≡_, refl, sym, ap, _∙_}
 use denote.Ref.{now}
 use borrow.Author.Tests.{not-true, not-false}
 use borrow.Author.Needs.{needs}
-use Rattle.packing.specs.Kinds.{entriesFor}
+use Rattle.writing.specs.Kinds.{entriesFor}
 use Rattle.packing.proofs.Listed.{Looking, look-start, look-there, look-bad, look-next, look-end}
 use Rattle.packing.proofs.entry.first_bad.Statement.{statement}
 use Rattle.packing.proofs.entry.first_bad.Tie as tie

@@ -8,9 +8,9 @@ use denote.Ref.{now}
 use borrow.Author.Needs.{needs}
 use Rattle.format.specs.Outcome.{gives}
 use Rattle.format.specs.Packing.{readLimit}
-use Rattle.packing.specs.Kinds.{entriesFor}
+use Rattle.writing.specs.Kinds.{entriesFor}
 use Rattle.packing.specs.Answers.{limitOf}
-use Rattle.packing.proofs.ByKind.{size-range}
+use Rattle.writing.proofs.ByKind.{size-range}
 use Rattle.packing.proofs.Asks.{read-gives, read-refuses, ask-limit, ask-room, ask-part, ask-start, ask-bad, ask-fine}
 use Rattle.packing.proofs.limit.asked.Statement.{statement}
 use Rattle.packing.proofs.limit.asked.Tie as tie

@@ -1,0 +1,82 @@
+-- `writing::aggregate::put_group_records` meets its contract: the loop's invariants are `RunsLeft` and `Numbered`. The measure is the entries
+-- left.
+-- Assumes nothing.
+use native.Mathlib.Omega.{arith}
+use denote.Ref.{now}
+use Prim.Native.Nat.{_-_}
+use Rattle.writing.specs.declared.run.Run.the-variants.{Group}
+use Rattle.writing.proofs.Joins.{RunsLeft, runs-start, runs-there, runs-next, runs-end, Numbered, number-start, number-next, number-end}
+use Rattle.writing.proofs.aggregate.put_group_records.Statement.{statement}
+use Rattle.writing.proofs.aggregate.put_group_records.Tie as tie
+
+abbrev Inv-loop : tie.InvT-loop
+Inv-loop e from n d₀ start left₀ at₀ out₀ number₀ d left at out number = RunsLeft Group e from n d₀ start d left at out × Numbered Group e from n number left at
+
+abbrev μ-loop : tie.MeasureT-loop
+μ-loop e from n d₀ start left₀ at₀ out₀ number₀ d left at out number = left
+
+loop-holds : tie.Need-loop-holds Inv-loop μ-loop
+loop-holds c =
+    let a = c .before .before .args in
+    (runs-start Group (now (a .e)) (a .from) (a .n) (now (a .d)) (a .start) (c .before .before .pre .0) (c .before .before .pre .1), number-start Group (now (a .e)) (a .from) (a .n))
+
+run-length-requires : tie.Need-run-length-requires Inv-loop μ-loop
+run-length-requires c κs = (c .loop-test .taken, c .before .loop .inv .0 .there)
+
+put-group-record-requires : tie.Need-put-group-record-requires Inv-loop μ-loop
+put-group-record-requires c κs =
+    let run = runs-there (c .before .before .before .loop .inv .0) (c .before .before .loop-test .taken) _ (c .before .run-length .ensures) in
+    (run .some, run .there, run .room)
+
+mul-at : tie.Need-mul-at Inv-loop μ-loop
+mul-at c =
+    let run = runs-there (c .before .before .before .before .before .before .loop .inv .0) (c .before .before .before .before .before .loop-test .taken) _ (c .before .before .before .before .run-length .ensures) in
+    omega (arith, run .there)
+
+add-at : tie.Need-add-at Inv-loop μ-loop
+add-at c =
+    let run = runs-there (c .before .before .before .before .before .before .loop .inv .0) (c .before .before .before .before .before .loop-test .taken) _ (c .before .before .before .before .run-length .ensures) in
+    omega (arith, run .there)
+
+sub-left : tie.Need-sub-left Inv-loop μ-loop
+sub-left c = runs-there (c .before .before .before .before .before .before .loop .inv .0) (c .before .before .before .before .before .loop-test .taken) _ (c .before .before .before .before .run-length .ensures) .inside
+
+add-number : tie.Need-add-number Inv-loop μ-loop
+add-number c = omega (arith, c .before .before .before .before .before .before .loop .inv .1 .few)
+
+loop-less : tie.Need-loop-less Inv-loop μ-loop
+loop-less c =
+    let run = runs-there (c .before .before .before .before .before .before .loop .inv .0) (c .before .before .before .before .before .loop-test .taken) _ (c .before .before .before .before .run-length .ensures) in
+    omega (arith, run .some, run .inside)
+
+loop-again : tie.Need-loop-again Inv-loop μ-loop
+loop-again c =
+    let k = c .before .before .before .before .run-length .ensures in
+    let wrote = c .before .before .put-group-record .ensures in
+    (runs-next (c .before .before .before .before .before .before .loop .inv .0) (c .before .before .before .before .before .loop-test .taken) _ k _ _ (wrote .1) (wrote .0), number-next (c .before .before .before .before .before .before .loop .inv .1) (c .before .before .before .before .before .loop-test .taken) _ k)
+
+same-length : tie.Need-same-length Inv-loop μ-loop
+same-length c = c .before .loop .inv .0 .same
+
+returns : tie.Need-returns Inv-loop μ-loop
+returns c =
+    let done = runs-end (c .before .loop .inv .0) (c .loop-test .left) in
+    (done .1, (number-end (c .before .loop .inv .1) (c .loop-test .left), done .0))
+
+pub put-group-records-spec : {M : Type 1} → statement M
+put-group-records-spec =
+    tie.close
+    (tie.spec
+    Inv-loop
+    μ-loop
+    loop-holds
+    run-length-requires
+    put-group-record-requires
+    mul-at
+    add-at
+    sub-left
+    add-number
+    loop-less
+    loop-again
+    same-length
+    returns)

@@ -1,0 +1,81 @@
+-- `writing::record::copy4` meets its contract: the octets of a number as they stand.
+-- Assumes nothing.
+use native.Mathlib.Omega.{arith}
+use lib.ListN.{length-set}
+use denote.Ref.{now}
+use borrow.Author.Needs.{needs}
+use Rattle.writing.proofs.Writing.{copied}
+use Rattle.writing.proofs.record.copy4.Statement.{statement}
+use Rattle.writing.proofs.record.copy4.Tie as tie
+
+shared-slice-read-d : tie.Need-shared-slice-read-d
+shared-slice-read-d c = search needs
+
+slice-write-d : tie.Need-slice-write-d
+slice-write-d c = search needs
+
+add-d : tie.Need-add-d
+add-d c = search needs
+
+shared-slice-read-d-2 : tie.Need-shared-slice-read-d-2
+shared-slice-read-d-2 c = search needs
+
+add-d-2 : tie.Need-add-d-2
+add-d-2 c = search needs
+
+slice-write-d-2 : tie.Need-slice-write-d-2
+slice-write-d-2 c = simp length-set (omega arith)
+
+add-d-3 : tie.Need-add-d-3
+add-d-3 c = search needs
+
+shared-slice-read-d-3 : tie.Need-shared-slice-read-d-3
+shared-slice-read-d-3 c = search needs
+
+add-d-4 : tie.Need-add-d-4
+add-d-4 c = search needs
+
+slice-write-d-3 : tie.Need-slice-write-d-3
+slice-write-d-3 c = simp length-set (omega arith)
+
+add-d-5 : tie.Need-add-d-5
+add-d-5 c = search needs
+
+shared-slice-read-d-4 : tie.Need-shared-slice-read-d-4
+shared-slice-read-d-4 c = search needs
+
+add-d-6 : tie.Need-add-d-6
+add-d-6 c = search needs
+
+slice-write-d-4 : tie.Need-slice-write-d-4
+slice-write-d-4 c = simp length-set (omega arith)
+
+same-length : tie.Need-same-length
+same-length c = search needs
+
+returns : tie.Need-returns
+returns c =
+    let s = c .before .before .before .before in
+    let a = s .args in
+    copied (now (a .e)) (now (a .d)) (a .at) (a .out) (λ i. c .shared-slice-known4 .given i .fits) (s .pre .0) (s .pre .1)
+
+pub copy4-spec : {M : Type 1} → statement M
+copy4-spec =
+    tie.close
+    (tie.spec
+    shared-slice-read-d
+    slice-write-d
+    add-d
+    shared-slice-read-d-2
+    add-d-2
+    slice-write-d-2
+    add-d-3
+    shared-slice-read-d-3
+    add-d-4
+    slice-write-d-3
+    add-d-5
+    shared-slice-read-d-4
+    add-d-6
+    slice-write-d-4
+    same-length
+    returns)

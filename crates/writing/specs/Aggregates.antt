@@ -1,0 +1,72 @@
+-- Aggregated records by runs of entries, in IPv4.
+--     asserts                          entries that stand one after another
+--     joins, runLength                 which neighbours are in one run, and how many entries the first run has
+--     oneOf, allOf, numberOf           the octets of one run, of all runs of some entries, and how many runs there are
+--     tallyOf                          a tally of octets
+--     addressSize, addressOctets       the group or the source of an entry
+--     sourcesIn                        how many sources a group record has
+-- Assumes nothing: these are definitions.
+use Prim.Native.Nat.{ℕ, suc, _+_, _-_}
+use mathlib.Core.Bool.{Bool, _&&_, cond}
+use mathlib.Core.List.{List, [], _∷_, map}
+use lib.ListN.{length}
+use lib.Dec.{eqb}
+use Rattle.records.specs.Records.{AssertRecord}
+use Rattle.records.specs.Runs.{run, runs, leading}
+use Rattle.records.specs.Tally.{Tally, tally}
+use Rattle.records.specs.Joining.{together, sameGroup, groupRecords, allGroupRecords, aggregated, joined}
+use Rattle.format.specs.Family.{ipv4}
+use Rattle.format.specs.Address.{groupOctets, sourceOctets}
+use Rattle.format.specs.Record.{each, groupRecordOctets, aggregatedOctets}
+use Rattle.octets.specs.Octets.{numberAt}
+use Rattle.format.specs.Entry.{assertAt, assertEntries, entriesAt}
+use Rattle.writing.specs.declared.run.Run.{Run}
+use Rattle.writing.specs.declared.run.Run.the-variants.{Aggregated, Group as OfGroup}
+use Rattle.writing.specs.declared.tally.Tally.{Tally as TallyHere}
+use Rattle.writing.specs.declared.aggregate.Address.{Address}
+use Rattle.writing.specs.declared.aggregate.Address.the-variants.{Group, Source}
+
+abbrev pub asserts : List ℕ → ℕ → ℕ → List AssertRecord
+asserts o at n = entriesAt (assertEntries ipv4) o at n
+
+-- ---- runs
+
+-- "neighbouring entries are joined as far as they go", "and inside that by equal group"
+unfoldable pub joins : Run → AssertRecord → AssertRecord → Bool
+joins Aggregated = together
+joins OfGroup = sameGroup
+
+unfoldable pub runLength : Run → List ℕ → ℕ → ℕ → ℕ
+runLength r o at n = suc (leading (joins r (assertAt ipv4 o at)) (asserts o (at + 16) (n - 1)))
+
+-- the record of the entries of one run
+unfoldable pub oneOf : Run → List AssertRecord → List ℕ
+oneOf r [] = []
+oneOf Aggregated (e ∷ es) = aggregatedOctets ipv4 (aggregated 4 (run e es))
+oneOf OfGroup (e ∷ es) = each (groupRecordOctets ipv4) (groupRecords 4 (e .group) (map (λ (x : AssertRecord). x .source) (e ∷ es)))
+
+unfoldable pub allOf : Run → List AssertRecord → List ℕ
+allOf Aggregated es = each (aggregatedOctets ipv4) (joined 4 es)
+allOf OfGroup es = each (groupRecordOctets ipv4) (allGroupRecords 4 (runs sameGroup es))
+
+unfoldable pub numberOf : Run → List AssertRecord → ℕ
+numberOf r es = length (runs (joins r) es)
+
+-- ---- tallies
+
+abbrev pub tallyOf : TallyHere → Tally
+tallyOf t = tally (t .closed) (t .zeros) (t .count)
+
+-- ---- addresses
+
+abbrev pub addressSize : Address → ℕ
+addressSize Group = 8
+addressSize Source = 6
+
+unfoldable pub addressOctets : Address → AssertRecord → List ℕ
+addressOctets Group e = groupOctets ipv4 (e .group)
+addressOctets Source e = sourceOctets ipv4 (e .source)
+
+-- "p=0 is written exactly for a group record of one entry with source 0"
+unfoldable pub sourcesIn : List ℕ → ℕ → ℕ → ℕ
+sourcesIn o at k = cond (eqb k 1 && eqb (numberAt 4 o (at + 4)) 0) 0 k

@@ -1,0 +1,121 @@
+// The most of some entries that fit into one message, and that message.
+use crate::entry::entry_size;
+use crate::message::head_size;
+use crate::message::is_aggregated;
+use crate::message::write_message;
+use crate::tally::how_many_fit;
+use format::Kind;
+ghost use mathlib.Core.Path.{_≡_};
+ghost use Prim.Native.Nat.{_+_, _*_, _≤_};
+ghost use lib.ListN.{length};
+ghost use Rattle.octets.specs.Octets.{put};
+ghost use Rattle.format.specs.Entry.{entriesAt};
+ghost use Rattle.format.specs.Packing.{taken, octetsOf, tookOf, pack};
+ghost use Rattle.writing.specs.Kinds.{entriesFor, formFor, headSize, fitting, Packs};
+ghost use Rattle.writing.specs.Most.{possible as possibleOf, mostOf};
+
+// A message of so many octets, of so many entries; of none, no message.
+pub struct Written {
+    pub length: usize,
+    pub taken: usize,
+}
+
+// Of n entries, how many one message may take.
+fn at_most(kind: Kind, n: usize) -> usize
+    ensures { λ r. ⌜ r ≡ formFor kind .atMost n ⌝ }
+{
+    match kind {
+        Kind::Hello => 0,
+        Kind::Assert => {
+            if 1 < n {
+                return 1;
+            }
+            n
+        }
+        Kind::Simple => n,
+        Kind::Aggregated => n,
+        Kind::NullRegister => n,
+        Kind::RegisterStop => n,
+    }
+}
+
+// How many of n entries fit, where every record has one length.
+fn how_many_fixed(kind: Kind, limit: usize, n: usize) -> usize
+    requires { ⌜ headSize kind ≤ limit ⌝ }
+    ensures { λ r. ⌜ r ≡ fitting kind limit n ⌝ }
+{
+    let most = at_most(kind, n);
+    let fit = (limit - head_size(kind)) / (entry_size(kind) + 6);
+    if fit < most {
+        return fit;
+    }
+    most
+}
+
+// How many of n entries the message takes: the most that fit.
+fn how_many(kind: Kind, e: &[u8], from: usize, n: usize, limit: usize) -> usize
+    requires { ⌜ Packs kind × (from + entriesFor kind .size * n ≤ length (now e)) × (38 ≤ limit) × (limit ≤ 65515) ⌝ }
+    ensures { λ r. ⌜ r ≡ taken (formFor kind) limit (entriesAt (entriesFor kind) (now (e .entry)) from n) ⌝ }
+{
+    if is_aggregated(kind) {
+        return how_many_fit(e, from, n, limit);
+    }
+    how_many_fixed(kind, limit, n)
+}
+
+// The message of the most of n entries that fit, if there are any.
+fn write_fitting(kind: Kind, e: &[u8], from: usize, n: usize, limit: usize, d: &mut [u8]) -> Written
+    requires { ⌜ Packs kind × (from + entriesFor kind .size * n ≤ length (now e)) × (38 ≤ limit) × (limit ≤ 65515) × (limit ≤ length (now d)) ⌝ }
+    ensures answer { λ r. ⌜ (r .length ≡ length (octetsOf (pack (formFor kind) limit (entriesAt (entriesFor kind) (now (e .entry)) from n)))) × (r .taken ≡ tookOf (pack (formFor kind) limit (entriesAt (entriesFor kind) (now (e .entry)) from n))) ⌝ }
+    ensures buffer { λ r. ⌜ now (d .exit) ≡ put (now (d .entry)) 0 (octetsOf (pack (formFor kind) limit (entriesAt (entriesFor kind) (now (e .entry)) from n))) ⌝ }
+{
+    let taken = how_many(kind, e, from, n, limit);
+    if taken == 0 {
+        return Written { length: 0, taken };
+    }
+    let length = write_message(kind, e, from, taken, d);
+    Written { length, taken }
+}
+
+// Whether the entries are there, the limit is one, and a message of the limit has room.
+fn possible(kind: Kind, length: usize, from: usize, n: usize, limit: usize, room: usize) -> bool
+    ensures { λ r. ⌜ r ≡ possibleOf kind length from n limit room ⌝ }
+{
+    if at_most(kind, 1) == 0 {
+        return false;
+    }
+    if length < from {
+        return false;
+    }
+    if (length - from) / entry_size(kind) < n {
+        return false;
+    }
+    if limit < 38 {
+        return false;
+    }
+    if 65515 < limit {
+        return false;
+    }
+    limit <= room
+}
+
+// Writes the message of the most of n entries that fit. Where it cannot be asked for, nothing is written.
+pub fn write_most(
+    kind: Kind,
+    e: &[u8],
+    from: usize,
+    n: usize,
+    limit: usize,
+    d: &mut [u8],
+) -> Written
+    ensures answer { λ r. ⌜ (r .length ≡ length (octetsOf (mostOf kind (now (e .entry)) from n limit (length (now (d .entry)))))) × (r .taken ≡ tookOf (mostOf kind (now (e .entry)) from n limit (length (now (d .entry))))) ⌝ }
+    ensures buffer { λ r. ⌜ now (d .exit) ≡ put (now (d .entry)) 0 (octetsOf (mostOf kind (now (e .entry)) from n limit (length (now (d .entry))))) ⌝ }
+{
+    if possible(kind, e.len(), from, n, limit, d.len()) {
+        return write_fitting(kind, e, from, n, limit, d);
+    }
+    Written {
+        length: 0,
+        taken: 0,
+    }
+}
