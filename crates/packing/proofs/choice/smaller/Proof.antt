@@ -1,0 +1,14 @@
+-- `packing::choice::smaller` meets its contract: the test is the definition's.
+-- Assumes nothing.
+use native.Mathlib.Omega.{arith}
+use Rattle.packing.proofs.choice.smaller.Statement.{statement}
+use Rattle.packing.proofs.choice.smaller.Tie as tie
+
+returns : tie.Need-returns
+returns c = omega arith
+
+returns-2 : tie.Need-returns-2
+returns-2 c = omega arith
+
+pub smaller-spec : {M : Type 1} → statement M
+smaller-spec = tie.close (tie.spec returns returns-2)
