@@ -22,7 +22,7 @@ use Rattle.packing.specs.Answers.{limitOf, limited}
 use Rattle.packing.specs.declared.limit.Limit.{Limit}
 use Rattle.packing.specs.declared.limit.Limit.the-variants.{Is, Refused}
 use Rattle.writing.proofs.ByKind.{family-is}
-use Rattle.writing.proofs.Listed.{drop-entries}
+use Rattle.joining.proofs.Listed.{drop-entries}
 
 -- what the answer about the limit says
 module _ (k : Kind) (limit : ℕ) {x : Limit} where

@@ -19,8 +19,8 @@ use Rattle.format.specs.Entry.{Entries, assertEntries, count, entriesOf}
 use Rattle.format.specs.Packing.{Form, simple, aggregated, Due, due, asked, taken, Packed, octetsOf, tookOf, pack, prefersAggregated, chosen, chosenOf, bothWritten, choiceOf, choice}
 use Rattle.format.proofs.Outcomes.{no-refusal, gives-same}
 use Rattle.format.proofs.Calls.{Asked, asked-gives, gives-asked, taken-fits, pack-none, pack-some}
-use Rattle.writing.specs.Aggregates.{asserts}
-use Rattle.writing.proofs.Listed.{drop-entries}
+use Rattle.joining.specs.Joins.{asserts}
+use Rattle.joining.proofs.Listed.{drop-entries}
 
 -- what is packed is within the limit
 pack-within : {E : Entries} (F : Form E) (l : ℕ) (es : List (E .Entry)) → length (octetsOf (pack F l es)) ≤ l

@@ -27,7 +27,7 @@ use Rattle.packing.specs.Answers.{limitOf, limited}
 use Rattle.packing.specs.declared.limit.Limit.{Limit}
 use Rattle.packing.specs.declared.limit.Limit.the-variants.{Is, Refused}
 use Rattle.writing.proofs.ByKind.{family-is}
-use Rattle.writing.proofs.Listed.{drop-entries}
+use Rattle.joining.proofs.Listed.{drop-entries}
 
 pub limit-refused : {A : Type 0} (x : Outcome (Due A)) {a : Limit} {r : Refusal} → a ≡ Refused r → limitOf a ≡ limited x → x ≡ refuses (r .number) (r .place)
 unfolding limitOf limited

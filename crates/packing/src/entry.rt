@@ -1,8 +1,8 @@
 // Entries by the kind of message that is made of them. A list that is not whole has been refused before.
 use format::Kind;
+use joining::r_bit;
 use octets::number32;
 use writing::entry_size;
-use writing::r_bit;
 ghost use mathlib.Core.Path.{_≡_};
 ghost use Prim.Native.Nat.{_+_, _-_, _*_, _≤_, _<_};
 ghost use lib.ListN.{length};

@@ -26,8 +26,9 @@ use Rattle.format.specs.Record.{each, reserved2, groupRecordOctets, aggregatedO
 use Rattle.format.specs.Entry.{assertAt, assertEntries, entriesAt}
 use Rattle.format.proofs.Lengths.{length-group, length-source, length-each}
 use Rattle.format.proofs.Entries.{length-entriesAt}
-use Rattle.writing.specs.Aggregates.{asserts, joins, oneOf, allOf, numberOf, addressSize, addressOctets, sourcesIn}
-use Rattle.writing.specs.declared.run.Run.the-variants.{Aggregated, Group as OfGroup}
+use Rattle.joining.specs.Joins.{asserts, joins}
+use Rattle.writing.specs.Aggregates.{oneOf, allOf, numberOf, addressSize, addressOctets, sourcesIn}
+use Rattle.joining.specs.declared.run.Run.the-variants.{Aggregated, Group as OfGroup}
 use Rattle.writing.specs.declared.aggregate.Address.{Address}
 use Rattle.writing.specs.declared.aggregate.Address.the-variants.{Group, Source}
 

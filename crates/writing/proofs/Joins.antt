@@ -1,22 +1,19 @@
 -- Runs of entries that stand one after another.
---     together-is                   two entries are joined, by their octets
 --     run-range, all-first, number-first     the first run, and what is left past it
---     Counting                      where a loop that looks for the end of a run stands: count-start, count-there, count-stop, count-next, count-end
 --     RunsLeft                      where a loop that writes run by run stands: runs-start, runs-there, runs-next, runs-end
 --     Numbered                      and how many runs it has written: number-start, number-next, number-end
 -- Assumes nothing.
 use Prim.Native.Nat.{ℕ, zero, suc, _+_, _-_, _*_, _≤_, _<_}
 use native.Mathlib.Omega.{arith}
 use mathlib.Core.Path.{_≡_, refl, sym, ap, _∙_}
-use mathlib.Core.Bool.{Bool, true, false, _&&_, _||_, cond}
+use mathlib.Core.Bool.{Bool, true, false, cond}
 use mathlib.Core.List.{List, [], _∷_, _++_}
 use lib.ListN.{length, take, drop, length-append}
-use lib.Dec.{eqb}
-use Rattle.octets.specs.Octets.{numberAt, put}
+use Rattle.octets.specs.Octets.{put}
 use Rattle.octets.proofs.Laws.{put-put, put-nil, length-put}
-use Rattle.records.specs.Records.{AssertRecord, rBit}
+use Rattle.records.specs.Records.{AssertRecord}
 use Rattle.records.specs.Runs.{run, runs, leading}
-use Rattle.records.specs.Joining.{together, allGroupRecords, joined}
+use Rattle.records.specs.Joining.{allGroupRecords, joined}
 use Rattle.records.proofs.Runs.{runs-first}
 use Rattle.records.proofs.Joining.{together-cong, sameGroup-cong}
 use Rattle.format.specs.Family.{ipv4}
@@ -24,18 +21,11 @@ use Rattle.format.specs.Record.{each}
 use Rattle.format.specs.Entry.{assertAt, assertEntries, entriesAt}
 use Rattle.format.proofs.Lengths.{each-append}
 use Rattle.format.proofs.Entries.{length-entriesAt}
-use Rattle.writing.specs.Aggregates.{asserts, joins, runLength, oneOf, allOf, numberOf}
-use Rattle.writing.specs.declared.run.Run.{Run}
-use Rattle.writing.specs.declared.run.Run.the-variants.{Aggregated, Group}
-use Rattle.writing.proofs.Listed.{take-entries, drop-at}
-
-pub together-is : (o : List ℕ) (a b : ℕ) → together (assertAt ipv4 o a) (assertAt ipv4 o b)
-    ≡ (eqb (numberAt 4 o (a + 8)) (numberAt 4 o (b + 8)) && eqb (numberAt 4 o (a + 12)) (numberAt 4 o (b + 12)) && (rBit (numberAt 4 o (a + 8)) || eqb (numberAt 4 o (a + 4)) (numberAt 4 o (b + 4))))
-unfolding together assertAt
-together-is o a b =
-    let p : a + 8 + 4 ≡ a + 12 = omega arith in
-    let q : b + 8 + 4 ≡ b + 12 = omega arith in
-    rw (p, q)
+use Rattle.joining.specs.Joins.{asserts, joins, runLength}
+use Rattle.writing.specs.Aggregates.{oneOf, allOf, numberOf}
+use Rattle.joining.specs.declared.run.Run.{Run}
+use Rattle.joining.specs.declared.run.Run.the-variants.{Aggregated, Group}
+use Rattle.joining.proofs.Listed.{take-entries, drop-at}
 
 -- ---- the first run
 
@@ -100,48 +90,6 @@ pub number-first : (r : Run) (o : List ℕ) (at n : ℕ) → 0 < n → numberOf 
 unfolding numberOf
 number-first r o at zero h = absurd (omega arith)
 number-first r o at (suc m) h = rw (length-at r o at m, sub-suc, runs-at r o at m)
-
--- ---- the end of a run
-
--- what is still to be looked at says how long the run is
-pub record Counting (r : Run) (o : List ℕ) (from n k at : ℕ) : Type 0 where
-  pub left : ℕ
-  pub count : k + left ≡ n
-  pub there : at + 16 * left ≤ length o
-  pub same : k + leading (joins r (assertAt ipv4 o from)) (asserts o at left) ≡ runLength r o from n
-
-pub count-start : (r : Run) (o : List ℕ) (from n : ℕ) → 0 < n → from + 16 * n ≤ length o → Counting r o from n 1 (from + 16)
-unfolding runLength
-count-start r o from n h there = record { left = n - 1; count = omega arith; there = omega arith; same = omega arith }
-
-module _ {r : Run} {o : List ℕ} {from n k at : ℕ} (t : Counting r o from n k at) where
-  pub count-there : k < n → at + 16 ≤ length o
-  count-there h = omega (arith, t .count, t .there)
-
-  pub count-stop : k < n → joins r (assertAt ipv4 o from) (assertAt ipv4 o at) ≡ false → k ≡ runLength r o from n
-  unfolding leading entriesAt
-  count-stop h f = go (t .left) (t .count) (t .same)
-    where
-      go : (left : ℕ) → k + left ≡ n → k + leading (joins r (assertAt ipv4 o from)) (asserts o at left) ≡ runLength r o from n → k ≡ runLength r o from n
-      go zero e s = absurd (omega arith)
-      go (suc left) e s = let s′ = rw f at s in omega arith
-
-  pub count-next : k < n → joins r (assertAt ipv4 o from) (assertAt ipv4 o at) ≡ true → Counting r o from n (k + 1) (at + 16)
-  unfolding leading entriesAt
-  count-next h f = go (t .left) (t .count) (t .there) (t .same)
-    where
-      go : (left : ℕ) → k + left ≡ n → at + 16 * left ≤ length o → k + leading (joins r (assertAt ipv4 o from)) (asserts o at left) ≡ runLength r o from n
-          → Counting r o from n (k + 1) (at + 16)
-      go zero e a s = absurd (omega arith)
-      go (suc left) e a s = let s′ = rw f at s in record { left = left; count = omega arith; there = omega arith; same = omega arith }
-
-  pub count-end : n ≤ k → k ≡ runLength r o from n
-  unfolding leading entriesAt
-  count-end h = go (t .left) (t .count) (t .same)
-    where
-      go : (left : ℕ) → k + left ≡ n → k + leading (joins r (assertAt ipv4 o from)) (asserts o at left) ≡ runLength r o from n → k ≡ runLength r o from n
-      go zero e s = omega arith
-      go (suc left) e s = absurd (omega arith)
 
 -- ---- records written run by run
 

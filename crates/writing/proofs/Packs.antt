@@ -15,7 +15,7 @@ use Rattle.format.proofs.Entries.{length-entriesAt}
 use Rattle.format.proofs.Calls.{taken-most, taken-fits, pack-none, pack-some}
 use Rattle.writing.specs.Kinds.{entriesFor, formFor, isPacked, Packs}
 use Rattle.writing.proofs.ByKind.{most-is, packed-is}
-use Rattle.writing.proofs.Listed.{take-entries}
+use Rattle.joining.proofs.Listed.{take-entries}
 use mathlib.Core.Bool.{true, false, and-eq-true-iff}
 use borrow.Author.Tests.{le-leb, leb-true}
 use Rattle.writing.specs.Most.{possible, mostOf}

@@ -1,43 +1,27 @@
 -- Aggregated records by runs of entries, in IPv4.
---     asserts                          entries that stand one after another
---     joins, runLength                 which neighbours are in one run, and how many entries the first run has
 --     oneOf, allOf, numberOf           the octets of one run, of all runs of some entries, and how many runs there are
---     tallyOf                          a tally of octets
 --     addressSize, addressOctets       the group or the source of an entry
 --     sourcesIn                        how many sources a group record has
 -- Assumes nothing: these are definitions.
-use Prim.Native.Nat.{ℕ, suc, _+_, _-_}
-use mathlib.Core.Bool.{Bool, _&&_, cond}
+use Prim.Native.Nat.{ℕ, _+_}
+use mathlib.Core.Bool.{_&&_, cond}
 use mathlib.Core.List.{List, [], _∷_, map}
 use lib.ListN.{length}
 use lib.Dec.{eqb}
 use Rattle.records.specs.Records.{AssertRecord}
-use Rattle.records.specs.Runs.{run, runs, leading}
-use Rattle.records.specs.Tally.{Tally, tally}
-use Rattle.records.specs.Joining.{together, sameGroup, groupRecords, allGroupRecords, aggregated, joined}
+use Rattle.records.specs.Runs.{run, runs}
+use Rattle.records.specs.Joining.{sameGroup, groupRecords, allGroupRecords, aggregated, joined}
 use Rattle.format.specs.Family.{ipv4}
 use Rattle.format.specs.Address.{groupOctets, sourceOctets}
 use Rattle.format.specs.Record.{each, groupRecordOctets, aggregatedOctets}
 use Rattle.octets.specs.Octets.{numberAt}
-use Rattle.format.specs.Entry.{assertAt, assertEntries, entriesAt}
-use Rattle.writing.specs.declared.run.Run.{Run}
-use Rattle.writing.specs.declared.run.Run.the-variants.{Aggregated, Group as OfGroup}
-use Rattle.writing.specs.declared.tally.Tally.{Tally as TallyHere}
+use Rattle.joining.specs.Joins.{joins}
+use Rattle.joining.specs.declared.run.Run.{Run}
+use Rattle.joining.specs.declared.run.Run.the-variants.{Aggregated, Group as OfGroup}
 use Rattle.writing.specs.declared.aggregate.Address.{Address}
 use Rattle.writing.specs.declared.aggregate.Address.the-variants.{Group, Source}
 
-abbrev pub asserts : List ℕ → ℕ → ℕ → List AssertRecord
-asserts o at n = entriesAt (assertEntries ipv4) o at n
-
 -- ---- runs
-
--- "neighbouring entries are joined as far as they go", "and inside that by equal group"
-unfoldable pub joins : Run → AssertRecord → AssertRecord → Bool
-joins Aggregated = together
-joins OfGroup = sameGroup
-
-unfoldable pub runLength : Run → List ℕ → ℕ → ℕ → ℕ
-runLength r o at n = suc (leading (joins r (assertAt ipv4 o at)) (asserts o (at + 16) (n - 1)))
 
 -- the record of the entries of one run
 unfoldable pub oneOf : Run → List AssertRecord → List ℕ
@@ -51,11 +35,6 @@ allOf OfGroup es = each (groupRecordOctets ipv4) (allGroupRecords 4 (runs sameGr
 
 unfoldable pub numberOf : Run → List AssertRecord → ℕ
 numberOf r es = length (runs (joins r) es)
-
--- ---- tallies
-
-abbrev pub tallyOf : TallyHere → Tally
-tallyOf t = tally (t .closed) (t .zeros) (t .count)
 
 -- ---- addresses
 

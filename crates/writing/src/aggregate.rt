@@ -1,12 +1,12 @@
 // Aggregated records written run by run. The numbers of groups, of group records and of sources are those of the
 // run that is written. Nothing is tested here: each function knows that its entries are there and that what it
 // writes fits. Each answers the place past it.
-use crate::entry::r_bit;
 use crate::record::put_group;
 use crate::record::put_metric;
 use crate::record::put_source;
-use crate::run::Run;
-use crate::run::run_length;
+use joining::Run;
+use joining::r_bit;
+use joining::run_length;
 use octets::number32;
 ghost use mathlib.Core.Path.{_≡_};
 ghost use mathlib.Core.Bool.{true, false};
@@ -17,8 +17,9 @@ ghost use Rattle.records.specs.Records.{rBit};
 ghost use Rattle.format.specs.Family.{ipv4};
 ghost use Rattle.format.specs.Entry.{assertAt};
 ghost use Rattle.format.specs.Record.{each, reserved2};
-ghost use Rattle.writing.specs.Aggregates.{asserts, addressOctets, addressSize, sourcesIn, oneOf, allOf, numberOf};
-ghost use Rattle.writing.specs.declared.run.Run.the-variants.{Aggregated, Group};
+ghost use Rattle.joining.specs.Joins.{asserts};
+ghost use Rattle.writing.specs.Aggregates.{addressOctets, addressSize, sourcesIn, oneOf, allOf, numberOf};
+ghost use Rattle.joining.specs.declared.run.Run.the-variants.{Aggregated, Group};
 
 // Which address of an entry.
 pub enum Address {

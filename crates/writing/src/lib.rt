@@ -1,11 +1,9 @@
 // Messages written from entries: how many entries fit, and the message of these, for every kind that is packed.
 // The one public call writes a message; it is total, and where it cannot be asked for it writes nothing.
 //
-// entry.rt         entries by the kind of message: their size, and R
+// entry.rt         entries by the kind of message: their size
 // record.rt        records of one length
-// run.rt           where a run of entries ends
 // aggregate.rt     aggregated records, run by run
-// tally.rt         how many entries fit into an aggregated message
 // message.rt       a whole message: what begins it, the records, the checksum
 // most.rt          the most entries that fit, and their message
 mod aggregate;
@@ -13,10 +11,7 @@ mod entry;
 mod message;
 mod most;
 mod record;
-mod run;
-mod tally;
 
 pub use entry::entry_size;
-pub use entry::r_bit;
 pub use most::Written;
 pub use most::write_most;

@@ -14,7 +14,7 @@ use Rattle.format.specs.Entry.{assertEntries}
 use Rattle.format.specs.Packing.{simple, aggregated, asked, pack, prefersAggregated, chosen, bothWritten, choice}
 use Rattle.format.specs.declared.Kind.the-variants.{Simple, Aggregated}
 use Rattle.format.proofs.Calls.{Asked}
-use Rattle.writing.specs.Aggregates.{asserts}
+use Rattle.joining.specs.Joins.{asserts}
 use Rattle.writing.specs.Most.{mostOf}
 use Rattle.packing.specs.Answers.{chosenBy}
 use Rattle.packing.proofs.Packs.{limit-refused, limit-asked, asked-inside, asked-there, asked-most}

@@ -11,7 +11,8 @@ use Rattle.format.specs.Family.{ipv4}
 use Rattle.format.specs.Address.{groupOctets}
 use Rattle.format.specs.Record.{each, reserved2}
 use Rattle.format.proofs.Lengths.{length-group}
-use Rattle.writing.specs.Aggregates.{asserts, addressOctets}
+use Rattle.joining.specs.Joins.{asserts}
+use Rattle.writing.specs.Aggregates.{addressOctets}
 use Rattle.writing.specs.declared.aggregate.Address.the-variants.{Source}
 use Rattle.writing.proofs.Aggregating.{number-long, group-is, sources-range, group-long}
 use borrow.Author.Needs.{needs}

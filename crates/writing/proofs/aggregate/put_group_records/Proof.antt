@@ -2,9 +2,13 @@
 -- left.
 -- Assumes nothing.
 use native.Mathlib.Omega.{arith}
+use mathlib.Core.Path.{_≡_, _∙_}
 use denote.Ref.{now}
+use borrow.Author.Needs.{needs}
 use Prim.Native.Nat.{_-_}
-use Rattle.writing.specs.declared.run.Run.the-variants.{Group}
+use Rattle.joining.specs.Joins.{runLength}
+use Rattle.joining.proofs.Joins.{run-some}
+use Rattle.joining.specs.declared.run.Run.the-variants.{Group}
 use Rattle.writing.proofs.Joins.{RunsLeft, runs-start, runs-there, runs-next, runs-end, Numbered, number-start, number-next, number-end}
 use Rattle.writing.proofs.aggregate.put_group_records.Statement.{statement}
 use Rattle.writing.proofs.aggregate.put_group_records.Tie as tie
@@ -15,43 +19,47 @@ Inv-loop e from n d₀ start left₀ at₀ out₀ number₀ d left at out number
 abbrev μ-loop : tie.MeasureT-loop
 μ-loop e from n d₀ start left₀ at₀ out₀ number₀ d left at out number = left
 
+-- the run that was found
+found : (c : tie.After-run-length Inv-loop μ-loop) → c .run-length .result ≡ runLength Group (now (c .before .before .before .before .before .args .e)) (c .before .before .loop .at) (c .before .before .loop .left)
+found c = c .run-length .ensures ∙ run-some Group (now (c .before .before .before .before .before .args .e)) (c .before .before .loop .at) (c .before .before .loop .left) (c .before .loop-test .taken) (c .before .before .loop .inv .0 .there)
+
 loop-holds : tie.Need-loop-holds Inv-loop μ-loop
 loop-holds c =
     let a = c .before .before .args in
     (runs-start Group (now (a .e)) (a .from) (a .n) (now (a .d)) (a .start) (c .before .before .pre .0) (c .before .before .pre .1), number-start Group (now (a .e)) (a .from) (a .n))
 
 run-length-requires : tie.Need-run-length-requires Inv-loop μ-loop
-run-length-requires c κs = (c .loop-test .taken, c .before .loop .inv .0 .there)
+run-length-requires c κs = search needs
 
 put-group-record-requires : tie.Need-put-group-record-requires Inv-loop μ-loop
 put-group-record-requires c κs =
-    let run = runs-there (c .before .before .before .loop .inv .0) (c .before .before .loop-test .taken) _ (c .before .run-length .ensures) in
+    let run = runs-there (c .before .before .before .loop .inv .0) (c .before .before .loop-test .taken) _ (found (c .before)) in
     (run .some, run .there, run .room)
 
 mul-at : tie.Need-mul-at Inv-loop μ-loop
 mul-at c =
-    let run = runs-there (c .before .before .before .before .before .before .loop .inv .0) (c .before .before .before .before .before .loop-test .taken) _ (c .before .before .before .before .run-length .ensures) in
+    let run = runs-there (c .before .before .before .before .before .before .loop .inv .0) (c .before .before .before .before .before .loop-test .taken) _ (found (c .before .before .before .before)) in
     omega (arith, run .there)
 
 add-at : tie.Need-add-at Inv-loop μ-loop
 add-at c =
-    let run = runs-there (c .before .before .before .before .before .before .loop .inv .0) (c .before .before .before .before .before .loop-test .taken) _ (c .before .before .before .before .run-length .ensures) in
+    let run = runs-there (c .before .before .before .before .before .before .loop .inv .0) (c .before .before .before .before .before .loop-test .taken) _ (found (c .before .before .before .before)) in
     omega (arith, run .there)
 
 sub-left : tie.Need-sub-left Inv-loop μ-loop
-sub-left c = runs-there (c .before .before .before .before .before .before .loop .inv .0) (c .before .before .before .before .before .loop-test .taken) _ (c .before .before .before .before .run-length .ensures) .inside
+sub-left c = runs-there (c .before .before .before .before .before .before .loop .inv .0) (c .before .before .before .before .before .loop-test .taken) _ (found (c .before .before .before .before)) .inside
 
 add-number : tie.Need-add-number Inv-loop μ-loop
 add-number c = omega (arith, c .before .before .before .before .before .before .loop .inv .1 .few)
 
 loop-less : tie.Need-loop-less Inv-loop μ-loop
 loop-less c =
-    let run = runs-there (c .before .before .before .before .before .before .loop .inv .0) (c .before .before .before .before .before .loop-test .taken) _ (c .before .before .before .before .run-length .ensures) in
+    let run = runs-there (c .before .before .before .before .before .before .loop .inv .0) (c .before .before .before .before .before .loop-test .taken) _ (found (c .before .before .before .before)) in
     omega (arith, run .some, run .inside)
 
 loop-again : tie.Need-loop-again Inv-loop μ-loop
 loop-again c =
-    let k = c .before .before .before .before .run-length .ensures in
+    let k = found (c .before .before .before .before) in
     let wrote = c .before .before .put-group-record .ensures in
     (runs-next (c .before .before .before .before .before .before .loop .inv .0) (c .before .before .before .before .before .loop-test .taken) _ k _ _ (wrote .1) (wrote .0), number-next (c .before .before .before .before .before .before .loop .inv .1) (c .before .before .before .before .before .loop-test .taken) _ k)
 

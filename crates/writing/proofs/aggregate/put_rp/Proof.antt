@@ -9,8 +9,9 @@ use lib.ListN.{length, length-append}
 use Rattle.octets.specs.Octets.{numberAt, be}
 use Rattle.octets.proofs.Laws.{put-next, put-before}
 use Rattle.format.specs.Record.{reserved2}
-use Rattle.writing.specs.Aggregates.{asserts, allOf, numberOf}
-use Rattle.writing.specs.declared.run.Run.the-variants.{Group}
+use Rattle.joining.specs.Joins.{asserts}
+use Rattle.writing.specs.Aggregates.{allOf, numberOf}
+use Rattle.joining.specs.declared.run.Run.the-variants.{Group}
 use Rattle.writing.proofs.Aggregating.{number-long, metric-long, rp-is, rp-long}
 use borrow.Author.Needs.{needs}
 use Rattle.writing.proofs.aggregate.put_rp.Statement.{statement}

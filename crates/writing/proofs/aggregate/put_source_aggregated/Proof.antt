@@ -11,7 +11,8 @@ use Rattle.format.specs.Family.{ipv4}
 use Rattle.format.specs.Address.{sourceOctets}
 use Rattle.format.specs.Record.{each, reserved2}
 use Rattle.format.proofs.Lengths.{length-source}
-use Rattle.writing.specs.Aggregates.{asserts, addressOctets}
+use Rattle.joining.specs.Joins.{asserts}
+use Rattle.writing.specs.Aggregates.{addressOctets}
 use Rattle.writing.specs.declared.aggregate.Address.the-variants.{Group}
 use Rattle.writing.proofs.Aggregating.{source-is, source-long, metric-long, number-long}
 use borrow.Author.Needs.{needs}

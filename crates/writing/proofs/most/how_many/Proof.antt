@@ -7,6 +7,7 @@ use Rattle.format.specs.Entry.{entriesAt}
 use Rattle.format.proofs.Entries.{length-entriesAt}
 use Rattle.writing.specs.Kinds.{entriesFor, fitting}
 use Rattle.writing.proofs.ByKind.{head-range, aggregated-is}
+use Rattle.joining.proofs.Joins.{fit-some}
 use Rattle.writing.proofs.Fitting.{taken-fixed}
 use borrow.Author.Needs.{needs}
 use Rattle.writing.proofs.most.how_many.Statement.{statement}
@@ -16,10 +17,14 @@ is-aggregated-requires : tie.Need-is-aggregated-requires
 is-aggregated-requires c κs = search needs
 
 how-many-fit-requires : tie.Need-how-many-fit-requires
-how-many-fit-requires c κs = (rw (aggregated-is (c .before .before .before .args .kind) (sym (c .before .is-aggregated .ensures) ∙ c .if1 .taken)) at (c .before .before .before .pre .1), c .before .before .before .pre .2, c .before .before .before .pre .3)
+how-many-fit-requires c κs = search needs
 
 returns : tie.Need-returns
-returns c = rw (aggregated-is (c .before .before .before .before .args .kind) (sym (c .before .before .is-aggregated .ensures) ∙ c .before .if1 .taken)) (c .how-many-fit .ensures)
+returns c =
+    let a = c .before .before .before .before .args in
+    let kind = aggregated-is (c .before .before .before .before .args .kind) (sym (c .before .before .is-aggregated .ensures) ∙ c .before .if1 .taken) in
+    let there = rw kind at (c .before .before .before .before .pre .1) in
+    rw kind (c .how-many-fit .ensures ∙ fit-some (now (a .e)) (a .from) (a .n) (a .limit) (c .before .before .before .before .pre .2) (c .before .before .before .before .pre .3) there)
 
 how-many-fixed-requires : tie.Need-how-many-fixed-requires
 how-many-fixed-requires c κs = omega (arith, head-range (c .before .before .before .args .kind), c .before .before .before .pre .2)
