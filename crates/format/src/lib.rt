@@ -11,6 +11,13 @@ pub enum Kind {
     RegisterStop,
 }
 
+// Limits run from the least to the greatest; limit 0 is read as the usual one.
+pub const USUAL_LIMIT: usize = 1480;
+
+pub const LEAST_LIMIT: usize = 38;
+
+pub const GREATEST_LIMIT: usize = 65515;
+
 // A number of 01's table, and the place at fault.
 pub struct Refusal {
     pub number: u8,

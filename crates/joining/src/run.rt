@@ -21,7 +21,6 @@ pub enum Run {
 
 // Whether two numbers of four octets are equal.
 pub(crate) fn same(e: &[u8], a: usize, b: usize) -> bool
-    requires { ⌜ (a + 4 ≤ length (now e)) × (b + 4 ≤ length (now e)) ⌝ }
     ensures { λ r. ⌜ r ≡ eqb (numberAt 4 (now (e .entry)) a) (numberAt 4 (now (e .entry)) b) ⌝ }
 {
     number32(e, a) == number32(e, b)

@@ -4,6 +4,8 @@ use crate::run::same;
 use crate::run::together;
 use crate::there::r_bit;
 use crate::there::there;
+use format::GREATEST_LIMIT;
+use format::LEAST_LIMIT;
 use octets::number32;
 ghost use mathlib.Core.Path.{_≡_};
 ghost use Prim.Native.Nat.{_+_, _*_, _^_, _≤_, _<_};
@@ -125,10 +127,10 @@ fn most_that_fit(e: &[u8], from: usize, n: usize, limit: usize) -> usize
 pub fn how_many_fit(e: &[u8], from: usize, n: usize, limit: usize) -> usize
     ensures { λ r. ⌜ r ≡ fittingMost (now (e .entry)) from n limit ⌝ }
 {
-    if limit < 38 {
+    if limit < LEAST_LIMIT {
         return 0;
     }
-    if 65515 < limit {
+    if GREATEST_LIMIT < limit {
         return 0;
     }
     if there(e.len(), from, n) {

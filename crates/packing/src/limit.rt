@@ -1,20 +1,16 @@
 // What a packing call refuses before it writes: 9, 8, 10, then 7.
 use crate::entry::first_bad;
+use format::GREATEST_LIMIT;
 use format::Kind;
+use format::LEAST_LIMIT;
 use format::Refusal;
+use format::USUAL_LIMIT;
 use writing::entry_size;
 ghost use mathlib.Core.Path.{_≡_};
 ghost use Rattle.format.specs.Family.{ipv4};
 ghost use Rattle.format.specs.Packing.{readLimit, asked as askedOf};
 ghost use Rattle.writing.specs.Kinds.{entriesFor};
 ghost use Rattle.packing.specs.Answers.{limitOf, limited};
-
-// What limit 0 is read as.
-const USUAL_LIMIT: usize = 1480;
-
-const LEAST_LIMIT: usize = 38;
-
-const GREATEST_LIMIT: usize = 65515;
 
 // The limit as read, or a refusal.
 pub enum Limit {

@@ -3,7 +3,9 @@ use crate::entry::entry_size;
 use crate::message::head_size;
 use crate::message::is_aggregated;
 use crate::message::write_message;
+use format::GREATEST_LIMIT;
 use format::Kind;
+use format::LEAST_LIMIT;
 use joining::how_many_fit;
 ghost use mathlib.Core.Path.{_≡_};
 ghost use Prim.Native.Nat.{_+_, _*_, _≤_};
@@ -90,10 +92,10 @@ fn possible(kind: Kind, length: usize, from: usize, n: usize, limit: usize, room
     if (length - from) / entry_size(kind) < n {
         return false;
     }
-    if limit < 38 {
+    if limit < LEAST_LIMIT {
         return false;
     }
-    if 65515 < limit {
+    if GREATEST_LIMIT < limit {
         return false;
     }
     limit <= room
