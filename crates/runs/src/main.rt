@@ -1,17 +1,16 @@
-// Runs messages: first how long some are and whether their checksums hold, then each by its listing. What is
-// expected of them, in the file stdout, is worked out by hand or stands in the notes of who read them.
+// Runs messages made by hand: first how long some are and whether their checksums hold, then each by its listing. What
+// is expected of them, in the file stdout, is worked out by hand. Messages that others sent or read are run by vectors.
 //
-// output.rt                               a case and its name
-// kinds.rt, refusals.rt, hellos.rt        messages made by hand
-// packs.rt                                entries packed, and the messages written
-// vectors_hello.rt, vectors_assert.rt     messages that others sent or read
+// output.rt        a case and its name
+// kinds.rt         each kind of message
+// refusals.rt      damaged messages
+// hellos.rt        Hellos, also damaged
+// packs.rt         entries packed, and the messages written
 mod hellos;
 mod kinds;
 mod output;
 mod packs;
 mod refusals;
-mod vectors_assert;
-mod vectors_hello;
 
 fn line(name: &[u8], m: &[u8]) {
     io::write_all(1, name);
@@ -63,7 +62,5 @@ fn main() {
     refusals::run();
     too_long();
     hellos::run();
-    vectors_hello::run();
-    vectors_assert::run();
     packs::run();
 }

@@ -1,14 +1,16 @@
-// Packs entries and reads the messages back: the examples that the rule book, 01, marks for the packing calls, then
-// trains of aggregated messages over a list of 1,024 entries, one train for each limit. What is expected, in the file
-// stdout, was worked out from 01 by a second program.
+// Packs entries and reads the messages back: the examples that the rule book, 01, marks for the packing calls, the
+// choice between the two packed assert forms, then trains of aggregated messages over a list of 1,024 entries, one train
+// for each limit. What is expected, in the file stdout, was worked out from 01 by a second program.
 //
 // call.rt         the aggregated packing call, named in one place
 // output.rt       lines of text
 // examples.rt     01's examples 3, 4, 5, 6 and 8
+// choice.rt       both packed assert forms, and the one that is chosen
 // entries.rt      the rule that makes the list of entries
 // train.rt        the list packed until nothing is left, and each message read back
 // compare.rt      the list packed against the list read
 mod call;
+mod choice;
 mod compare;
 mod entries;
 mod examples;
@@ -18,5 +20,6 @@ mod train;
 fn main() {
     let list = entries::list();
     examples::run(&list);
+    choice::run();
     train::run(&list);
 }

@@ -14,26 +14,32 @@ pub(crate) fn number(n: usize, after: &[u8]) {
 }
 
 // An octet as a wider number.
-fn wide(x: u8) -> usize {
+pub(crate) fn wide(x: u8) -> usize {
     x as usize
 }
 
-pub(crate) fn refused(r: Refusal) {
+// A refusal, and what follows it.
+pub(crate) fn refused(r: Refusal, after: &[u8]) {
     text(b"refused ");
     number(wide(r.number), b" at ");
-    number(r.place, b"\n");
+    number(r.place, after);
 }
 
-// What a packing call answered. A length of 0 is no message.
+// A message, and what follows it. A length of 0 is no message.
+pub(crate) fn wrote(length: usize, taken: usize, after: &[u8]) {
+    if length == 0 && taken == 0 {
+        text(b"no message");
+        return text(after);
+    }
+    number(taken, b" taken, ");
+    number(length, b" octets");
+    text(after);
+}
+
+// What a packing call answered.
 pub(crate) fn answer(p: Packing) {
     match p {
-        Packing::Refused(r) => refused(r),
-        Packing::Wrote { length, taken } => {
-            if length == 0 && taken == 0 {
-                return text(b"no message\n");
-            }
-            number(taken, b" taken, ");
-            number(length, b" octets\n");
-        }
+        Packing::Refused(r) => refused(r, b"\n"),
+        Packing::Wrote { length, taken } => wrote(length, taken, b"\n"),
     }
 }

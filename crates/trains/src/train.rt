@@ -54,7 +54,7 @@ fn read_back(d: &[u8], s: Sent, start: usize, back: &mut [u8]) -> bool
     match x {
         Reading::Refused(r) => {
             number(start, b" entries taken, then reading: ");
-            refused(r);
+            refused(r, b"\n");
             false
         }
         Reading::Entries { kind: _, count } => {
