@@ -20,10 +20,10 @@ use Rattle.format.specs.Address.{groupField, sourceField}
 use Rattle.format.specs.Record.{positive, groupRecord, sourceAggregated, rpAggregated, aggregatedFields, aggregatedRecord}
 use Rattle.octets.specs.Octets.{numberAt}
 use Rattle.reading.specs.Plain.{plainAddresses, plainGroupRecord, plainGroupRecords, plainAggregated, plainRecords}
-use Rattle.reading.proofs.Skipped.{no-got, continue-back}
-use Rattle.reading.proofs.Tallied.{positive-back}
+use Rattle.fields.proofs.Skipped.{no-got, continue-back}
+use Rattle.counting.proofs.Tallied.{positive-back}
 use Rattle.reading.proofs.Copying.{length-addresses}
-use Rattle.reading.proofs.Fields.{octets-back, number-back, group-back, source-back}
+use Rattle.fields.proofs.Fields.{octets-back, number-back, group-back, source-back}
 
 -- what a reader that gave a value at a place gave, and where it stopped
 pub record Back {A : Type 0} (o : List ℕ) (at : ℕ) (a : A) (n : ℕ) (plain : A) (size : ℕ) : Type 0 where

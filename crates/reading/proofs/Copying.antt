@@ -27,8 +27,8 @@ use Rattle.format.specs.Family.{ipv4}
 use Rattle.format.specs.Entry.{assertEntryOctets, pairEntryOctets}
 use Rattle.format.specs.Record.{each}
 use Rattle.format.proofs.Lengths.{length-each}
-use Rattle.reading.specs.Answers.{plainAssert, plainPair}
-use Rattle.reading.specs.Counts.{likeButFor}
+use Rattle.fields.specs.Answers.{plainAssert, plainPair}
+use Rattle.reading.specs.Copied.{likeButFor}
 use Rattle.reading.specs.Plain.{plainAsserts, plainPairs, plainAddresses, plainGroupRecord, plainGroupRecords, plainAggregated, plainRecords}
 
 -- ---- a number

@@ -21,15 +21,15 @@ use Rattle.format.specs.Record.{assertRecord, pairRecord, aggregatedRecord}
 use Rattle.format.specs.Body.{zeroReserved, assertsBody, pairsBody}
 use Rattle.format.specs.declared.Kind.{Kind}
 use Rattle.format.specs.declared.Kind.the-variants.{Hello, Assert, Simple, Aggregated, NullRegister, RegisterStop}
-use Rattle.reading.specs.Answers.{plainAssert, plainPair}
+use Rattle.fields.specs.Answers.{plainAssert, plainPair}
 use Rattle.reading.specs.Plain.{plainAsserts, plainPairs, plainAggregated, plainRecords}
 use Rattle.reading.specs.Calls.{valueOf, HasCounted}
-use Rattle.reading.proofs.Skipped.{no-got, continue-back}
-use Rattle.reading.proofs.Fields.{octets-back, number-back}
-use Rattle.reading.proofs.Plain.{assert-back, pair-back}
+use Rattle.fields.proofs.Skipped.{no-got, continue-back}
+use Rattle.fields.proofs.Fields.{octets-back, number-back}
+use Rattle.fields.proofs.Plain.{assert-back, pair-back}
 use Rattle.reading.proofs.Copying.{size-least}
 use Rattle.reading.proofs.Aggregates.{Back, got-value, got-place, handUp-back, aggregated-back, aggregates-back}
-use Rattle.reading.proofs.Bodies.{tallied-back}
+use Rattle.counting.proofs.Bodies.{tallied-back}
 
 -- a body that was counted was read, and gave so many entries
 pub counted-back : {A C : Type 0} (r : Read (List A)) (n : ℕ) → HasCounted r n → ((l : List A) (next : ℕ) → r ≡ got l next → length l ≡ n → C) → C

@@ -1,11 +1,4 @@
 pub mod Aggregates
-pub mod Asserts
-pub mod Bodies
 pub mod Copying
-pub mod Fields
-pub mod Headers
-pub mod Plain
-pub mod Skipped
-pub mod Tallied
 pub mod Delivered
 pub mod Readings

@@ -1,7 +1,7 @@
 -- What a reading call comes to, by what its two passes found.
 --     read-refused, read-bad, read-short, read-all     of any sort of entries: refused by the header, by a fault, for want of room, or delivered
 --     headed-refuses, headed-gives, counted-bad, counted-all     what the answers of the passes say
---     asserts-by, pairs-by, long     the two calls in these terms; a message that the header let through is no longer than it may be
+--     asserts-by, pairs-by     the two calls in these terms
 -- Assumes nothing.
 use Prim.Native.Nat.{ℕ, _*_, _≤_, _<_}
 use mathlib.Core.Path.{_≡_, refl, sym, ap, ap₂, _∙_}
@@ -22,15 +22,14 @@ use Rattle.format.specs.Body.{assertsBody, pairsBody}
 use Rattle.format.specs.Family.{ipv4}
 use Rattle.format.specs.declared.Kind.{Kind}
 use Rattle.format.specs.declared.Refusal.{Refusal}
-use Rattle.reading.specs.Answers.{headed}
-use Rattle.reading.specs.Counts.{counted, tallied}
-use Rattle.reading.specs.Calls.{Long, valueOf, HasCounted}
-use Rattle.reading.specs.declared.message.Headed.{Headed}
-use Rattle.reading.specs.declared.message.Headed.the-variants.{Is, Refused}
-use Rattle.reading.specs.declared.aggregated.Counted.{Counted}
-use Rattle.reading.specs.declared.aggregated.Counted.the-variants.{All, Bad}
-use Rattle.reading.proofs.Skipped.{no-got}
-use Rattle.reading.proofs.Headers.{header-room}
+use Rattle.headers.specs.Answers.{headed}
+use Rattle.counting.specs.Counts.{counted, tallied}
+use Rattle.reading.specs.Calls.{valueOf, HasCounted}
+use Rattle.headers.specs.declared.message.Headed.{Headed}
+use Rattle.headers.specs.declared.message.Headed.the-variants.{Is, Refused}
+use Rattle.counting.specs.declared.aggregated.Counted.{Counted}
+use Rattle.counting.specs.declared.aggregated.Counted.the-variants.{All, Bad}
+use Rattle.fields.proofs.Skipped.{no-got}
 use Rattle.reading.proofs.Delivered.{counted-back}
 
 -- ---- what the passes answer
@@ -89,6 +88,3 @@ asserts-by o d = refl
 pub pairs-by : (o d : List ℕ) → readPairs ipv4 o d ≡ reading (pairEntries ipv4 false) (unpackBy (pairEntries ipv4 false) (pairsBody ipv4) o d) d
 unfolding readPairs unpackPairs unpackBy
 pairs-by o d = refl
-
-pub long : (o : List ℕ) (k : Kind) → header o ≡ gives k → Long o
-long o k e = let r = header-room o k e in record { least = r .0; most = r .1 }

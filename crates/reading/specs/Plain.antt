@@ -1,19 +1,20 @@
 -- The records of octets that were checked, by plain numbers at their places: no test, and no refusal. In IPv4.
---     plainAssert, plainPair             the numbers of a record
 --     plainAsserts, plainPairs           n of them one after another
 --     plainAddresses                     n encoded addresses one after another
 --     plainGroupRecord(s)                a group record, and n of them
 --     plainAggregated, plainRecords      an aggregated record, and those up to the end
--- That a reader of the crate format that gives a value gives this one is proved in proofs/. Assumes nothing: these are definitions.
+-- One assert record and one pair are in Answers.antt of the crate fields. That a reader of the crate format that gives a value gives this one is
+-- proved in proofs/.
+-- Assumes nothing: these are definitions.
 use Prim.Native.Nat.{ℕ, zero, suc, _+_}
 use mathlib.Core.Bool.{cond}
 use mathlib.Core.List.{List, [], _∷_}
 use lib.ListN.{length}
 use lib.Dec.{leb}
+use Rattle.octets.specs.Octets.{numberAt}
 use Rattle.records.specs.Records.{AssertRecord, PairRecord, rBit, GroupRecord, ofGroup, AggregatedRecord, ofSource, ofRp}
 use Rattle.records.specs.Sizes.{groupRecordSize, aggregatedSize}
-use Rattle.octets.specs.Octets.{numberAt}
-use Rattle.reading.specs.Answers.{plainAssert, plainPair}
+use Rattle.fields.specs.Answers.{plainAssert, plainPair}
 
 unfoldable pub plainAsserts : List ℕ → ℕ → ℕ → List AssertRecord
 plainAsserts o at zero = []

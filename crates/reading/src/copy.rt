@@ -1,11 +1,11 @@
 // The second pass of a reading call: the entries of octets that were checked, written one after another.
-// Nothing is tested here. Each function knows that its octets are there and that the entries fit.
-use crate::field::number16;
-use crate::field::number32;
-use crate::record::assert_at;
-use crate::record::pair_at;
+// Nothing is refused here: each function knows that its octets are there and that the entries fit.
+use fields::assert_at;
+use fields::pair_at;
 use format::AssertFields;
 use format::PairFields;
+use octets::number16;
+use octets::number32;
 ghost use mathlib.Core.Path.{_≡_};
 ghost use mathlib.Core.List.{map};
 ghost use Prim.Native.Nat.{_+_, _≤_, _*_};
@@ -18,8 +18,7 @@ ghost use Rattle.format.specs.Record.{each};
 ghost use Rattle.format.specs.Entry.{assertEntryOctets, pairEntryOctets};
 ghost use Rattle.format.specs.Values.{assertOf, pairOf};
 ghost use Rattle.reading.specs.Plain.{plainAsserts, plainPairs, plainAddresses, plainGroupRecord, plainGroupRecords, plainAggregated, plainRecords};
-ghost use Rattle.reading.specs.Counts.{likeButFor};
-ghost use Rattle.reading.specs.Copied.{Fit, Copied};
+ghost use Rattle.reading.specs.Copied.{likeButFor, Fit, Copied};
 
 // Four octets of a number.
 fn put32(d: &mut [u8], at: usize, n: u32)

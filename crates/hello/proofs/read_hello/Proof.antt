@@ -3,7 +3,7 @@
 use mathlib.Core.Path.{sym, ap, _∙_}
 use borrow.Author.Needs.{needs}
 use denote.Ref.{now}
-use Rattle.reading.specs.Answers.{headed}
+use Rattle.headers.specs.Answers.{headed}
 use Rattle.hello.specs.Hello.{helloBody}
 use Rattle.hello.specs.Answers.{told}
 use Rattle.hello.proofs.Hellos.{read-refused, read-body, other-kind}

@@ -11,7 +11,7 @@ use Rattle.octets.specs.Octets.{numberAt}
 use Rattle.format.specs.Entry.{assertEntryOctets}
 use Rattle.format.specs.Family.{ipv4}
 use Rattle.format.specs.Values.{assertOf}
-use Rattle.reading.specs.Counts.{likeButFor}
+use Rattle.reading.specs.Copied.{likeButFor}
 use Rattle.reading.specs.Plain.{plainAddresses}
 use Rattle.reading.proofs.Copying.{length-like, Turns, turns-start, turn-there, turn-next, turns-end, put-one, addresses-series, length-assert-entry}
 use Rattle.reading.proofs.copy.copy_addresses.Statement.{statement}
@@ -43,7 +43,7 @@ add-number32 : tie.Need-add-number32 Inv-loop μ-loop
 add-number32 c = let t = there (c .before) in omega arith
 
 number32-requires : tie.Need-number32-requires Inv-loop μ-loop
-number32-requires c κs = let t = there (c .before) in omega arith
+number32-requires c κs = tt
 
 like-but-for-requires : tie.Need-like-but-for-requires Inv-loop μ-loop
 like-but-for-requires c κs = tt

@@ -33,7 +33,7 @@ there : (c : tie.In-loop Inv-loop μ-loop)
 there c = turn-there (asserts-series (now (c .before .before .before .before .args .m))) (c .before .loop .inv) (c .loop-test .taken)
 
 assert-at-requires : tie.Need-assert-at-requires Inv-loop μ-loop
-assert-at-requires c κs = there (c .before) .0
+assert-at-requires c κs = tt
 
 put-assert-requires : tie.Need-put-assert-requires Inv-loop μ-loop
 put-assert-requires c κs = there (c .before .before) .1

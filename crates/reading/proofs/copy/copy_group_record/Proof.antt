@@ -13,7 +13,7 @@ use Rattle.records.specs.Records.{AssertRecord, assert, groupEntries}
 use Rattle.format.specs.Entry.{assertEntryOctets}
 use Rattle.format.specs.Family.{ipv4}
 use Rattle.format.specs.Values.{assertOf}
-use Rattle.reading.specs.Counts.{likeButFor}
+use Rattle.reading.specs.Copied.{likeButFor}
 use Rattle.reading.specs.Plain.{plainGroupRecord, plainAddresses}
 use Rattle.reading.proofs.Copying.{put-one, group-none, group-some, length-like}
 use Rattle.reading.proofs.copy.copy_group_record.Statement.{statement}

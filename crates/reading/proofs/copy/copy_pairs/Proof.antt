@@ -33,7 +33,7 @@ there : (c : tie.In-loop Inv-loop μ-loop)
 there c = turn-there (pairs-series (now (c .before .before .before .before .args .m))) (c .before .loop .inv) (c .loop-test .taken)
 
 pair-at-requires : tie.Need-pair-at-requires Inv-loop μ-loop
-pair-at-requires c κs = there (c .before) .0
+pair-at-requires c κs = tt
 
 put-pair-requires : tie.Need-put-pair-requires Inv-loop μ-loop
 put-pair-requires c κs = there (c .before .before) .1

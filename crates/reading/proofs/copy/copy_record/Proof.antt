@@ -13,9 +13,9 @@ use Rattle.records.specs.Records.{AggregatedRecord, assert, entries, allGroupEn
 use Rattle.records.specs.Sizes.{aggregatedSize, groupRecordsSize}
 use Rattle.octets.specs.Octets.{numberAt}
 use Rattle.format.specs.Values.{assertOf}
-use Rattle.reading.specs.Counts.{likeButFor}
+use Rattle.reading.specs.Copied.{likeButFor}
 use Rattle.reading.specs.Plain.{plainAggregated, plainAddresses, plainGroupRecords}
-use Rattle.reading.proofs.Copying.{source-record-is, rp-record-is, size-least, length-like}
+use Rattle.reading.proofs.Copying.{source-record-is, rp-record-is, length-like}
 use Rattle.reading.proofs.copy.copy_record.Statement.{statement}
 use Rattle.reading.proofs.copy.copy_record.Tie as tie
 
@@ -53,25 +53,25 @@ rp c =
     rp-record-is (now (a .m)) (a .at) (b .before .before .number32 .ensures) (b .before .number322 .ensures) (b .if1 .left) (c .number162 .ensures)
 
 number32-requires : tie.Need-number32-requires
-number32-requires c κs = omega (arith, size-least (it (c .before .before)))
+number32-requires c κs = search needs
 
 add-number32 : tie.Need-add-number32
 add-number32 c = search needs
 
 number32-requires-2 : tie.Need-number32-requires-2
-number32-requires-2 c κs = omega (arith, size-least (it (c .before .before .before)))
+number32-requires-2 c κs = search needs
 
 add-number16 : tie.Need-add-number16
 add-number16 c = search needs
 
 number16-requires : tie.Need-number16-requires
-number16-requires c κs = omega (arith, source-size c)
+number16-requires c κs = search needs
 
 add-number32-2 : tie.Need-add-number32-2
 add-number32-2 c = search needs
 
 number32-requires-3 : tie.Need-number32-requires-3
-number32-requires-3 c κs = omega (arith, source-size (c .before))
+number32-requires-3 c κs = search needs
 
 add-copy-addresses : tie.Need-add-copy-addresses
 add-copy-addresses c = search needs
@@ -116,7 +116,7 @@ add-number16-2 : tie.Need-add-number16-2
 add-number16-2 c = search needs
 
 number16-requires-2 : tie.Need-number16-requires-2
-number16-requires-2 c κs = omega (arith, size-least (it (c .before .before .before .before .before)))
+number16-requires-2 c κs = search needs
 
 copy-group-records-requires : tie.Need-copy-group-records-requires
 copy-group-records-requires c κs =

@@ -1,7 +1,7 @@
 -- `reading::copy::like_but_for` meets its contract: by the test.
 -- Assumes nothing.
 use Rattle.format.specs.Values.{assertOf}
-use Rattle.reading.specs.Counts.{likeButFor}
+use Rattle.reading.specs.Copied.{likeButFor}
 use Rattle.reading.proofs.copy.like_but_for.Statement.{statement}
 use Rattle.reading.proofs.copy.like_but_for.Tie as tie
 

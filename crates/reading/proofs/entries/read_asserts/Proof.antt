@@ -8,7 +8,7 @@ use Rattle.format.specs.Family.{ipv4}
 use Rattle.format.specs.Body.{assertsBody}
 use Rattle.format.specs.Entry.{assertEntries}
 use Rattle.reading.specs.Calls.{answered}
-use Rattle.reading.proofs.Readings.{headed-refuses, headed-gives, counted-bad, counted-all, read-refused, read-bad, read-short, read-all, asserts-by, long}
+use Rattle.reading.proofs.Readings.{headed-refuses, headed-gives, counted-bad, counted-all, read-refused, read-bad, read-short, read-all, asserts-by}
 use Rattle.reading.proofs.entries.read_asserts.Statement.{statement}
 use Rattle.reading.proofs.entries.read_asserts.Tie as tie
 
@@ -22,9 +22,7 @@ enum-known-h-2 : tie.Need-enum-known-h-2
 enum-known-h-2 c = search needs
 
 count-asserts-requires : tie.Need-count-asserts-requires
-count-asserts-requires c κs =
-    let o = now (c .before .before .before .before .before .before .args .m) in
-    long o (c .before .h2 .given .0 .0) (headed-gives o (c .before .h2 .given .1) (c .before .before .before .header .ensures))
+count-asserts-requires c κs = search needs
 
 enum-known-c : tie.Need-enum-known-c
 enum-known-c c = search needs

@@ -11,7 +11,7 @@ use Rattle.format.specs.Family.{ipv4}
 use Rattle.format.specs.Body.{pairsBody}
 use Rattle.format.specs.Entry.{pairEntries, pairEntryOctets}
 use Rattle.reading.specs.Calls.{answered}
-use Rattle.reading.proofs.Readings.{headed-refuses, headed-gives, counted-bad, counted-all, read-refused, read-bad, read-short, read-all, pairs-by, long}
+use Rattle.reading.proofs.Readings.{headed-refuses, headed-gives, counted-bad, counted-all, read-refused, read-bad, read-short, read-all, pairs-by}
 use Rattle.reading.proofs.Delivered.{pair-entries}
 use Rattle.reading.proofs.entries.read_pairs.Statement.{statement}
 use Rattle.reading.proofs.entries.read_pairs.Tie as tie
@@ -26,9 +26,7 @@ enum-known-h-2 : tie.Need-enum-known-h-2
 enum-known-h-2 c = search needs
 
 count-pairs-requires : tie.Need-count-pairs-requires
-count-pairs-requires c κs =
-    let o = now (c .before .before .before .before .before .before .args .m) in
-    long o (c .before .h2 .given .0 .0) (headed-gives o (c .before .h2 .given .1) (c .before .before .before .header .ensures))
+count-pairs-requires c κs = search needs
 
 enum-known-c : tie.Need-enum-known-c
 enum-known-c c = search needs

@@ -1,0 +1,274 @@
+-- Bodies of messages as the counting calls take them.
+--     start-none .. start-some           Zero, Reserved, and that a record begins
+--     tallied-skipped .. sum-more        records counted to the end, one by one or all at once
+--     plain-bad, plain-more, plain-end   a plain assert, by what its check found
+--     simple-bad .. start-room           packed asserts of either sort, by what their start was found to be
+--     null-count, stop-count             pairs
+--     records-none-left, records-left    whether a record begins
+-- Assumes nothing.
+use Prim.Native.Nat.{ℕ, zero, suc, _+_, _≤_, _<_}
+use native.Mathlib.Omega.{arith}
+use mathlib.Core.Path.{_≡_, refl, sym, ap, ap₂, fun-ext, _∙_}
+use mathlib.Core.Bool.{Bool, true, false, cond}
+use mathlib.Core.List.{List, [], _∷_}
+use lib.ListN.{length, getD}
+use lib.Dec.{leb}
+use borrow.Author.Tests.{le-leb, lt-leb, leb-false, eq-eqb, ne-eqb}
+use Rattle.octets.specs.Octets.{numberAt, value}
+use Rattle.format.specs.Reader.{Read, got, bad, Reader, continue, _>>=_, _>>_, give, number, must, placed, handUp, inRecord, toEnd, records, nothingMore}
+use Rattle.format.specs.Body.{zeroReserved, assertsBody, pairsBody}
+use Rattle.records.specs.Records.{AggregatedRecord, allEntries}
+use Rattle.format.specs.Family.{ipv4}
+use Rattle.format.specs.Record.{Single, anAssert, aPair, assertRecord, pairRecord, aggregatedRecord, recordAt}
+use Rattle.format.specs.declared.Refusal.{Refusal}
+use Rattle.format.specs.declared.Kind.{Kind}
+use Rattle.format.specs.declared.Kind.the-variants.{Hello, Assert, Simple, Aggregated, NullRegister, RegisterStop}
+use Rattle.fields.proofs.Skipped.{no-got, continue-back, checks-next}
+use Rattle.counting.proofs.Tallied.{tallies-bad, tallies-on, record-room, records-none, records-more}
+use Rattle.fields.proofs.Plain.{record-back}
+use Rattle.fields.specs.Answers.{checked, skipped, plainSize}
+use Rattle.counting.specs.Counts.{tallied, entryCount, sum, recordCount, recordsCount, someRecord, packedStart}
+use Rattle.fields.specs.declared.field.Checked.{Checked}
+use Rattle.fields.specs.declared.field.Checked.the-variants.{Next, Bad}
+use Rattle.octets.proofs.Laws.{number-is}
+use Rattle.fields.proofs.Fields.{octets-there, octets-short}
+
+number-there : (k : ℕ) (o : List ℕ) (at : ℕ) → at + k ≤ length o → number k o at ≡ got (numberAt k o at) (at + k)
+unfolding number numberAt _>>=_ continue give
+number-there k o at h = rw (octets-there k o at h)
+
+-- ---- Zero and Reserved
+
+one-octet : (o : List ℕ) → 5 ≤ length o → numberAt 1 o 4 ≡ getD o 4 0
+unfolding value
+one-octet o h = number-is 1 o 4 h ∙ omega arith
+
+pub start-none : (o : List ℕ) → length o < 5 → packedStart o 4 ≡ bad 6 4
+unfolding packedStart zeroReserved inRecord handUp placed must number _>>_ _>>=_ continue
+start-none o h = rw (octets-short 1 o 4 h)
+
+pub start-zero : (o : List ℕ) → 5 ≤ length o → (getD o 4 0 ≡ 0 → ⊥) → packedStart o 4 ≡ bad 5 4
+unfolding packedStart zeroReserved inRecord handUp placed must _>>_ continue
+start-zero o h z = rw (number-there 1 o 4 h, one-octet o h, ne-eqb (getD o 4 0) 0 z)
+
+pub start-cut : (o : List ℕ) → 5 ≤ length o → getD o 4 0 ≡ 0 → length o < 8 → packedStart o 4 ≡ bad 6 4
+unfolding packedStart zeroReserved inRecord handUp placed must _>>_ continue
+start-cut o h z short = rw (number-there 1 o 4 h, one-octet o h, eq-eqb (getD o 4 0) 0 z, octets-short 3 o 5 short)
+
+pub start-empty : (o : List ℕ) → getD o 4 0 ≡ 0 → length o ≡ 8 → packedStart o 4 ≡ bad 5 8
+unfolding packedStart zeroReserved inRecord handUp placed must someRecord _>>_ continue give
+start-empty o z e =
+    let five : 5 ≤ length o = omega arith in
+    let eight : 8 ≤ length o = omega arith in
+    let end : length o ≤ 8 = omega arith in
+    rw (number-there 1 o 4 five, one-octet o five, eq-eqb (getD o 4 0) 0 z, octets-there 3 o 5 eight, le-leb (length o) 8 end)
+
+pub start-some : (o : List ℕ) → getD o 4 0 ≡ 0 → 8 < length o → packedStart o 4 ≡ got tt 8
+unfolding packedStart zeroReserved inRecord handUp placed must someRecord _>>_ continue give
+start-some o z more =
+    let five : 5 ≤ length o = omega arith in
+    let eight : 8 ≤ length o = omega arith in
+    rw (number-there 1 o 4 five, one-octet o five, eq-eqb (getD o 4 0) 0 z, octets-there 3 o 5 eight, lt-leb (length o) 8 more)
+
+-- ---- records counted to the end
+
+pub tallied-skipped : {A : Type 0} (n : ℕ) (x : Read A) → tallied (λ u. n) (skipped x) ≡ tallied (λ a. n) x
+unfolding tallied skipped
+tallied-skipped n (got a m) = refl
+tallied-skipped n (bad i p) = refl
+
+pub tallied-back : {A C : Type 0} (size : A → ℕ) (x : Read A) (n next : ℕ) → tallied size x ≡ got n next → ((a : A) → x ≡ got a next → size a ≡ n → C) → C
+unfolding tallied
+tallied-back size (got a m) n next e on = on a (ap (got a) (cc)) (cc)
+tallied-back size (bad i p) n next e on = absurd (no-got e)
+
+-- a record of one length has octets
+single-some : (kind : Kind) (o : List ℕ) (at : ℕ) (e : Single) (n : ℕ) → recordAt ipv4 kind o at ≡ got e n → (1 + at < n) × (n ≤ length o)
+unfolding recordAt plainSize
+single-some Hello o at e n h = absurd (no-got h)
+single-some Assert o at e n h = let b = record-back Assert o at h in omega (arith, b .1, b .2)
+single-some Simple o at e n h = let b = record-back Simple o at h in omega (arith, b .1, b .2)
+single-some Aggregated o at e n h = absurd (no-got h)
+single-some NullRegister o at e n h = let b = record-back NullRegister o at h in omega (arith, b .1, b .2)
+single-some RegisterStop o at e n h = let b = record-back RegisterStop o at h in omega (arith, b .1, b .2)
+
+-- a record's octets are more than its entries
+pub entry-room : (joined : Bool) (kind : Kind) (o : List ℕ) (at n next : ℕ) → at ≤ length o → entryCount joined kind o at ≡ got n next → (n + at < next) × (next ≤ length o)
+unfolding entryCount
+entry-room true kind o at n next h e =
+    tallied-back recordCount (aggregatedRecord ipv4 o at) n next e (λ r p q. omega (arith, record-room o at h p))
+entry-room false kind o at n next h e =
+    tallied-back (λ x. 1) (recordAt ipv4 kind o at) n next e (λ x p q. omega (arith, single-some kind o at x next p))
+
+-- counting each record and adding up is counting what they all stand for
+module _ {A : Type 0} (one : A → ℕ) (all : List A → ℕ) (none : all [] ≡ 0) (more : (a : A) (l : List A) → all (a ∷ l) ≡ one a + all l) where
+  count-more : (a : A) (x : Read (List ℕ)) (y : Read (List A)) → tallied sum x ≡ tallied all y
+      → tallied sum (continue x (λ l end. got (one a ∷ l) end)) ≡ tallied all (continue y (λ l end. got (a ∷ l) end))
+  unfolding tallied sum continue
+  count-more a (got l n) (got t m) e =
+      let same : sum l ≡ all t = cc in
+      let place : n ≡ m = cc in
+      ap₂ got (omega (arith, more a t)) place
+  count-more a (got l n) (bad i p) e = absurd (no-got (sym e))
+  count-more a (bad i p) (got t m) e = absurd (no-got e)
+  count-more a (bad i p) (bad j q) e = e
+
+  count-step : (at : ℕ) (b : Bool) (x : Read A) (f : ℕ → Read (List ℕ)) (g : ℕ → Read (List A)) → ((next : ℕ) → tallied sum (f next) ≡ tallied all (g next))
+      → tallied sum (cond b (got [] at) (continue (tallied one x) (λ n next. continue (f next) (λ l end. got (n ∷ l) end))))
+      ≡ tallied all (cond b (got [] at) (continue x (λ a next. continue (g next) (λ l end. got (a ∷ l) end))))
+  unfolding tallied sum continue
+  count-step at true x f g ih = ap (λ n. got n at) (sym none)
+  count-step at false (got a m) f g ih = count-more a (f m) (g m) (ih m)
+  count-step at false (bad i p) f g ih = refl
+
+  pub count-all : (r : Reader A) (o : List ℕ) (k at : ℕ) → tallied sum (toEnd k (λ o at. tallied one (r o at)) o at) ≡ tallied all (toEnd k r o at)
+  unfolding toEnd tallied sum
+  count-all r o zero at = ap (λ n. got n at) (sym none)
+  count-all r o (suc k) at =
+      count-step at (leb (length o) at) (r o at) (λ next. toEnd k (λ o at. tallied one (r o at)) o next) (λ next. toEnd k r o next) (count-all r o k)
+
+pub tallied-id : (x : Read ℕ) → tallied (λ n. n) x ≡ x
+unfolding tallied
+tallied-id (got n m) = refl
+tallied-id (bad i p) = refl
+
+pub sum-none : sum [] ≡ 0
+unfolding sum
+sum-none = refl
+
+pub sum-more : (n : ℕ) (ns : List ℕ) → sum (n ∷ ns) ≡ n + sum ns
+unfolding sum
+sum-more n ns = refl
+
+-- ---- bodies
+
+-- counting records of one length is counting what any reader of them gives
+pub count-records : {A : Type 0} (kind : Kind) (r : Reader A) → ((o : List ℕ) (at : ℕ) → tallied (λ e. 1) (recordAt ipv4 kind o at) ≡ tallied (λ a. 1) (r o at))
+    → (o : List ℕ) (k at : ℕ) → tallied sum (toEnd k (entryCount false kind) o at) ≡ tallied length (toEnd k r o at)
+unfolding entryCount
+count-records kind r same o k at =
+    ap (λ (x : Reader ℕ). tallied sum (toEnd k x o at)) (fun-ext (λ o. fun-ext (λ at. same o at)))
+    ∙ count-all (λ a. 1) length refl (λ a l. omega arith) r o k at
+
+pub count-joined : (kind : Kind) (o : List ℕ) (k at : ℕ) → tallied sum (toEnd k (entryCount true kind) o at) ≡ tallied recordsCount (toEnd k (aggregatedRecord ipv4) o at)
+unfolding entryCount
+count-joined kind o k at = count-all recordCount recordsCount records-none records-more (aggregatedRecord ipv4) o k at
+
+-- one entry each, whatever the value is made into
+pub one-each : {A B : Type 0} (g : A → B) (x : Read A) → tallied (λ b. 1) (continue x (λ a n. got (g a) n)) ≡ tallied (λ a. 1) x
+unfolding tallied continue
+one-each g (got a n) = refl
+one-each g (bad n p) = refl
+
+-- Zero, Reserved and records to the end, one at least
+pub packed-body : {A : Type 0} (r : Reader A) (o : List ℕ) → continue (packedStart o 4) (λ u next. toEnd (length o) r o next) ≡ (zeroReserved >> records r) o 4
+unfolding packedStart someRecord records _>>_ continue
+packed-body {A} r o = go (zeroReserved o 4)
+  where
+    choose : (b : Bool) (n : ℕ) → continue (cond b (bad 5 n) (got (tt {0}) n)) (λ u next. toEnd (length o) r o next) ≡ cond b (bad 5 n) (toEnd (length o) r o n)
+    choose true n = refl
+    choose false n = refl
+
+    go : (x : Read (Unit {0})) → continue (continue x (λ u n. cond (leb (length o) n) (bad 5 n) (got (tt {0}) n))) (λ u next. toEnd (length o) r o next) ≡ continue x (λ u n. cond (leb (length o) n) (bad 5 n) (toEnd (length o) r o n))
+    go (got u n) = choose (leb (length o) n) n
+    go (bad i p) = refl
+
+-- the entries that aggregated records stand for are counted as the records are
+pub joined-count : (x : Read (List AggregatedRecord)) → tallied length (continue x (λ rs n. got (allEntries rs) n)) ≡ tallied recordsCount x
+unfolding tallied continue recordsCount
+joined-count (got rs n) = refl
+joined-count (bad n p) = refl
+
+-- ---- a plain assert
+
+module _ (o : List ℕ) where
+  pub plain-bad : {c : Checked} {x : Refusal} {y : Read ℕ} → c ≡ Bad x → checked c ≡ skipped (assertRecord ipv4 o 4) → y ≡ tallied (λ u. 0) (checked c)
+      → y ≡ tallied length (assertsBody ipv4 Assert o 4)
+  unfolding assertsBody _>>=_
+  plain-bad p q t = tallies-bad length (assertRecord ipv4 o 4) _ p q t
+
+  pub plain-more : {c : Checked} {n : ℕ} → c ≡ Next n → checked c ≡ skipped (assertRecord ipv4 o 4) → n < length o → bad 6 n ≡ tallied length (assertsBody ipv4 Assert o 4)
+  unfolding assertsBody _>>=_ _>>_ nothingMore continue tallied
+  plain-more {n = n} p q h = tallies-on length (assertRecord ipv4 o 4) _ p q (λ e g. rw (lt-leb (length o) n h))
+
+  pub plain-end : {c : Checked} {n : ℕ} → c ≡ Next n → checked c ≡ skipped (assertRecord ipv4 o 4) → length o ≤ n → got 1 n ≡ tallied length (assertsBody ipv4 Assert o 4)
+  unfolding assertsBody _>>=_ _>>_ nothingMore continue give tallied
+  plain-end {n = n} p q h = tallies-on length (assertRecord ipv4 o 4) _ p q (λ e g. rw (le-leb (length o) n h))
+
+-- ---- packed asserts
+
+joined-last : {A : Type 0} (x : Read A) (f : ℕ → Read (List AggregatedRecord))
+    → tallied recordsCount (continue x (λ a n. f n)) ≡ tallied length (continue x (λ a n. continue (f n) (λ rs m. got (allEntries rs) m)))
+unfolding continue tallied
+joined-last (got a n) f = sym (joined-count (f n))
+joined-last (bad n p) f = refl
+
+assert-one : (o : List ℕ) (at : ℕ) → tallied (λ e. 1) (recordAt ipv4 Simple o at) ≡ tallied (λ a. 1) (assertRecord ipv4 o at)
+unfolding recordAt _>>=_ give
+assert-one o at = one-each anAssert (assertRecord ipv4 o at)
+
+module _ (o : List ℕ) where
+  simple-is : tallied length (continue (packedStart o 4) (λ u next. toEnd (length o) (assertRecord ipv4) o next)) ≡ tallied length (assertsBody ipv4 Simple o 4)
+  unfolding assertsBody
+  simple-is = ap (tallied length) (packed-body (assertRecord ipv4) o)
+
+  joined-is : tallied recordsCount (continue (packedStart o 4) (λ u next. toEnd (length o) (aggregatedRecord ipv4) o next)) ≡ tallied length (assertsBody ipv4 Aggregated o 4)
+  unfolding assertsBody _>>_ _>>=_ give
+  joined-is = ap (tallied recordsCount) (packed-body (aggregatedRecord ipv4) o) ∙ joined-last (zeroReserved o 4) (λ n. records (aggregatedRecord ipv4) o n)
+
+  pub simple-bad : {z : Checked} {x : Refusal} {y : Read ℕ} → z ≡ Bad x → checked z ≡ skipped (packedStart o 4) → y ≡ tallied (λ u. 0) (checked z)
+      → y ≡ tallied length (assertsBody ipv4 Simple o 4)
+  simple-bad p q t = tallies-bad length (packedStart o 4) _ p q t ∙ simple-is
+
+  pub joined-bad : {z : Checked} {x : Refusal} {y : Read ℕ} → z ≡ Bad x → checked z ≡ skipped (packedStart o 4) → y ≡ tallied (λ u. 0) (checked z)
+      → y ≡ tallied length (assertsBody ipv4 Aggregated o 4)
+  joined-bad p q t = tallies-bad recordsCount (packedStart o 4) _ p q t ∙ joined-is
+
+  pub simple-on : {z : Checked} {n : ℕ} {y : Read ℕ} → z ≡ Next n → checked z ≡ skipped (packedStart o 4)
+      → y ≡ tallied sum (toEnd (length o) (entryCount false Simple) o n) → y ≡ tallied length (assertsBody ipv4 Simple o 4)
+  simple-on {n = n} p q t =
+      tallies-on length (packedStart o 4) _ p q (λ u g. t ∙ count-records Simple (assertRecord ipv4) assert-one o (length o) n) ∙ simple-is
+
+  pub joined-on : {z : Checked} {n : ℕ} {y : Read ℕ} → z ≡ Next n → checked z ≡ skipped (packedStart o 4)
+      → y ≡ tallied sum (toEnd (length o) (entryCount true Aggregated) o n) → y ≡ tallied length (assertsBody ipv4 Aggregated o 4)
+  joined-on {n = n} p q t = tallies-on recordsCount (packedStart o 4) _ p q (λ u g. t ∙ count-joined Aggregated o (length o) n) ∙ joined-is
+
+  -- a record begins within the message
+  pub start-room : {z : Checked} {n : ℕ} → z ≡ Next n → checked z ≡ skipped (packedStart o 4) → n < length o
+  unfolding packedStart someRecord _>>_
+  start-room {n = n} p q =
+      checks-next (packedStart o 4) p q (λ u g. continue-back (zeroReserved o 4) _ g (λ v k first rest. go k (leb (length o) k) refl rest))
+    where
+      go : (k : ℕ) (b : Bool) → leb (length o) k ≡ b → {u : Unit {0}} → cond b (bad 5 k) (got (tt {0}) k) ≡ got u n → n < length o
+      go k true t e = absurd (no-got e)
+      go k false t e = let same : k ≡ n = cc in omega (arith, leb-false (length o) k t)
+
+-- ---- pairs
+
+pair-one : (z : Bool) (o : List ℕ) (at : ℕ) → tallied (λ e. 1) (continue (pairRecord ipv4 z o at) (λ a n. got (aPair a) n)) ≡ tallied (λ a. 1) (pairRecord ipv4 z o at)
+pair-one z o at = one-each aPair (pairRecord ipv4 z o at)
+
+records-count : {A : Type 0} (kind : Kind) (r : Reader A) → ((o : List ℕ) (at : ℕ) → tallied (λ e. 1) (recordAt ipv4 kind o at) ≡ tallied (λ a. 1) (r o at))
+    → (o : List ℕ) (at : ℕ) → tallied sum (records (entryCount false kind) o at) ≡ tallied length (records r o at)
+unfolding records tallied
+records-count {A} kind r same o at = go (leb (length o) at)
+  where
+    go : (b : Bool) → tallied sum (cond b (bad 5 at) (toEnd (length o) (entryCount false kind) o at)) ≡ tallied length (cond b (bad 5 at) (toEnd (length o) r o at))
+    go true = refl
+    go false = count-records kind r same o (length o) at
+
+pub null-count : (o : List ℕ) → tallied sum (records (entryCount false NullRegister) o 4) ≡ tallied length (pairsBody ipv4 NullRegister o 4)
+unfolding pairsBody recordAt _>>=_ give
+null-count o = records-count NullRegister (pairRecord ipv4 false) (pair-one false) o 4
+
+pub stop-count : (o : List ℕ) → tallied sum (records (entryCount false RegisterStop) o 4) ≡ tallied length (pairsBody ipv4 RegisterStop o 4)
+unfolding pairsBody recordAt _>>=_ give
+stop-count o = records-count RegisterStop (pairRecord ipv4 true) (pair-one true) o 4
+
+pub records-none-left : {A : Type 0} (r : Reader A) (o : List ℕ) (at : ℕ) → length o ≤ at → records r o at ≡ bad 5 at
+unfolding records
+records-none-left r o at h = rw (le-leb (length o) at h)
+
+pub records-left : {A : Type 0} (r : Reader A) (o : List ℕ) (at : ℕ) → at < length o → records r o at ≡ toEnd (length o) r o at
+unfolding records
+records-left r o at h = rw (lt-leb (length o) at h)

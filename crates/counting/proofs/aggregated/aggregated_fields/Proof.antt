@@ -1,0 +1,137 @@
+-- `counting::aggregated::aggregated_fields` meets its contract: R is read from its octet, and the number of entries does not depend on preference and metric.
+-- Assumes nothing.
+use Prim.Native.Nat.{ℕ, _+_, _≤_}
+use native.Mathlib.Omega.{arith}
+use mathlib.Core.Path.{_≡_, refl, _∙_}
+use mathlib.Core.Bool.{Bool, true, false, cond}
+use denote.Ref.{now}
+use lib.Dec.{leb}
+use lib.ListN.{length, getD}
+use borrow.Author.Tests.{le-leb, lt-leb}
+use Rattle.records.specs.Records.{rBit}
+use Rattle.format.specs.Reader.{Read, _>>=_, number}
+use Rattle.format.specs.Family.{ipv4}
+use Rattle.format.specs.Record.{sourceAggregated, rpAggregated, aggregatedFields}
+use Rattle.octets.specs.Octets.{numberAt}
+use Rattle.counting.specs.Counts.{tallied, recordCount}
+use Rattle.fields.proofs.Fields.{octets-room, rBit-is}
+use Rattle.counting.proofs.Tallied.{tallies-bad, tallies-number, checks-number, either-alike}
+use borrow.Author.Needs.{needs}
+use Rattle.counting.proofs.aggregated.aggregated_fields.Statement.{statement}
+use Rattle.counting.proofs.aggregated.aggregated_fields.Tie as tie
+
+octets-check-requires : tie.Need-octets-check-requires
+octets-check-requires c κs = search needs
+
+enum-known-v : tie.Need-enum-known-v
+enum-known-v c = search needs
+
+enum-told : tie.Need-enum-told
+enum-told c = search needs
+
+with-count-requires : tie.Need-with-count-requires
+with-count-requires c κs = search needs
+
+returns : tie.Need-returns
+unfolding aggregatedFields _>>=_
+returns c =
+    let a = c .before .before .before .before .before .args in
+    tallies-bad recordCount (number 4 (now (a .m)) (a .at)) _ (c .before .enum-told .given .1)
+    (checks-number 4 (now (a .m)) (a .at) (c .before .before .before .octets-check .ensures))
+    (c .with-count .ensures)
+
+-- where the function begins
+abbrev start : tie.After-known-told → tie.Start
+start c = c .before .before .before .before .before
+
+-- past R with preference
+afterWord : (c : tie.After-known-told) {y : Read ℕ}
+    → y ≡ tallied recordCount ((number 4 >>= (λ x. cond (rBit (numberAt 4 (now (start c .args .m)) (start c .args .at)))
+    (rpAggregated ipv4 (numberAt 4 (now (start c .args .m)) (start c .args .at)) x)
+    (sourceAggregated ipv4 (numberAt 4 (now (start c .args .m)) (start c .args .at)) x)))
+    (now (start c .args .m)) (c .before .v .given .0 .0))
+    → y ≡ tallied recordCount (aggregatedFields ipv4 (now (start c .args .m)) (start c .args .at))
+unfolding aggregatedFields _>>=_
+afterWord c next =
+    let a = start c .args in
+    tallies-number recordCount 4 (now (a .m)) (a .at) _ (c .before .v .given .1) (c .before .before .before .octets-check .ensures) refl next
+
+octets-check-requires-2 : tie.Need-octets-check-requires-2
+octets-check-requires-2 c κs = search needs
+
+enum-known-x : tie.Need-enum-known-x
+enum-known-x c = search needs
+
+enum-told-2 : tie.Need-enum-told-2
+enum-told-2 c = search needs
+
+with-count-requires-2 : tie.Need-with-count-requires-2
+with-count-requires-2 c κs = search needs
+
+returns-2 : tie.Need-returns-2
+unfolding _>>=_
+returns-2 c =
+    let d = c .before .before .before .before in
+    let a = start d .args in
+    afterWord d
+    (tallies-bad recordCount (number 4 (now (a .m)) (d .before .v .given .0 .0)) _ (c .before .enum-told2 .given .1)
+    (checks-number 4 (now (a .m)) (d .before .v .given .0 .0) (c .before .before .before .octets-check2 .ensures))
+    (c .with-count2 .ensures))
+
+-- the word is there
+found : (c : tie.After-known-told) → start c .args .at + 4 ≤ length (now (start c .args .m))
+found c =
+    let a = start c .args in
+    octets-room 4 (now (a .m)) (a .at) (c .before .v .given .1) (c .before .before .before .octets-check .ensures) .0
+
+-- past the metric, by R
+byR : (c : tie.After-shared-slice-known2) {y : Read ℕ} (r : Bool) → leb 128 (getD (now (start (c .before .before .before .before .before) .args .m)) (start (c .before .before .before .before .before) .args .at) 0) ≡ r
+    → y ≡ tallied recordCount (cond r (rpAggregated ipv4 0 0) (sourceAggregated ipv4 0 0) (now (start (c .before .before .before .before .before) .args .m)) (c .before .before .x .given .0 .0))
+    → y ≡ tallied recordCount (aggregatedFields ipv4 (now (start (c .before .before .before .before .before) .args .m)) (start (c .before .before .before .before .before) .args .at))
+unfolding _>>=_
+byR c r test next =
+    let d = c .before .before .before .before .before in
+    let a = start d .args in
+    let v = numberAt 4 (now (a .m)) (a .at) in
+    let x = numberAt 4 (now (a .m)) (d .before .v .given .0 .0) in
+    afterWord d
+    (tallies-number recordCount 4 (now (a .m)) (d .before .v .given .0 .0) _ (c .before .before .x .given .1) (c .before .before .before .before .octets-check2 .ensures) refl
+    (next ∙ either-alike r v x (now (a .m)) (c .before .before .x .given .0 .0)
+    ∙ rw (rBit-is (now (a .m)) (a .at) (λ i. c .shared-slice-known2 .given i .fits) (found d), test)))
+
+shared-slice-read-if1 : tie.Need-shared-slice-read-if1
+shared-slice-read-if1 c =
+    let room = found (c .before .before .before .before .before) in
+    omega arith
+
+source-aggregated-requires : tie.Need-source-aggregated-requires
+source-aggregated-requires c κs = search needs
+
+returns-3 : tie.Need-returns-3
+returns-3 c = byR (c .before .before) false (lt-leb _ _ (c .before .if1 .taken)) (c .source-aggregated .ensures)
+
+rp-aggregated-requires : tie.Need-rp-aggregated-requires
+rp-aggregated-requires c κs = search needs
+
+returns-4 : tie.Need-returns-4
+returns-4 c = byR (c .before .before) true (le-leb _ _ (c .before .if1 .left)) (c .rp-aggregated .ensures)
+
+pub aggregated-fields-spec : {M : Type 1} → statement M
+aggregated-fields-spec =
+    tie.close
+    (tie.spec
+    octets-check-requires
+    enum-known-v
+    enum-told
+    with-count-requires
+    returns
+    octets-check-requires-2
+    enum-known-x
+    enum-told-2
+    with-count-requires-2
+    returns-2
+    shared-slice-read-if1
+    source-aggregated-requires
+    returns-3
+    rp-aggregated-requires
+    returns-4)

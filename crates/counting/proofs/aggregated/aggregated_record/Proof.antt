@@ -1,0 +1,51 @@
+-- `counting::aggregated::aggregated_record` meets its contract: a count stands as it is, and a refusal is handed up with the record's place.
+-- Assumes nothing.
+use denote.Ref.{now}
+use Rattle.format.specs.Reader.{inRecord}
+use Rattle.format.specs.Family.{ipv4}
+use Rattle.format.specs.Record.{aggregatedFields, aggregatedRecord}
+use Rattle.counting.specs.Counts.{recordCount}
+use Rattle.counting.proofs.Tallied.{handed-all, handed-bad}
+use borrow.Author.Needs.{needs}
+use Rattle.counting.proofs.aggregated.aggregated_record.Statement.{statement}
+use Rattle.counting.proofs.aggregated.aggregated_record.Tie as tie
+
+aggregated-fields-requires : tie.Need-aggregated-fields-requires
+aggregated-fields-requires c κs = search needs
+
+enum-known-c : tie.Need-enum-known-c
+enum-known-c c = search needs
+
+enum-told : tie.Need-enum-told
+enum-told c = search needs
+
+returns : tie.Need-returns
+unfolding aggregatedRecord inRecord
+returns c =
+    let a = c .before .before .before .before .args in
+    handed-all recordCount (a .at) (aggregatedFields ipv4 (now (a .m)) (a .at)) (c .enum-told .given .1) (c .before .before .aggregated-fields .ensures)
+
+in-record-requires : tie.Need-in-record-requires
+in-record-requires c κs = search needs
+
+with-count-requires : tie.Need-with-count-requires
+with-count-requires c κs = search needs
+
+returns-2 : tie.Need-returns-2
+unfolding aggregatedRecord inRecord
+returns-2 c =
+    let d = c .before .before .before in
+    let a = d .before .before .before .before .args in
+    handed-bad recordCount (a .at) (aggregatedFields ipv4 (now (a .m)) (a .at)) (d .c .given .1) (d .before .before .aggregated-fields .ensures) (c .before .in-record .ensures) (c .with-count .ensures)
+
+pub aggregated-record-spec : {M : Type 1} → statement M
+aggregated-record-spec =
+    tie.close
+    (tie.spec
+    aggregated-fields-requires
+    enum-known-c
+    enum-told
+    returns
+    in-record-requires
+    with-count-requires
+    returns-2)

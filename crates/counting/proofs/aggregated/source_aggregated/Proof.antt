@@ -1,0 +1,157 @@
+-- `counting::aggregated::source_aggregated` meets its contract: each check passes the reader on, and the last one, of the groups, is counted.
+-- Assumes nothing.
+use Prim.Native.Nat.{ℕ}
+use mathlib.Core.Path.{_≡_, ap, _∙_}
+use mathlib.Core.Bool.{false}
+use denote.Ref.{now}
+use Rattle.records.specs.Records.{ofSource}
+use Rattle.format.specs.Reader.{Read, _>>=_, _>>_, give, octets, times}
+use Rattle.format.specs.Family.{ipv4}
+use Rattle.format.specs.Address.{groupField, sourceField}
+use Rattle.format.specs.Record.{positive, sourceAggregated}
+use Rattle.counting.specs.Counts.{tallied, recordCount, addressField}
+use Rattle.counting.proofs.Tallied.{tallies-bad, tallies-on, tallies-positive, tallied-last, times-length, record-source}
+use borrow.Author.Needs.{needs}
+use Rattle.counting.proofs.aggregated.source_aggregated.Statement.{statement}
+use Rattle.counting.proofs.aggregated.source_aggregated.Tie as tie
+
+source-check-requires : tie.Need-source-check-requires
+source-check-requires c κs = search needs
+
+enum-known-s : tie.Need-enum-known-s
+enum-known-s c = search needs
+
+enum-told : tie.Need-enum-told
+enum-told c = search needs
+
+with-count-requires : tie.Need-with-count-requires
+with-count-requires c κs = search needs
+
+returns : tie.Need-returns
+unfolding sourceAggregated _>>=_
+returns c =
+    let a = c .before .before .before .before .before .args in
+    tallies-bad recordCount (sourceField ipv4 false (now (a .m)) (a .at)) _ (c .before .enum-told .given .1) (c .before .before .before .source-check .ensures) (c .with-count .ensures)
+
+-- where the function begins
+abbrev start : tie.After-known-told → tie.Start
+start c = c .before .before .before .before .before
+
+-- past the source
+afterSource : (c : tie.After-known-told) {y : Read ℕ}
+    → ((s : ℕ)
+    → y ≡ tallied recordCount ((positive >>= (λ n. octets 2 >> (times n (groupField ipv4) >>= (λ gs. give (ofSource 0 0 s gs)))))
+    (now (start c .args .m)) (c .before .s .given .0 .0)))
+    → y ≡ tallied recordCount (sourceAggregated ipv4 0 0 (now (start c .args .m)) (start c .args .at))
+unfolding sourceAggregated _>>=_
+afterSource c next =
+    let a = start c .args in
+    tallies-on recordCount (sourceField ipv4 false (now (a .m)) (a .at)) _ (c .before .s .given .1) (c .before .before .before .source-check .ensures) (λ s e. next s)
+
+count-check-requires : tie.Need-count-check-requires
+count-check-requires c κs = search needs
+
+enum-known-c : tie.Need-enum-known-c
+enum-known-c c = search needs
+
+enum-told-2 : tie.Need-enum-told-2
+enum-told-2 c = search needs
+
+with-count-requires-2 : tie.Need-with-count-requires-2
+with-count-requires-2 c κs = search needs
+
+returns-2 : tie.Need-returns-2
+unfolding _>>=_
+returns-2 c =
+    let d = c .before .before .before .before in
+    let a = start d .args in
+    afterSource d (λ s.
+    tallies-bad recordCount (positive (now (a .m)) (d .before .s .given .0 .0)) _ (c .before .enum-told2 .given .1)
+    (c .before .before .before .count-check .ensures)
+    (c .with-count2 .ensures))
+
+number16-requires : tie.Need-number16-requires
+number16-requires c κs = search needs
+
+-- past the number of groups
+afterCount : (c : tie.After-number16) {y : Read ℕ}
+    → ((s : ℕ)
+    → y ≡ tallied recordCount ((octets 2 >> (times (c .number16 .result) (groupField ipv4) >>= (λ gs. give (ofSource 0 0 s gs))))
+    (now (start (c .before .before .before .before .before) .args .m)) (c .before .before .c .given .0 .0)))
+    → y ≡ tallied recordCount (sourceAggregated ipv4 0 0 (now (start (c .before .before .before .before .before) .args .m))
+    (start (c .before .before .before .before .before) .args .at))
+unfolding _>>=_
+afterCount c next =
+    let d = c .before .before .before .before .before in
+    let a = start d .args in
+    afterSource d (λ s.
+    tallies-positive recordCount (now (a .m)) (d .before .s .given .0 .0) _ (c .before .before .c .given .1)
+    (c .before .before .before .before .count-check .ensures)
+    (c .number16 .ensures)
+    (next s))
+
+octets-check-requires : tie.Need-octets-check-requires
+octets-check-requires c κs = search needs
+
+enum-known-r : tie.Need-enum-known-r
+enum-known-r c = search needs
+
+enum-told-3 : tie.Need-enum-told-3
+enum-told-3 c = search needs
+
+with-count-requires-3 : tie.Need-with-count-requires-3
+with-count-requires-3 c κs = search needs
+
+returns-3 : tie.Need-returns-3
+unfolding _>>_
+returns-3 c =
+    let d = c .before .before .before .before in
+    let a = start (d .before .before .before .before .before) .args in
+    afterCount d (λ s.
+    tallies-bad recordCount (octets 2 (now (a .m)) (d .before .before .c .given .0 .0)) _ (c .before .enum-told3 .given .1)
+    (c .before .before .before .octets-check .ensures)
+    (c .with-count3 .ensures))
+
+addresses-check-requires : tie.Need-addresses-check-requires
+addresses-check-requires c κs = search needs
+
+with-count-requires-4 : tie.Need-with-count-requires-4
+with-count-requires-4 c κs = search needs
+
+returns-4 : tie.Need-returns-4
+unfolding _>>_ _>>=_ give addressField
+returns-4 c =
+    let r = c .before .before in
+    let d = r .before .before .before .before in
+    let a = start (d .before .before .before .before .before) .args in
+    let n = d .number16 .result in
+    afterCount d (λ s.
+    tallies-on recordCount (octets 2 (now (a .m)) (d .before .before .c .given .0 .0)) _ (r .before .r .given .1) (r .before .before .before .octets-check .ensures) (λ x h.
+    c .with-count4 .ensures
+    ∙ ap (tallied (λ u. n)) (c .before .addresses-check .ensures)
+    ∙ tallied-last recordCount (ofSource 0 0 s) (times n (groupField ipv4) (now (a .m)) (r .before .r .given .0 .0)) n
+    (λ gs k got. record-source 0 0 s gs ∙ times-length n (groupField ipv4) (now (a .m)) (r .before .r .given .0 .0) got)))
+
+pub source-aggregated-spec : {M : Type 1} → statement M
+source-aggregated-spec =
+    tie.close
+    (tie.spec
+    source-check-requires
+    enum-known-s
+    enum-told
+    with-count-requires
+    returns
+    count-check-requires
+    enum-known-c
+    enum-told-2
+    with-count-requires-2
+    returns-2
+    number16-requires
+    octets-check-requires
+    enum-known-r
+    enum-told-3
+    with-count-requires-3
+    returns-3
+    addresses-check-requires
+    with-count-requires-4
+    returns-4)

@@ -1,0 +1,41 @@
+-- `counting::entries::count_joined` meets its contract, by the law for each of its ways.
+-- Assumes nothing.
+use denote.Ref.{now}
+use borrow.Author.Needs.{needs}
+use native.Mathlib.Nat.{le-of-lt}
+use Rattle.counting.proofs.Bodies.{joined-bad, joined-on, start-room}
+use Rattle.counting.proofs.entries.count_joined.Statement.{statement}
+use Rattle.counting.proofs.entries.count_joined.Tie as tie
+
+packed-check-requires : tie.Need-packed-check-requires
+packed-check-requires c κs = search needs
+
+enum-known-z : tie.Need-enum-known-z
+enum-known-z c = search needs
+
+enum-told : tie.Need-enum-told
+enum-told c = search needs
+
+with-count-requires : tie.Need-with-count-requires
+with-count-requires c κs = search needs
+
+returns : tie.Need-returns
+returns c = joined-bad (now (c .before .before .before .before .before .args .m)) (c .before .enum-told .given .1) (c .before .before .before .packed-check .ensures) (c .with-count .ensures)
+
+count-to-end-requires : tie.Need-count-to-end-requires
+count-to-end-requires c κs = le-of-lt (start-room (now (c .before .before .before .before .before .args .m)) (c .before .z .given .1) (c .before .before .before .packed-check .ensures))
+
+returns-2 : tie.Need-returns-2
+returns-2 c = joined-on (now (c .before .before .before .before .before .before .args .m)) (c .before .before .z .given .1) (c .before .before .before .before .packed-check .ensures) (c .count-to-end .ensures)
+
+pub count-joined-spec : {M : Type 1} → statement M
+count-joined-spec =
+    tie.close
+    (tie.spec
+    packed-check-requires
+    enum-known-z
+    enum-told
+    with-count-requires
+    returns
+    count-to-end-requires
+    returns-2)

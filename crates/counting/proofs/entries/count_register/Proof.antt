@@ -1,0 +1,38 @@
+-- `counting::entries::count_register` meets its contract, by the law for each of its ways.
+-- Assumes nothing.
+use native.Mathlib.Omega.{arith}
+use denote.Ref.{now}
+use borrow.Author.Needs.{needs}
+use mathlib.Core.Path.{sym, ap, _∙_}
+use mathlib.Core.Bool.{false}
+use Rattle.fields.specs.Answers.{checked}
+use Rattle.counting.specs.Counts.{tallied, entryCount, sum}
+use Rattle.counting.proofs.Bodies.{records-none-left, records-left}
+use Rattle.counting.proofs.entries.count_register.Statement.{statement}
+use Rattle.counting.proofs.entries.count_register.Tie as tie
+
+bad-requires : tie.Need-bad-requires
+bad-requires c κs = search needs
+
+with-count-requires : tie.Need-with-count-requires
+with-count-requires c κs = search needs
+
+returns : tie.Need-returns
+unfolding checked tallied
+returns c =
+    let a = c .before .before .before .before .args in
+    c .with-count .ensures
+    ∙ ap (λ x. tallied (λ u. 0) (checked x)) (c .before .bad .ensures)
+    ∙ sym (ap (tallied sum) (records-none-left (entryCount false (a .kind)) (now (a .m)) 4 (omega arith)))
+
+count-to-end-requires : tie.Need-count-to-end-requires
+count-to-end-requires c κs = search needs
+
+returns-2 : tie.Need-returns-2
+returns-2 c =
+    let a = c .before .before .before .args in
+    c .count-to-end .ensures ∙ sym (ap (tallied sum) (records-left (entryCount false (a .kind)) (now (a .m)) 4 (omega arith)))
+
+pub count-register-spec : {M : Type 1} → statement M
+count-register-spec =
+    tie.close (tie.spec bad-requires with-count-requires returns count-to-end-requires returns-2)

@@ -1,0 +1,184 @@
+// Aggregated records: checked in octet order, and the entries that they stand for counted.
+use fields::Checked;
+use fields::bad;
+use fields::group_check;
+use fields::in_record;
+use fields::octets_check;
+use fields::source_check;
+use format::Refusal;
+use octets::number16;
+ghost use mathlib.Core.Path.{_≡_};
+ghost use Rattle.format.specs.Reader.{times};
+ghost use Rattle.format.specs.Family.{ipv4};
+ghost use Rattle.format.specs.Record.{positive, groupRecord, sourceAggregated, rpAggregated, aggregatedFields, aggregatedRecord};
+ghost use Rattle.fields.specs.Answers.{checked, skipped};
+ghost use Rattle.counting.specs.Counts.{addressField, counted, tallied, groupCount, groupsCount, recordCount};
+
+// What counting finds.
+pub enum Counted {
+    // The number of entries, and the place past what they were read from.
+    All { entries: usize, next: usize },
+    Bad(Refusal),
+}
+
+// A group, or a source of a group record.
+fn address_check(m: &[u8], at: usize, is_group: bool) -> Checked
+    ensures { λ r. ⌜ checked r ≡ skipped (addressField «is_group» (now (m .entry)) at) ⌝ }
+{
+    if is_group {
+        return group_check(m, at);
+    }
+    source_check(m, at, true)
+}
+
+// n of them, one after another.
+fn addresses_check(m: &[u8], from: usize, n: usize, is_group: bool) -> Checked
+    ensures { λ r. ⌜ checked r ≡ skipped (times n (addressField «is_group») (now (m .entry)) from) ⌝ }
+{
+    let mut at = from;
+    let mut i = 0;
+    while i < n {
+        let c = address_check(m, at, is_group);
+        let Checked::Next(next) = c else {
+            return c;
+        };
+        at = next;
+        i += 1;
+    }
+    Checked::Next(at)
+}
+
+// A check, as a count of so many entries if it passed.
+pub(crate) fn with_count(entries: usize, c: Checked) -> Counted
+    ensures { λ r. ⌜ counted r ≡ tallied (λ u. entries) (checked c) ⌝ }
+{
+    match c {
+        Checked::Next(next) => Counted::All { entries, next },
+        Checked::Bad(r) => Counted::Bad(r),
+    }
+}
+
+// One entry for each source; p=0 is one entry.
+fn group_record(m: &[u8], at: usize) -> Counted
+    ensures { λ r. ⌜ counted r ≡ tallied groupCount (groupRecord ipv4 (now (m .entry)) at) ⌝ }
+{
+    let g = group_check(m, at);
+    let Checked::Next(count_at) = g else {
+        return with_count(0, g);
+    };
+    let f = octets_check(m, count_at, 2);
+    let Checked::Next(reserved_at) = f else {
+        return with_count(0, f);
+    };
+    let p = number16(m, count_at);
+    let r = octets_check(m, reserved_at, 2);
+    let Checked::Next(sources_at) = r else {
+        return with_count(0, r);
+    };
+    let s = addresses_check(m, sources_at, p, false);
+    if p == 0 {
+        return with_count(1, s);
+    }
+    with_count(p, s)
+}
+
+// n group records, one after another.
+fn group_records(m: &[u8], from: usize, n: usize) -> Counted
+    ensures { λ r. ⌜ counted r ≡ tallied groupsCount (times n (groupRecord ipv4) (now (m .entry)) from) ⌝ }
+{
+    let mut at = from;
+    let mut total = 0;
+    let mut i = 0;
+    while i < n {
+        let c = group_record(m, at);
+        let Counted::All { entries, next } = c else {
+            return c;
+        };
+        at = next;
+        total += entries;
+        i += 1;
+    }
+    Counted::All {
+        entries: total,
+        next: at,
+    }
+}
+
+// A number of groups or of group records: two octets, and not 0.
+fn count_check(m: &[u8], at: usize) -> Checked
+    ensures { λ r. ⌜ checked r ≡ skipped (positive (now (m .entry)) at) ⌝ }
+{
+    let f = octets_check(m, at, 2);
+    let Checked::Next(next) = f else {
+        return f;
+    };
+    if number16(m, at) == 0 {
+        return bad(6, at);
+    }
+    Checked::Next(next)
+}
+
+// What follows R with preference and metric in a source aggregated record.
+fn source_aggregated(m: &[u8], at: usize) -> Counted
+    ensures { λ r. ⌜ counted r ≡ tallied recordCount (sourceAggregated ipv4 0 0 (now (m .entry)) at) ⌝ }
+{
+    let s = source_check(m, at, false);
+    let Checked::Next(count_at) = s else {
+        return with_count(0, s);
+    };
+    let c = count_check(m, count_at);
+    let Checked::Next(reserved_at) = c else {
+        return with_count(0, c);
+    };
+    let n = number16(m, count_at);
+    let r = octets_check(m, reserved_at, 2);
+    let Checked::Next(groups_at) = r else {
+        return with_count(0, r);
+    };
+    with_count(n, addresses_check(m, groups_at, n, true))
+}
+
+// And in an RP aggregated record.
+fn rp_aggregated(m: &[u8], at: usize) -> Counted
+    ensures { λ r. ⌜ counted r ≡ tallied recordCount (rpAggregated ipv4 0 0 (now (m .entry)) at) ⌝ }
+{
+    let c = count_check(m, at);
+    let Checked::Next(reserved_at) = c else {
+        return with_count(0, c);
+    };
+    let n = number16(m, at);
+    let r = octets_check(m, reserved_at, 2);
+    let Checked::Next(records_at) = r else {
+        return with_count(0, r);
+    };
+    group_records(m, records_at, n)
+}
+
+// R tells the two forms apart; the number of entries does not depend on preference and metric.
+fn aggregated_fields(m: &[u8], at: usize) -> Counted
+    ensures { λ r. ⌜ counted r ≡ tallied recordCount (aggregatedFields ipv4 (now (m .entry)) at) ⌝ }
+{
+    let v = octets_check(m, at, 4);
+    let Checked::Next(metric_at) = v else {
+        return with_count(0, v);
+    };
+    let x = octets_check(m, metric_at, 4);
+    let Checked::Next(next) = x else {
+        return with_count(0, x);
+    };
+    if m[at] < 128 {
+        return source_aggregated(m, next);
+    }
+    rp_aggregated(m, next)
+}
+
+// An aggregated record: a fault is handed up with the record's first octet.
+pub(crate) fn aggregated_record(m: &[u8], at: usize) -> Counted
+    ensures { λ r. ⌜ counted r ≡ tallied recordCount (aggregatedRecord ipv4 (now (m .entry)) at) ⌝ }
+{
+    let c = aggregated_fields(m, at);
+    let Counted::Bad(r) = c else {
+        return c;
+    };
+    with_count(0, in_record(at, Checked::Bad(r)))
+}

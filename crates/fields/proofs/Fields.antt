@@ -1,0 +1,239 @@
+-- Fields of IPv4 by their octets: what each reader comes to where the octets are there, and what a value that was got is.
+--     octets-there, octets-short, octets-back     k octets
+--     octets-room                                 what a check of them that passed says
+--     number-none                                 the number past the end is 0
+--     number-skipped, number-back                 the number in k octets: checked as octets, and read
+--     formed, formed-short .. formed-back         a field of a form that ends in an address, as groups and sources are
+--     Comes, form-no, form-yes                    a field by a test of its octets, and what a check that made the test answers
+--     groupTest, group-short .. group-back        a group: the address is tested by its first octet
+--     sourceTest, source-short .. source-back     a source
+--     rBit-is                                     R is the highest bit of the word's first octet
+-- Assumes nothing.
+use Prim.Native.Nat.{ℕ, _+_, _*_, _/_, _≤_, _<_}
+use native.Mathlib.Nat.{add-zero}
+use native.Mathlib.Omega.{arith}
+use mathlib.Core.Path.{_≡_, refl, ap, _∙_}
+use mathlib.Core.Bool.{Bool, true, false, not, _&&_, _||_, cond}
+use mathlib.Core.List.{List}
+use borrow.Author.Tests.{le-leb, lt-leb, lt-ltb, le-ltb, leb-true, leb-false, eqb-true, eqb-false}
+use lib.Dec.{leb, ltb, eqb, lit<}
+use lib.ListN.{length, getD, take, drop, length-drop}
+use lib.Seq.{take-add, drop-drop, getD-drop, getD-take, length-take-le, drop-at}
+use Rattle.octets.specs.Octets.{numberAt, Octets, value}
+use Rattle.octets.proofs.Laws.{number-is, number-short}
+use Rattle.records.specs.Records.{rBit}
+use Rattle.format.specs.Reader.{Read, Reader, got, bad, continue, _>>=_, give, octets, number, must}
+use Rattle.format.specs.Family.{ipv4, mayBeSource}
+use Rattle.format.specs.Address.{groupForm, groupField, sourceForm, sourceField}
+use Rattle.format.specs.declared.Refusal.{Refusal}
+use Rattle.fields.specs.Answers.{checked, skipped}
+use Rattle.fields.specs.declared.field.Checked.{Checked}
+use Rattle.fields.specs.declared.field.Checked.the-variants.{Next, Bad}
+use Rattle.fields.proofs.Skipped.{no-got, continue-back, checks-bad, checks-next, skipped-last}
+
+-- ---- octets and numbers
+
+pub octets-there : (k : ℕ) (o : List ℕ) (at : ℕ) → at + k ≤ length o → octets k o at ≡ got (take k (drop at o)) (at + k)
+unfolding octets
+octets-there k o at h = rw (le-leb _ _ h)
+
+pub octets-short : (k : ℕ) (o : List ℕ) (at : ℕ) → length o < at + k → octets k o at ≡ bad 6 at
+unfolding octets
+octets-short k o at h = rw (lt-leb _ _ h)
+
+pub octets-back : (k : ℕ) (o : List ℕ) (at : ℕ) {x : List ℕ} {n : ℕ} → octets k o at ≡ got x n
+    → (x ≡ take k (drop at o)) × (n ≡ at + k) × (n ≤ length o)
+unfolding octets
+octets-back k o at {x} {n} e = go (leb (at + k) (length o)) refl e
+  where
+    go : (b : Bool) → leb (at + k) (length o) ≡ b → cond b (got (take k (drop at o)) (at + k)) (bad 6 at) ≡ got x n
+        → (x ≡ take k (drop at o)) × (n ≡ at + k) × (n ≤ length o)
+    go true t p =
+        let there : at + k ≤ length o = leb-true _ _ t in
+        let same : n ≡ at + k = cc in
+        (cc, same, omega arith)
+    go false t p = absurd (no-got p)
+
+-- what a check of k octets that passed says
+pub octets-room : (k : ℕ) (o : List ℕ) (at : ℕ) {c : Checked} {n : ℕ} → c ≡ Next n → checked c ≡ skipped (octets k o at) → (at + k ≤ length o) × (n ≡ at + k)
+octets-room k o at p q = checks-next (octets k o at) p q (λ x e. let b = octets-back k o at e in (omega arith, b .1))
+
+pub number-none : (k : ℕ) (o : List ℕ) (at : ℕ) → length o ≤ at → numberAt k o at ≡ 0
+unfolding numberAt value
+number-none k o at h = number-short k 0 o at (omega arith) (omega arith)
+
+pub number-skipped : (k : ℕ) (o : List ℕ) (at : ℕ) → skipped (number k o at) ≡ skipped (octets k o at)
+unfolding number _>>=_ give
+number-skipped k o at = skipped-last (octets k o at) value
+
+pub number-back : (k : ℕ) (o : List ℕ) (at : ℕ) {v n : ℕ} → number k o at ≡ got v n
+    → (v ≡ numberAt k o at) × (n ≡ at + k) × (n ≤ length o)
+unfolding number numberAt _>>=_ give
+number-back k o at {n = n} e =
+    continue-back (octets k o at) _ e (λ x m p q.
+    let b = octets-back k o at p in
+    let same : n ≡ at + k = cc (b .1) in
+    (cc (ap value (b .0)), same, omega arith))
+
+-- ---- fields of a form
+
+-- of j + 4 octets that pass a test, the number in the last four
+abbrev pub formed : ℕ → (List ℕ → Bool) → Reader ℕ
+formed j test = must 7 test (octets (j + 4)) >>= (λ x. give (value (drop j x)))
+
+-- the octets of a part, by their places in the whole
+part-at : (k : ℕ) (o : List ℕ) (at i : ℕ) → i < k → getD (take k (drop at o)) i 0 ≡ getD o (at + i) 0
+part-at k o at i h = rw (getD-take, getD-drop)
+
+part-number : (j : ℕ) (o : List ℕ) (at : ℕ) → at + (j + 4) ≤ length o → value (drop j (take (j + 4) (drop at o))) ≡ numberAt 4 o (at + j)
+unfolding numberAt
+part-number j o at h =
+    let small : j ≤ length (drop at o) = simp length-drop (omega arith) in
+    rw (take-add, drop-at (take j (drop at o)) (take 4 (drop j (drop at o))) j (length-take-le j (drop at o) small), drop-drop)
+
+-- where its octets are not there, the field is not
+pub formed-short : (j : ℕ) (test : List ℕ → Bool) (o : List ℕ) (at : ℕ) {c : Checked} {x : Refusal} → c ≡ Bad x → checked c ≡ skipped (octets (j + 4) o at)
+    → checked c ≡ skipped (formed j test o at)
+unfolding _>>=_ must
+formed-short j test o at p q = checks-bad _ _ p (checks-bad (octets (j + 4) o at) _ p q)
+
+-- what a field comes to, by a test of its octets
+pub record Comes {A : Type 0} (r : Read A) (test : Bool) (a : A) (next at : ℕ) : Type 0 where
+  pub is : r ≡ cond test (got a next) (bad 7 at)
+
+-- a check that made the test, and refused the field, or passed it
+pub form-no : {A : Type 0} {r : Read A} {test : Bool} {a : A} {next at : ℕ} → Comes r test a next at → {c : Checked} → c ≡ Bad (record { number = 7; place = at })
+    → test ≡ false → checked c ≡ skipped r
+unfolding checked skipped
+form-no h e t = rw (e, h .is, t)
+
+pub form-yes : {A : Type 0} {r : Read A} {test : Bool} {a : A} {next at : ℕ} → Comes r test a next at → {n : ℕ} → n ≡ next
+    → test ≡ true → checked (Next n) ≡ skipped r
+unfolding checked skipped
+form-yes h e t = rw (e, h .is, t)
+
+pub formed-there : (j : ℕ) (test : List ℕ → Bool) (o : List ℕ) (at : ℕ) → at + (j + 4) ≤ length o
+    → formed j test o at ≡ cond (test (take (j + 4) (drop at o))) (got (numberAt 4 o (at + j)) (at + (j + 4))) (bad 7 at)
+unfolding _>>=_ must give continue
+formed-there j test o at h = rw (octets-there (j + 4) o at h, ← part-number j o at h) (go (test (take (j + 4) (drop at o))))
+  where
+    go : (b : Bool) → continue (cond b (got (take (j + 4) (drop at o)) (at + (j + 4))) (bad 7 at)) (λ x n. got (value (drop j x)) n)
+        ≡ cond b (got (value (drop j (take (j + 4) (drop at o)))) (at + (j + 4))) (bad 7 at)
+    go true = refl
+    go false = refl
+
+pub formed-back : (j : ℕ) (test : List ℕ → Bool) (o : List ℕ) (at : ℕ) {v n : ℕ} → formed j test o at ≡ got v n
+    → (v ≡ numberAt 4 o (at + j)) × (n ≡ at + (j + 4)) × (n ≤ length o)
+unfolding _>>=_ must give
+formed-back j test o at {v} {n} e =
+    continue-back (continue (octets (j + 4) o at) (λ a next. cond (test a) (got a next) (bad 7 at))) _ e (λ x m p q.
+    continue-back (octets (j + 4) o at) _ p (λ y l r s.
+    let b = octets-back (j + 4) o at r in
+    let t : cond (test y) (got y l) (bad 7 at) ≡ got x m = s in
+    let same = passed (test y) y l t in
+    let ends : n ≡ at + (j + 4) = cc (b .1, same .1) in
+    let there : at + (j + 4) ≤ length o = omega arith in
+    (cc (ap (λ z. value (drop j z)) (b .0), ap (λ z. value (drop j z)) (same .0), part-number j o at there), ends, omega arith)))
+  where
+    passed : {x : List ℕ} {m : ℕ} (b : Bool) (y : List ℕ) (l : ℕ) → cond b (got y l) (bad 7 at) ≡ got x m → (y ≡ x) × (l ≡ m)
+    passed true y l p = (cc, cc)
+    passed false y l p = absurd (no-got p)
+
+-- ---- groups
+
+-- an address in 224.0.0.0/4 by its first octet x
+first-octet : (x r : ℕ) → r < 16777216 → (leb 0xe000_0000 (x * 16777216 + r) && ltb (x * 16777216 + r) 0xf000_0000) ≡ eqb (x / 16) 14
+first-octet x r h = go (eqb (x / 16) 14) refl
+  where
+    above : (b : Bool) → leb 0xe000_0000 (x * 16777216 + r) ≡ b → (x / 16 ≡ 14 → ⊥) → (b && ltb (x * 16777216 + r) 0xf000_0000) ≡ false
+    above true t n = le-ltb (x * 16777216 + r) 0xf000_0000 (omega (arith, leb-true 0xe000_0000 (x * 16777216 + r) t))
+    above false t n = refl
+
+    go : (b : Bool) → eqb (x / 16) 14 ≡ b → (leb 0xe000_0000 (x * 16777216 + r) && ltb (x * 16777216 + r) 0xf000_0000) ≡ b
+    go true t =
+        let e : x / 16 ≡ 14 = eqb-true _ _ t in
+        rw (le-leb 0xe000_0000 (x * 16777216 + r) (omega arith), lt-ltb (x * 16777216 + r) 0xf000_0000 (omega arith))
+    go false t = above (leb 0xe000_0000 (x * 16777216 + r)) refl (eqb-false _ _ t)
+
+-- the octets of a group, by their places in the whole
+abbrev pub groupTest : List ℕ → ℕ → Bool
+groupTest o at = eqb (getD o at 0) 1 && eqb (getD o (at + 1) 0) 0 && eqb (getD o (at + 3) 0) 32 && eqb (getD o (at + 4) 0 / 16) 14
+
+-- a number of four octets by the first and the rest
+four : (o : List ℕ) (at : ℕ) → at + 4 ≤ length o
+    → numberAt 4 o at ≡ getD o at 0 * 16777216 + (getD o (at + 1) 0 * 65536 + (getD o (at + 2) 0 * 256 + getD o (at + 3) 0))
+unfolding value
+four o at h = number-is 4 o at h ∙ omega arith
+
+address-is : (o : List ℕ) (at : ℕ) → Octets o → at + 4 ≤ length o → ipv4 .isGroup (numberAt 4 o at) ≡ eqb (getD o at 0 / 16) 14
+address-is o at octet h =
+    rw (four o at h)
+    (first-octet (getD o at 0) (getD o (at + 1) 0 * 65536 + (getD o (at + 2) 0 * 256 + getD o (at + 3) 0)) (omega (arith, octet (at + 1), octet (at + 2), octet (at + 3))))
+
+group-form : (o : List ℕ) (at : ℕ) → Octets o → at + 8 ≤ length o → groupForm ipv4 (take 8 (drop at o)) ≡ groupTest o at
+unfolding groupForm
+group-form o at octet h =
+    rw (part-number 4 o at h, address-is o (at + 4) octet (omega arith), part-at 8 o at 0 (lit< tt), part-at 8 o at 1 (lit< tt), part-at 8 o at 3 (lit< tt), add-zero)
+
+pub group-short : (o : List ℕ) (at : ℕ) {c : Checked} {x : Refusal} → c ≡ Bad x → checked c ≡ skipped (octets 8 o at)
+    → checked c ≡ skipped (groupField ipv4 o at)
+unfolding groupField
+group-short o at p q = formed-short 4 (groupForm ipv4) o at p q
+
+abbrev pub GroupIs : List ℕ → ℕ → Type 0
+GroupIs o at = Comes (groupField ipv4 o at) (groupTest o at) (numberAt 4 o (at + 4)) (at + 8) at
+
+pub group-is : (o : List ℕ) (at : ℕ) → Octets o → at + 8 ≤ length o → GroupIs o at
+unfolding groupField
+group-is o at octet h = record { is = rw (← group-form o at octet h) (formed-there 4 (groupForm ipv4) o at h) }
+
+pub group-back : (o : List ℕ) (at : ℕ) {g n : ℕ} → groupField ipv4 o at ≡ got g n
+    → (g ≡ numberAt 4 o (at + 4)) × (n ≡ at + 8) × (n ≤ length o)
+unfolding groupField
+group-back o at e = formed-back 4 (groupForm ipv4) o at e
+
+-- ---- sources
+
+-- the octets of a source, by their places in the whole; any address is allowed, or any but 0
+abbrev pub sourceTest : Bool → List ℕ → ℕ → Bool
+sourceTest z o at = eqb (getD o at 0) 1 && eqb (getD o (at + 1) 0) 0 && (z || not (eqb (numberAt 4 o (at + 2)) 0))
+
+may-be : (z b : Bool) → (not b || (z && b)) ≡ (z || not b)
+may-be true true = refl
+may-be true false = refl
+may-be false true = refl
+may-be false false = refl
+
+source-form : (z : Bool) (o : List ℕ) (at : ℕ) → at + 6 ≤ length o → sourceForm ipv4 z (take 6 (drop at o)) ≡ sourceTest z o at
+unfolding sourceForm mayBeSource
+source-form z o at h = rw (part-number 2 o at h, may-be, part-at 6 o at 0 (lit< tt), part-at 6 o at 1 (lit< tt), add-zero)
+
+pub source-short : (z : Bool) (o : List ℕ) (at : ℕ) {c : Checked} {x : Refusal} → c ≡ Bad x → checked c ≡ skipped (octets 6 o at)
+    → checked c ≡ skipped (sourceField ipv4 z o at)
+unfolding sourceField
+source-short z o at p q = formed-short 2 (sourceForm ipv4 z) o at p q
+
+abbrev pub SourceIs : Bool → List ℕ → ℕ → Type 0
+SourceIs z o at = Comes (sourceField ipv4 z o at) (sourceTest z o at) (numberAt 4 o (at + 2)) (at + 6) at
+
+pub source-is : (z : Bool) (o : List ℕ) (at : ℕ) → at + 6 ≤ length o → SourceIs z o at
+unfolding sourceField
+source-is z o at h = record { is = rw (← source-form z o at h) (formed-there 2 (sourceForm ipv4 z) o at h) }
+
+pub source-back : (z : Bool) (o : List ℕ) (at : ℕ) {s n : ℕ} → sourceField ipv4 z o at ≡ got s n
+    → (s ≡ numberAt 4 o (at + 2)) × (n ≡ at + 6) × (n ≤ length o)
+unfolding sourceField
+source-back z o at e = formed-back 2 (sourceForm ipv4 z) o at e
+
+-- ---- R
+
+pub rBit-is : (o : List ℕ) (at : ℕ) → Octets o → at + 4 ≤ length o → rBit (numberAt 4 o at) ≡ leb 128 (getD o at 0)
+rBit-is o at octet h = go (leb 128 (getD o at 0)) refl
+  where
+    go : (b : Bool) → leb 128 (getD o at 0) ≡ b → leb 2147483648 (numberAt 4 o at) ≡ b
+    go true t =
+        let l : 128 ≤ getD o at 0 = leb-true 128 (getD o at 0) t in
+        le-leb 2147483648 (numberAt 4 o at) (omega (arith, four o at h))
+    go false t =
+        let l : getD o at 0 < 128 = leb-false 128 (getD o at 0) t in
+        lt-leb 2147483648 (numberAt 4 o at) (omega (arith, four o at h, octet (at + 1), octet (at + 2), octet (at + 3)))

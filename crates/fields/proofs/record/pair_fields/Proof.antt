@@ -1,0 +1,43 @@
+-- `fields::record::pair_fields` meets its contract: each field by its own check.
+-- Assumes nothing.
+use mathlib.Core.Path.{_∙_, sym}
+use borrow.Author.Needs.{needs}
+use denote.Ref.{now}
+use Rattle.records.specs.Records.{pair}
+use Rattle.format.specs.Reader.{_>>=_, give}
+use Rattle.format.specs.Family.{ipv4}
+use Rattle.format.specs.Address.{groupField}
+use Rattle.format.specs.Record.{pairFields}
+use Rattle.fields.proofs.Skipped.{checks-bad, checks-on, skipped-last}
+use Rattle.fields.proofs.record.pair_fields.Statement.{statement}
+use Rattle.fields.proofs.record.pair_fields.Tie as tie
+
+group-check-requires : tie.Need-group-check-requires
+group-check-requires c κs = search needs
+
+enum-known-g : tie.Need-enum-known-g
+enum-known-g c = search needs
+
+enum-told : tie.Need-enum-told
+enum-told c = search needs
+
+returns : tie.Need-returns
+unfolding pairFields _>>=_
+returns c =
+    let a = c .before .before .before .before .args in
+    checks-bad (groupField ipv4 (now (a .m)) (a .at)) _ (c .enum-told .given .1) (c .before .before .group-check .ensures)
+
+source-check-requires : tie.Need-source-check-requires
+source-check-requires c κs = search needs
+
+returns-2 : tie.Need-returns-2
+unfolding pairFields _>>=_ give
+returns-2 c =
+    let a = c .before .before .before .before .before .before .args in
+    checks-on (groupField ipv4 (now (a .m)) (a .at)) _ (c .before .before .g .given .1) (c .before .before .before .before .group-check .ensures)
+    (λ g e. c .source-check .ensures ∙ sym (skipped-last _ (λ s. pair g s)))
+
+pub pair-fields-spec : {M : Type 1} → statement M
+pair-fields-spec =
+    tie.close
+    (tie.spec group-check-requires enum-known-g enum-told returns source-check-requires returns-2)

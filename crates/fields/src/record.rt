@@ -1,0 +1,151 @@
+// Assert records and pairs: checked field by field, in octet order, and read by plain indices.
+use crate::field::Checked;
+use crate::field::bad;
+use crate::field::group_check;
+use crate::field::in_record;
+use crate::field::octets_check;
+use crate::field::source_check;
+use format::AssertFields;
+use format::Kind;
+use format::PairFields;
+use format::Record;
+use format::Refusal;
+use octets::number32;
+ghost use mathlib.Core.Path.{_≡_};
+ghost use Rattle.format.specs.Family.{ipv4};
+ghost use Rattle.format.specs.Record.{assertFields, assertRecord, pairFields, pairRecord, recordAt};
+ghost use Rattle.fields.specs.Answers.{checked, skipped, single, plainAssert, plainPair, plainRecord};
+ghost use Rattle.format.specs.Values.{assertOf, pairOf, recordOf};
+
+fn assert_fields(m: &[u8], at: usize) -> Checked
+    ensures { λ r. ⌜ checked r ≡ skipped (assertFields ipv4 (now (m .entry)) at) ⌝ }
+{
+    let g = group_check(m, at);
+    let Checked::Next(source_at) = g else {
+        return g;
+    };
+    let s = source_check(m, source_at, true);
+    let Checked::Next(word_at) = s else {
+        return s;
+    };
+    let v = octets_check(m, word_at, 4);
+    let Checked::Next(metric_at) = v else {
+        return v;
+    };
+    // R=0 with source 0 is found here.
+    if m[word_at] < 128 {
+        if number32(m, source_at + 2) == 0 {
+            return bad(7, source_at);
+        }
+    }
+    octets_check(m, metric_at, 4)
+}
+
+fn pair_fields(m: &[u8], at: usize, zero_allowed: bool) -> Checked
+    ensures { λ r. ⌜ checked r ≡ skipped (pairFields ipv4 «zero_allowed» (now (m .entry)) at) ⌝ }
+{
+    let g = group_check(m, at);
+    let Checked::Next(source_at) = g else {
+        return g;
+    };
+    source_check(m, source_at, zero_allowed)
+}
+
+// An assert record.
+pub fn assert_check(m: &[u8], at: usize) -> Checked
+    ensures { λ r. ⌜ checked r ≡ skipped (assertRecord ipv4 (now (m .entry)) at) ⌝ }
+{
+    in_record(at, assert_fields(m, at))
+}
+
+// A pair.
+pub(crate) fn pair_check(m: &[u8], at: usize, zero_allowed: bool) -> Checked
+    ensures { λ r. ⌜ checked r ≡ skipped (pairRecord ipv4 «zero_allowed» (now (m .entry)) at) ⌝ }
+{
+    in_record(at, pair_fields(m, at, zero_allowed))
+}
+
+// A record of a kind that has records of one length; 4 for the others.
+pub fn record_check(kind: Kind, m: &[u8], at: usize) -> Checked
+    ensures { λ r. ⌜ checked r ≡ skipped (recordAt ipv4 kind (now (m .entry)) at) ⌝ }
+{
+    match kind {
+        Kind::Hello => bad(4, 0),
+        Kind::Assert => assert_check(m, at),
+        Kind::Simple => assert_check(m, at),
+        Kind::Aggregated => bad(4, 0),
+        Kind::NullRegister => pair_check(m, at, false),
+        Kind::RegisterStop => pair_check(m, at, true),
+    }
+}
+
+// The numbers of an assert record that is there; of one that is cut, those of the octets that are there. Past the end
+// there is none, and `at + 18` could wrap.
+pub fn assert_at(m: &[u8], at: usize) -> AssertFields
+    ensures { λ r. ⌜ assertOf r ≡ plainAssert (now (m .entry)) at ⌝ }
+{
+    if m.len() < at {
+        return AssertFields {
+            group: 0,
+            source: 0,
+            r_preference: 0,
+            metric: 0,
+        };
+    }
+    AssertFields {
+        group: number32(m, at + 4),
+        source: number32(m, at + 10),
+        r_preference: number32(m, at + 14),
+        metric: number32(m, at + 18),
+    }
+}
+
+// The same for a pair.
+pub fn pair_at(m: &[u8], at: usize) -> PairFields
+    ensures { λ r. ⌜ pairOf r ≡ plainPair (now (m .entry)) at ⌝ }
+{
+    if m.len() < at {
+        return PairFields {
+            group: 0,
+            source: 0,
+        };
+    }
+    PairFields {
+        group: number32(m, at + 4),
+        source: number32(m, at + 10),
+    }
+}
+
+// The same by the kind. A hello and an aggregated message have no record of one length, and are refused before.
+fn record_at(kind: Kind, m: &[u8], at: usize) -> Record
+    ensures { λ r. ⌜ recordOf r ≡ plainRecord kind (now (m .entry)) at ⌝ }
+{
+    match kind {
+        Kind::Hello => Record::Assert(assert_at(m, at)),
+        Kind::Assert => Record::Assert(assert_at(m, at)),
+        Kind::Simple => Record::Assert(assert_at(m, at)),
+        Kind::Aggregated => Record::Assert(assert_at(m, at)),
+        Kind::NullRegister => Record::Pair(pair_at(m, at)),
+        Kind::RegisterStop => Record::Pair(pair_at(m, at)),
+    }
+}
+
+// A record read singly.
+pub enum Single {
+    Got { record: Record, next: usize },
+    Refused(Refusal),
+}
+
+// The record of a kind at a place, and the next place. What follows it is no fault here.
+pub fn read_record(kind: Kind, m: &[u8], at: usize) -> Single
+    ensures { λ r. ⌜ single r ≡ recordAt ipv4 kind (now (m .entry)) at ⌝ }
+{
+    let c = record_check(kind, m, at);
+    match c {
+        Checked::Bad(r) => Single::Refused(r),
+        Checked::Next(next) => Single::Got {
+            record: record_at(kind, m, at),
+            next,
+        },
+    }
+}
