@@ -1,0 +1,66 @@
+-- What a call on the counters answers, and what they hold after it (01, "Neighbours and election", its paragraph on counters).
+--     numberOf             the number that names a kind, in 01's order
+--     sum                  a sum that stays at the 64-bit maximum
+--     moreIf               one message more and so many records, if the kind is the one named
+--     moreAt, moreIn       the totals of one kind, of one direction and kind changed, every other one as it was
+--     counting             what a call comes to: its answer, and all the counters
+--     answerOf             01's number and values for each case of an answer
+-- The counters themselves are the record that the code declares. Assumes nothing: these are definitions.
+use Prim.Native.Nat.{ℕ, _+_, _-_, _^_, min}
+use mathlib.Core.Bool.{Bool, cond}
+use lib.Dec.{eqb, ltb}
+use Rattle.format.specs.Outcome.{Outcome, gives, refuses}
+use Rattle.format.specs.declared.Kind.{Kind}
+use Rattle.format.specs.declared.Kind.the-variants.{Hello, Assert, Simple, Aggregated, NullRegister, RegisterStop}
+use Rattle.counters.specs.declared.Totals.{Totals}
+use Rattle.counters.specs.declared.ByKind.{ByKind}
+use Rattle.counters.specs.declared.Counters.{Counters}
+use Rattle.counters.specs.declared.Direction.{Direction}
+use Rattle.counters.specs.declared.Direction.the-variants.{Sent, Received}
+use Rattle.counters.specs.declared.Answer.{Answer}
+use Rattle.counters.specs.declared.Answer.the-variants.{Added, Refused}
+
+unfoldable pub numberOf : Kind → ℕ
+numberOf Hello = 0
+numberOf Assert = 1
+numberOf Simple = 2
+numberOf Aggregated = 3
+numberOf NullRegister = 4
+numberOf RegisterStop = 5
+
+-- "each number stays at the 64-bit maximum"
+unfoldable pub sum : ℕ → ℕ → ℕ
+sum a b = min (a + b) (2 ^ 64 - 1)
+
+-- "adds one message and those records"
+unfoldable pub moreIf : Bool → ℕ → Totals → Totals
+moreIf named n t = cond named (record { messages = sum (t .messages) 1; records = sum (t .records) n }) t
+
+unfoldable pub moreAt : ℕ → ℕ → ByKind → ByKind
+moreAt k n t = record {
+  hello = moreIf (eqb k (numberOf Hello)) n (t .hello);
+  assert = moreIf (eqb k (numberOf Assert)) n (t .assert);
+  simple = moreIf (eqb k (numberOf Simple)) n (t .simple);
+  aggregated = moreIf (eqb k (numberOf Aggregated)) n (t .aggregated);
+  «null_register» = moreIf (eqb k (numberOf NullRegister)) n (t .«null_register»);
+  «register_stop» = moreIf (eqb k (numberOf RegisterStop)) n (t .«register_stop»);
+}
+
+-- "sent and received by kind"
+unfoldable pub moreIn : Counters → Direction → ℕ → ℕ → Counters
+moreIn c Sent k n = record { sent = moreAt k n (c .sent); received = c .received }
+moreIn c Received k n = record { sent = c .sent; received = moreAt k n (c .received) }
+
+pub record Counting : Type 0 where
+  pub answer : Outcome (Unit {0})
+  pub counters : Counters
+
+-- "a call names direction, kind and a number of records"; 4: "kind not one that the call reads or counts"
+unfoldable pub counting : Counters → Direction → ℕ → ℕ → Counting
+counting c d k n = cond (ltb k 6)
+    (record { answer = gives tt; counters = moreIn c d k n })
+    (record { answer = refuses 4 0; counters = c })
+
+unfoldable pub answerOf : Answer → Outcome (Unit {0})
+answerOf Added = gives tt
+answerOf (Refused r) = refuses (r .number) (r .place)
