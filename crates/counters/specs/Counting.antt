@@ -1,4 +1,5 @@
 -- What a call on the counters answers, and what they hold after it (01, "Neighbours and election", its paragraph on counters).
+--     noTotals, noneByKind, noneCounted     counters to begin with
 --     numberOf             the number that names a kind, in 01's order
 --     sum                  a sum that stays at the 64-bit maximum
 --     moreIf               one message more and so many records, if the kind is the one named
@@ -19,6 +20,23 @@ use Rattle.counters.specs.declared.Direction.{Direction}
 use Rattle.counters.specs.declared.Direction.the-variants.{Sent, Received}
 use Rattle.counters.specs.declared.Answer.{Answer}
 use Rattle.counters.specs.declared.Answer.the-variants.{Added, Refused}
+
+abbrev pub noTotals : Totals
+noTotals = record { messages = 0; records = 0 }
+
+abbrev pub noneByKind : ByKind
+noneByKind = record {
+  hello = noTotals;
+  assert = noTotals;
+  simple = noTotals;
+  aggregated = noTotals;
+  «null_register» = noTotals;
+  «register_stop» = noTotals;
+}
+
+-- nothing was sent or received yet
+abbrev pub noneCounted : Counters
+noneCounted = record { sent = noneByKind; received = noneByKind }
 
 unfoldable pub numberOf : Kind → ℕ
 numberOf Hello = 0

@@ -1,13 +1,14 @@
 // Counters of messages and records, sent and received by kind. The kind comes as a number in 01's order, so that one
 // that is none of the six can be refused. What a call answers and what the counters then hold is a definition of specs/.
 //
+// none           counters to begin with
 // added          by value: the answer, and the counters after it
 // count          on counters that are lent: a thin function over `added`
 // with_message   by value over `count`, for a kind that is known
 use format::Kind;
 use format::Refusal;
 ghost use mathlib.Core.Path.{_≡_};
-ghost use Rattle.counters.specs.Counting.{numberOf, sum, moreIf, moreAt, moreIn, counting, answerOf};
+ghost use Rattle.counters.specs.Counting.{noTotals, noneByKind, noneCounted, numberOf, sum, moreIf, moreAt, moreIn, counting, answerOf};
 
 // How many messages, and how many records they had.
 pub struct Totals {
@@ -46,6 +47,40 @@ pub enum Answer {
 pub struct Counted {
     pub answer: Answer,
     pub counters: Counters,
+}
+
+fn no_totals() -> Totals
+    ensures { λ r. ⌜ r ≡ noTotals ⌝ }
+{
+    Totals {
+        messages: 0,
+        records: 0,
+    }
+}
+
+fn none_by_kind() -> ByKind
+    ensures { λ r. ⌜ r ≡ noneByKind ⌝ }
+{
+    let t = no_totals();
+    ByKind {
+        hello: t,
+        assert: t,
+        simple: t,
+        aggregated: t,
+        null_register: t,
+        register_stop: t,
+    }
+}
+
+// Counters that have counted nothing, to begin with.
+pub fn none() -> Counters
+    ensures { λ r. ⌜ r ≡ noneCounted ⌝ }
+{
+    let b = none_by_kind();
+    Counters {
+        sent: b,
+        received: b,
+    }
 }
 
 // The number that names a kind.
