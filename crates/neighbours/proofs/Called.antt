@@ -1,0 +1,60 @@
+-- What a call comes to by what it asked, over the definitions of specs/Hearing.antt, specs/Election.antt and specs/Answers.antt.
+--     stopped, went-on              the first test refuses, or lets the call go on
+--     elects                        an election that goes on
+--     hears-out, hears-in, forgets  hearing and forgetting that go on: holdtime 0, another holdtime, an address
+--     Answered                      an answer is what a call comes to: the table and what was done
+--     answered-refused, answered-by a refusal; the same call in other words
+-- Assumes nothing.
+use mathlib.Core.Path.{_≡_, sym, ap, _∙_}
+use mathlib.Core.Bool.{Bool}
+use Prim.Native.Nat.{ℕ}
+use borrow.Author.Tests.{eq-eqb, ne-eqb}
+use Rattle.format.specs.Outcome.{Outcome, gives, refuses, _>>_}
+use Rattle.format.specs.declared.Refusal.{Refusal}
+use Rattle.hello.specs.declared.Hello.{Hello}
+use Rattle.neighbours.specs.declared.Asked.{Asked}
+use Rattle.neighbours.specs.declared.Asked.the-variants.{Fine, Refused as NotAsked}
+use Rattle.neighbours.specs.declared.Candidate.{Candidate}
+use Rattle.neighbours.specs.declared.Change.the-variants.{Refused}
+use Rattle.neighbours.specs.declared.Changed.{Changed}
+use Rattle.neighbours.specs.declared.Table.{Table}
+use Rattle.neighbours.specs.Rows.{used}
+use Rattle.neighbours.specs.Hearing.{asked, After, rowOf, entering, leaving, hearing, forgetting}
+use Rattle.neighbours.specs.Election.{allHave, best, elect, electing}
+use Rattle.neighbours.specs.Answers.{askedBy, doneBy, doneOf, tableAfter}
+
+module _ (t : Table) (a : ℕ) {x : Asked} (e : askedBy x ≡ asked t a) where
+  pub stopped : {A : Type 0} (rest : Outcome A) (r : Refusal) → x ≡ NotAsked r → asked t a >> rest ≡ refuses (r .number) (r .place)
+  unfolding askedBy _>>_
+  stopped rest r f = rw (← e, f)
+
+  pub went-on : x ≡ Fine → asked t a ≡ gives tt
+  unfolding askedBy
+  went-on f = sym e ∙ ap askedBy f
+
+  pub elects : (p : ℕ) {h : Bool} {b : Candidate} → x ≡ Fine → h ≡ allHave (used t) → b ≡ best h (record { address = a; priority = p }) (used t) → gives (b .address) ≡ electing t a p
+  unfolding electing elect _>>_
+  elects p f g k = rw (went-on f, k, g)
+
+  pub hears-out : (h : Hello) → x ≡ Fine → h .holdtime ≡ 0 → hearing t a h ≡ leaving a (used t)
+  unfolding hearing _>>_
+  hears-out h f z = rw (went-on f, eq-eqb (h .holdtime) 0 z)
+
+  pub hears-in : (h : Hello) → x ≡ Fine → (h .holdtime ≡ 0 → ⊥) → hearing t a h ≡ entering (rowOf a h) (used t)
+  unfolding hearing _>>_
+  hears-in h f z = rw (went-on f, ne-eqb (h .holdtime) 0 z)
+
+  pub forgets : x ≡ Fine → forgetting t a ≡ leaving a (used t)
+  unfolding forgetting _>>_
+  forgets f = rw (went-on f)
+
+pub record Answered (t : Table) (o : Outcome After) (r : Changed) : Type 0 where
+  pub table : r .table ≡ tableAfter t o
+  pub done : doneBy (r .change) ≡ doneOf o
+
+pub answered-refused : (t : Table) (o : Outcome After) {r : Changed} (f : Refusal) → r ≡ record { table = t; change = Refused f } → o ≡ refuses (f .number) (f .place) → Answered t o r
+unfolding tableAfter doneBy doneOf
+answered-refused t o f e g = record { table = rw (e, g); done = rw (e, g) }
+
+pub answered-by : (t : Table) (o p : Outcome After) {r : Changed} → o ≡ p → Answered t p r → Answered t o r
+answered-by t o p e h = record { table = rw e (h .table); done = rw e (h .done) }

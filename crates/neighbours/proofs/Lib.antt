@@ -1,0 +1,9 @@
+pub mod Rows
+pub mod Tables
+pub mod Ranks
+pub mod Called
+pub mod Gaps
+pub mod Changes
+pub mod Entering
+pub mod Election
+pub mod Kept

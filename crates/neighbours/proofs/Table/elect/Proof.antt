@@ -1,0 +1,57 @@
+-- `neighbours::Table::elect` meets its contract.
+-- Assumes nothing.
+use Prim.Native.Nat.{_≤_}
+use mathlib.Core.Path.{sym}
+use borrow.Author.Needs.{needs}
+use Rattle.neighbours.specs.Rows.{most}
+use Rattle.neighbours.specs.Election.{electing}
+use Rattle.neighbours.specs.Answers.{electedBy}
+use Rattle.neighbours.proofs.Tables.{valid-parts, asked-valid}
+use Rattle.neighbours.proofs.Called.{stopped, went-on, elects}
+use Rattle.neighbours.proofs.Table.elect.Statement.{statement}
+use Rattle.neighbours.proofs.Table.elect.Tie as tie
+
+ask-requires : tie.Need-ask-requires
+ask-requires c κs = search needs
+
+enum-known-a : tie.Need-enum-known-a
+enum-known-a c = search needs
+
+enum-told : tie.Need-enum-told
+enum-told c = search needs
+
+-- the table is one that the call takes
+within : (c : tie.After-enum-told) → c .before .before .before .args .self .count ≤ most
+within c =
+    let s = c .before .before .before in
+    valid-parts (s .args .self) (asked-valid (s .args .self) (s .args .address) (went-on (s .args .self) (s .args .address) (c .before .before .ask .ensures) (c .enum-told .given .1))) .within
+
+all-have-requires : tie.Need-all-have-requires
+all-have-requires c κs = within c
+
+best-requires : tie.Need-best-requires
+best-requires c κs = within (c .before)
+
+returns : tie.Need-returns
+unfolding electedBy electing
+returns c =
+    let s = c .before .before .before .before in
+    sym (stopped (s .args .self) (s .args .address) (c .before .before .before .ask .ensures) _ (c .before .a .given .0 .0) (c .before .a .given .1))
+
+returns-2 : tie.Need-returns-2
+unfolding electedBy
+returns-2 c =
+    let s = c .before .before .before .before .before in
+    elects (s .args .self) (s .args .address) (c .before .before .before .before .ask .ensures) (s .args .priority) (c .before .before .enum-told .given .1) (c .before .all-have .ensures) (c .best .ensures)
+
+pub elect-spec : {M : Type 1} → statement M
+elect-spec =
+    tie.close
+    (tie.spec
+    ask-requires
+    enum-known-a
+    enum-told
+    all-have-requires
+    best-requires
+    returns
+    returns-2)

@@ -1,0 +1,110 @@
+-- Laws of a table as the calls test it, over the definitions of specs/Rows.antt and specs/Hearing.antt.
+--     same-row                              a row of the array, whatever stands for one that is not there
+--     holds-not, holds-is                   a row in use that is not allowed; one that is, by the search after it
+--     valid-over, valid-not, valid-rest     the table's own test, part by part
+--     Valid, valid-parts                    what a valid table has
+--     ask-14, ask-7, ask-fine               14, then 7
+--     asked-valid                           a table that a call takes is valid
+-- Assumes nothing.
+use mathlib.Core.Path.{_≡_, refl, sym, _∙_}
+use mathlib.Core.Bool.{Bool, true, false, not, _&&_}
+use mathlib.Core.List.{List, [], _∷_}
+use Prim.Native.Nat.{ℕ, zero, suc, _+_, _-_, _≤_, _<_}
+use native.Mathlib.Omega.{arith}
+use borrow.Author.Tests.{eq-eqb, ne-eqb, le-leb, lt-leb, leb-true, ltb-true, ltb-false}
+use lib.Dec.{eqb, ltb}
+use lib.ListN.{length, getD, take, drop, length-drop}
+use Rattle.format.specs.Outcome.{gives, refuses, refuseIf, _>>_}
+use Rattle.neighbours.specs.declared.Neighbour.{Neighbour}
+use Rattle.neighbours.specs.declared.Table.{Table}
+use Rattle.neighbours.specs.Rows.{most, noRow, allowed, place, has, used, sheetRows, allZero, valid}
+use Rattle.neighbours.specs.Hearing.{asked}
+use Rattle.neighbours.proofs.Rows.{used-long, place-all, has-place, has-none}
+
+pub never : {A : Type 0} → true ≡ false → A
+never e = absurd (let z : _≡_ {A = ℕ} 0 1 = cc in omega arith)
+
+pub and-true : (a b : Bool) → (a && b) ≡ true → (a ≡ true) × (b ≡ true)
+and-true true b e = (refl, e)
+and-true false b e = never (sym e)
+
+-- ---- one row
+
+pub same-row : (l : List Neighbour) (i : ℕ) (d e : Neighbour) → i < length l → getD l i d ≡ getD l i e
+same-row [] i d e h = absurd (omega arith)
+same-row (x ∷ l) zero d e h = refl
+same-row (x ∷ l) (suc i) d e h = same-row l i d e (omega arith)
+
+module _ (rows : List Neighbour) (n : ℕ) (within : n ≤ length rows) (i : ℕ) (d : Neighbour) (here : i < n) where
+  pub holds-not : allowed (getD rows i d) ≡ false → false ≡ (allowed (getD rows i noRow) && not (has (getD rows i noRow .address) (drop (suc i) (take n rows))))
+  holds-not e = rw (same-row rows i noRow d (omega arith), e)
+
+  after : length (drop (suc i) (take n rows)) + suc i ≡ n
+  after = rw (length-drop, used-long rows n within) (omega arith)
+
+  pub holds-is : (r : ℕ) → allowed (getD rows i d) ≡ true → r ≡ i + 1 + place (getD rows i d .address) (drop (i + 1) (take n rows))
+      → eqb r n ≡ (allowed (getD rows i noRow) && not (has (getD rows i noRow .address) (drop (suc i) (take n rows))))
+  holds-is r e f = rw (same-row rows i noRow d (omega arith), e) (go (ltb (place a l) (length l)) refl)
+    where
+      a : ℕ
+      a = getD rows i d .address
+
+      l : List Neighbour
+      l = drop (suc i) (take n rows)
+
+      is : r ≡ suc i + place a l
+      is = f ∙ (let s : i + 1 ≡ suc i = omega arith in rw s)
+
+      go : (b : Bool) → ltb (place a l) (length l) ≡ b → eqb r n ≡ not (has a l)
+      go true t = rw (has-place a l (ltb-true (place a l) (length l) t), ne-eqb r n (λ q. omega (arith, is, after, ltb-true (place a l) (length l) t)))
+      go false t = rw (has-none a l (ltb-false (place a l) (length l) t), eq-eqb r n (omega (arith, is, after, ltb-false (place a l) (length l) t, place-all a l)))
+
+-- ---- the table's own test
+
+module _ (t : Table) where
+  pub valid-over : most < t .count → false ≡ valid t
+  unfolding valid
+  valid-over h = rw (lt-leb (t .count) most h)
+
+  pub valid-not : t .count ≤ most → sheetRows (used t) ≡ false → false ≡ valid t
+  unfolding valid
+  valid-not h e = rw (le-leb (t .count) most h, e)
+
+  pub valid-rest : {b : Bool} → t .count ≤ most → sheetRows (used t) ≡ true → b ≡ allZero (drop (t .count) (t .rows)) → b ≡ valid t
+  unfolding valid
+  valid-rest h e f = f ∙ (rw (le-leb (t .count) most h, e))
+
+pub record Valid (t : Table) : Type 0 where
+  pub within : t .count ≤ most
+  pub sheet : sheetRows (used t) ≡ true
+  pub zero : allZero (drop (t .count) (t .rows)) ≡ true
+
+pub valid-parts : (t : Table) → valid t ≡ true → Valid t
+unfolding valid
+valid-parts t e =
+    let p = and-true _ _ e in
+    let q = and-true _ _ (p .1) in
+    record { within = leb-true _ _ (p .0); sheet = q .0; zero = q .1 }
+
+-- ---- 14, then 7
+
+module _ (t : Table) (a : ℕ) where
+  pub ask-14 : valid t ≡ false → asked t a ≡ refuses 14 0
+  unfolding asked refuseIf _>>_
+  ask-14 e = rw e
+
+  pub ask-7 : valid t ≡ true → a ≡ 0 → asked t a ≡ refuses 7 0
+  unfolding asked refuseIf _>>_
+  ask-7 e f = rw (e, eq-eqb a 0 f)
+
+  pub ask-fine : valid t ≡ true → (a ≡ 0 → ⊥) → asked t a ≡ gives tt
+  unfolding asked refuseIf _>>_
+  ask-fine e f = rw (e, ne-eqb a 0 f)
+
+  pub asked-valid : asked t a ≡ gives tt → valid t ≡ true
+  unfolding asked refuseIf _>>_
+  asked-valid e = go (valid t) refl e
+    where
+      go : (b : Bool) → valid t ≡ b → refuseIf (not b) 14 0 >> refuseIf (eqb a 0) 7 0 ≡ gives tt → valid t ≡ true
+      go true q f = q
+      go false q f = never cc

@@ -1,0 +1,6 @@
+pub mod Rows
+pub mod Hearing
+pub mod Election
+pub mod Answers
+pub mod Highest
+pub mod Reached

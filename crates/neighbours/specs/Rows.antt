@@ -1,0 +1,58 @@
+-- The neighbour table (01, "Neighbours and election"): "The table holds at most 16 neighbours as a state by value with its array inside."
+--     most                      how many rows there are, as `ROWS` of src/ says it of the code
+--     noRow, isZero, allZero    "rows not in use are all 0"
+--     allowed                   a row that a sheet may hold (01, "The sheet")
+--     place, has                where an address stands, and whether it does
+--     sheetRows                 rows that a sheet may hold together
+--     used, valid               the rows in use, and a table that row 14 of 01's table lets pass
+--     tableOf                   the table of some rows: the others are all 0
+-- Assumes nothing: these are definitions.
+use Prim.Native.Nat.{ℕ, suc, _-_}
+use mathlib.Core.Bool.{Bool, true, false, not, cond, _&&_, _||_}
+use mathlib.Core.List.{List, [], _∷_, _++_}
+use lib.ListN.{length, take, drop, replicate}
+use lib.Dec.{eqb, leb}
+use Rattle.neighbours.specs.declared.Neighbour.{Neighbour}
+use Rattle.neighbours.specs.declared.Table.{Table}
+
+abbrev pub most : ℕ
+most = 16
+
+-- a row that is not in use
+unfoldable pub noRow : Neighbour
+noRow = record { address = 0; priority = 0; «has_priority» = false; packs = false; holdtime = 0 }
+
+unfoldable pub isZero : Neighbour → Bool
+isZero n = eqb (n .address) 0 && (eqb (n .priority) 0 && (not (n .«has_priority») && (not (n .packs) && eqb (n .holdtime) 0)))
+
+unfoldable pub allZero : List Neighbour → Bool
+allZero [] = true
+allZero (n ∷ l) = isZero n && allZero l
+
+-- "address, priority (0 if none), flags (1 has priority, 2 packs), a zero octet, holdtime (not 0)"; "no neighbour address 0"
+unfoldable pub allowed : Neighbour → Bool
+allowed n = not (eqb (n .address) 0) && (not (eqb (n .holdtime) 0) && (n .«has_priority» || eqb (n .priority) 0))
+
+-- the number of the first row with an address; how many rows there are if none has it
+unfoldable pub place : ℕ → List Neighbour → ℕ
+place a [] = 0
+place a (n ∷ l) = cond (eqb (n .address) a) 0 (suc (place a l))
+
+unfoldable pub has : ℕ → List Neighbour → Bool
+has a [] = false
+has a (n ∷ l) = eqb (n .address) a || has a l
+
+-- each row is allowed, and "no neighbour address .. twice"
+unfoldable pub sheetRows : List Neighbour → Bool
+sheetRows [] = true
+sheetRows (n ∷ l) = (allowed n && not (has (n .address) l)) && sheetRows l
+
+abbrev pub used : Table → List Neighbour
+used t = take (t .count) (t .rows)
+
+-- 14: "a table with over 16 rows, rows that a sheet may not hold, or unused rows not 0"
+unfoldable pub valid : Table → Bool
+valid t = leb (t .count) most && (sheetRows (used t) && allZero (drop (t .count) (t .rows)))
+
+unfoldable pub tableOf : List Neighbour → Table
+tableOf l = record { rows = l ++ replicate (most - length l) noRow; count = length l }
