@@ -17,7 +17,7 @@ use Rattle.format.specs.Family.{ipv4}
 use Rattle.format.specs.Packing.{octetsOf, tookOf, simple, aggregated, readLimit, packing, asked, firstBad, packDue, pack, taken, written, wrote}
 use Rattle.format.specs.Train.{takenBy, messageOf, calls, messagesOf}
 use Rattle.cases.specs.Computed.{computed}
-use Rattle.cases.specs.Marked.{AssertForm, Right, marked, flows, shared}
+use Rattle.cases.specs.Marked.{AssertForm, Right, marked, flows, shared, ranked, unranked}
 
 -- a call at the end of the list is refused with 8, or takes 0 and writes nothing
 at-end : (F : AssertForm) → F .atMost 0 ≡ 0 → (limit l : ℕ) → readLimit ipv4 limit ≡ gives l → (d : List ℕ)
@@ -40,6 +40,6 @@ no-message F none limit l e (d ∷ ds) = go (ltb (length d) l) refl (no-message 
     go false t rest = rw (at-end F none limit l e d, t) rest
 
 pub marked-right : Every Right marked
-unfolding computed Every Right marked flows shared
+unfolding computed Every Right marked flows shared ranked unranked
 marked-right =
-    (refl, (refl, (refl, (refl, (refl, (refl, (refl, (refl, (refl, (refl, (no-message (simple ipv4) refl, (no-message (aggregated ipv4) refl, tt))))))))))))
+    (refl, (refl, (refl, (refl, (refl, (refl, (refl, (refl, (refl, (refl, (refl, (refl, (refl, (refl, (refl, (refl, (refl, (refl, (no-message (simple ipv4) refl, (no-message (aggregated ipv4) refl, tt))))))))))))))))))))

@@ -1,10 +1,11 @@
--- The examples that 01 stars ("Examples he marks"), as one table. Example 7, the election, joins it with the neighbour table.
+-- The examples that 01 stars ("Examples he marks"), as one table.
 --     Row         what an example says
 --     marked      the table, in 01's order
 --     Right       what it is for a row to hold of the definitions
 -- That every row is right is one theorem, in proofs/Marked.antt. Assumes nothing: these are definitions.
 use Prim.Native.Nat.{ℕ, zero, suc, _+_}
 use mathlib.Core.Path.{_≡_}
+use mathlib.Core.Bool.{true, false}
 use mathlib.Core.List.{List, [], _∷_, map}
 use lib.ListN.{length, replicate}
 use Rattle.octets.specs.Octets.{be}
@@ -16,6 +17,9 @@ use Rattle.format.specs.Unpacking.{Unpacked, unpacked, unpackAsserts}
 use Rattle.format.specs.Packing.{Form, simple, aggregated, Wrote, wrote, packing, readLimit}
 use Rattle.format.specs.Train.{calls, messagesOf, train}
 use Rattle.format.specs.declared.Kind.the-variants.{Simple}
+use Rattle.neighbours.specs.Rows.{tableOf}
+use Rattle.neighbours.specs.Election.{electing}
+use Rattle.neighbours.specs.declared.Neighbour.{Neighbour}
 
 abbrev pub AssertForm : Type 0
 AssertForm = Form (assertEntries ipv4)
@@ -29,6 +33,8 @@ pub data Row : Type 0 where
   lengths : AssertForm → List AssertRecord → ℕ → List ℕ → Row
   -- the train of entries at a limit is this one message
   isMessage : AssertForm → List AssertRecord → ℕ → List ℕ → Row
+  -- over the table of these rows and our own router, of an address and a priority, this address is elected
+  elects : List Neighbour → ℕ → ℕ → ℕ → Row
   -- at every allowed limit, with any buffers, calls for entries write no message
   noMessage : AssertForm → List AssertRecord → Row
 
@@ -38,6 +44,7 @@ Right (packs F es start limit a) =
     packing F (entriesOctets (assertEntries ipv4) es) start limit (replicate limit 0) .answer ≡ a
 Right (lengths F es limit ls) = map (λ (m : List ℕ). length m) (train F (entriesOctets (assertEntries ipv4) es) limit) ≡ ls
 Right (isMessage F es limit m) = train F (entriesOctets (assertEntries ipv4) es) limit ≡ m ∷ []
+Right (elects l ours priority a) = electing (tableOf l) ours priority ≡ gives a
 Right (noMessage F es) =
     (limit l : ℕ) → readLimit ipv4 limit ≡ gives l → (buffers : List (List ℕ))
     → messagesOf (calls F (entriesOctets (assertEntries ipv4) es) limit 0 buffers) ≡ []
@@ -52,6 +59,16 @@ flows (suc n) = assert (0xe801_0100 + n) 0x0a00_0001 110 20 ∷ flows n
 -- with R=1, preference 110, metric 20, on group 232.1.1.1
 unfoldable pub shared : ℕ → AssertRecord
 shared s = assert 0xe801_0101 s 0x8000_006e 20
+
+-- ---- the neighbours of the examples
+
+-- at an address, with a priority
+unfoldable pub ranked : ℕ → ℕ → Neighbour
+ranked a p = record { address = a; priority = p; «has_priority» = true; packs = false; holdtime = 105 }
+
+-- at an address, without priority
+unfoldable pub unranked : ℕ → Neighbour
+unranked a = record { address = a; priority = 0; «has_priority» = false; packs = false; holdtime = 105 }
 
 unfoldable pub marked : List Row
 marked =
@@ -73,6 +90,16 @@ marked =
     -- 6. "Two R=1 entries, one group, both source 0: one group record, p=2, 44 octets"
     ∷ isMessage (aggregated ipv4) (shared 0 ∷ shared 0 ∷ []) 44
     (be 44 0x25036e54_00000000_8000006e_00000014_00010000_01000020e8010101_00020000_010000000000_010000000000)
+    -- 7. "Priorities 5 and 9: the 9", a neighbour and our own router, at the lower address and at the higher
+    ∷ elects (ranked 0x0a00_0001 9 ∷ []) 0x0a00_0002 5 0x0a00_0001
+    ∷ elects (ranked 0x0a00_0002 9 ∷ []) 0x0a00_0001 5 0x0a00_0002
+    ∷ elects (ranked 0x0a00_0002 5 ∷ []) 0x0a00_0001 9 0x0a00_0001
+    ∷ elects (ranked 0x0a00_0001 5 ∷ []) 0x0a00_0002 9 0x0a00_0002
+    -- "A third without priority: the highest address of three", which is the third, the 5 or the 9
+    ∷ elects (ranked 0x0a00_0001 9 ∷ unranked 0x0a00_0003 ∷ []) 0x0a00_0002 5 0x0a00_0003
+    ∷ elects (ranked 0x0a00_0001 9 ∷ unranked 0x0a00_0002 ∷ []) 0x0a00_0003 5 0x0a00_0003
+    ∷ elects (ranked 0x0a00_0003 9 ∷ unranked 0x0a00_0002 ∷ []) 0x0a00_0001 5 0x0a00_0003
+    ∷ elects (ranked 0x0a00_0003 5 ∷ unranked 0x0a00_0001 ∷ []) 0x0a00_0002 9 0x0a00_0003
     -- 8. "Empty list, any allowed limit: no message"
     ∷ noMessage (simple ipv4) []
     ∷ noMessage (aggregated ipv4) []

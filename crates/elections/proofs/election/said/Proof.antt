@@ -1,0 +1,42 @@
+-- `elections::election::said` meets its contract: a number of two octets fits a holdtime.
+-- Assumes nothing.
+use mathlib.Core.Path.{sym, subst}
+use Prim.Native.Nat.{_+_, _<_}
+use denote.Ref.{now}
+use Rattle.octets.specs.Octets.{numberAt}
+use Rattle.format.proofs.Entries.{numberAt-lt}
+use borrow.Author.Needs.{needs}
+use Rattle.elections.proofs.election.said.Statement.{statement}
+use Rattle.elections.proofs.election.said.Tie as tie
+
+add-number16 : tie.Need-add-number16
+add-number16 c = search needs
+
+number16-requires : tie.Need-number16-requires
+number16-requires c κs = search needs
+
+cast-t5 : tie.Need-cast-t5
+cast-t5 c =
+    let a = c .before .before .args in
+    let small : numberAt 2 (now (a .m)) (a .at + 10) < 65536 = numberAt-lt 2 (now (a .m)) (a .at + 10) (λ i. c .before .shared-slice-known .given i .fits) in
+    record { fits = subst (λ n. n < 65536) (sym (c .number16 .ensures)) small }
+
+has-priority-requires : tie.Need-has-priority-requires
+has-priority-requires c κs = search needs
+
+priority-requires : tie.Need-priority-requires
+priority-requires c κs = search needs
+
+returns : tie.Need-returns
+returns c = search needs
+
+pub said-spec : {M : Type 1} → statement M
+said-spec =
+    tie.close
+    (tie.spec
+    add-number16
+    number16-requires
+    cast-t5
+    has-priority-requires
+    priority-requires
+    returns)

@@ -1,0 +1,13 @@
+// Runs elections that other people's routers held, each with the last and with the first router of its LAN as our own.
+// What is expected, in the file stdout, is the router that the daemons agreed on.
+//
+// election.rt      the election among the routers of a scenario
+// output.rt        a line for each election
+// scenarios.rt     the scenarios
+mod election;
+mod output;
+mod scenarios;
+
+fn main() {
+    scenarios::run();
+}
