@@ -6,4 +6,5 @@ pub mod Gaps
 pub mod Changes
 pub mod Entering
 pub mod Election
+pub mod Among
 pub mod Kept

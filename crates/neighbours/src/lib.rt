@@ -1,6 +1,6 @@
 // The neighbour table: a state by value with its array inside. First the rows one by one, then the tests
 // of a whole table, then what changes one and the election; last the methods, which are the public calls.
-// They are total; what they answer is a definition of specs/.
+// They are total; what they answer is a definition of specs/. The election over a lent list is in list.rt.
 ghost use mathlib.Core.Path.{_≡_};
 ghost use mathlib.Core.Bool.{true, false, not, cond, _&&_};
 ghost use mathlib.Core.List.{[], _∷_, _++_};
@@ -10,8 +10,12 @@ ghost use Rattle.neighbours.specs.Rows.{most, noRow, isZero, allZero, al
 ghost use Rattle.neighbours.specs.Hearing.{rowOf, asked, entering, leaving, hearing, forgetting};
 ghost use Rattle.neighbours.specs.Election.{allPack, mayPack, allHave, better, best, electing};
 ghost use Rattle.neighbours.specs.Answers.{askedBy, doneBy, doneOf, tableAfter, packingBy, electedBy};
+
+mod list;
+
 use format::Refusal;
 use hello::Hello;
+pub use list::elect_among;
 
 // How many rows a table has.
 pub const ROWS: usize = 16;

@@ -1,0 +1,40 @@
+-- Election over a lent list of rows (01, "Neighbours and election": "over a lent list of neighbour rows, without our own router; there only the
+-- rows' addresses are tested, by 7").
+--     electingAmong             the call: the first candidate is the first row
+--     first, looking, seen      what was seen of the rows: of none, of one more, and of all
+--     answering                 what was seen elects
+-- Assumes nothing: these are definitions.
+use Prim.Native.Nat.{ℕ}
+use mathlib.Core.Bool.{true, false, cond}
+use mathlib.Core.List.{List, [], _∷_}
+use lib.Dec.{eqb}
+use Rattle.format.specs.Outcome.{Outcome, gives, refuses, refuseIf, _>>_}
+use Rattle.neighbours.specs.Rows.{has}
+use Rattle.neighbours.specs.Election.{allHave, candidate, better, best}
+use Rattle.neighbours.specs.declared.Neighbour.{Neighbour}
+use Rattle.neighbours.specs.declared.list.Scan.{Scan}
+
+unfoldable pub electingAmong : List Neighbour → Outcome ℕ
+electingAmong [] = refuses 12 0
+electingAmong (n ∷ l) = do
+  refuseIf (has 0 (n ∷ l)) 7 0
+  gives (best (allHave (n ∷ l)) (candidate n) l .address)
+
+unfoldable pub first : Scan
+first = record { none = true; zero = false; «all_have» = true; «by_priority» = record { address = 0; priority = 0 }; «by_address» = record { address = 0; priority = 0 } }
+
+unfoldable pub looking : Scan → Neighbour → Scan
+looking s n = record {
+  none = false;
+  zero = cond (eqb (n .address) 0) true (s .zero);
+  «all_have» = cond (n .«has_priority») (s .«all_have») false;
+  «by_priority» = better true (s .«by_priority») (candidate n);
+  «by_address» = better false (s .«by_address») (candidate n);
+}
+
+unfoldable pub seen : Scan → List Neighbour → Scan
+seen s [] = s
+seen s (n ∷ l) = seen (looking s n) l
+
+unfoldable pub answering : Scan → Outcome ℕ
+answering s = cond (s .none) (refuses 12 0) (cond (s .zero) (refuses 7 0) (gives (cond (s .«all_have») (s .«by_priority» .address) (s .«by_address» .address))))
