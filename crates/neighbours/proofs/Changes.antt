@@ -17,7 +17,7 @@ use lib.ListN.{length, take, drop, set, replicate, length-append, length-set, le
 use lib.Seq.{append-snoc, set-append-left, set-at, take-append-le, drop-append-le, take-at, drop-at, length-take-le}
 use Rattle.neighbours.specs.declared.Neighbour.{Neighbour}
 use Rattle.neighbours.specs.declared.Table.{Table}
-use Rattle.neighbours.specs.Rows.{most, noRow, isZero, allZero, place, used, tableOf}
+use Rattle.neighbours.specs.Rows.{most, noRow, isZero, allZero, place, used, tableOf, closedUp}
 use Rattle.neighbours.specs.Hearing.{entered, without}
 use Rattle.neighbours.proofs.Rows.{used-long}
 use Rattle.neighbours.proofs.Tables.{and-true, Valid}
@@ -126,12 +126,8 @@ module _ (t : Table) (full : length (t .rows) ≡ most) (v : Valid t) where
       (sym m)
       (omega arith))
 
-  -- the rows but one, as they stand in the array
-  pub gone : ℕ → List Neighbour
-  gone at = take at (t .rows) ++ drop (suc at) (t .rows)
-
   pub closes : (a at : ℕ) → at ≡ place a (used t) → at < t .count
-      → record { rows = take (t .count - 1) (take at (t .rows) ++ drop (suc at) (t .rows)) ++ noRow ∷ drop (t .count - 1) (take at (t .rows) ++ drop (suc at) (t .rows)); count = t .count - 1 } ≡ tableOf (without a (used t))
+      → closedUp t at ≡ tableOf (without a (used t))
   closes a at e h =
       let l = used t in
       let z = drop (t .count) (t .rows) in

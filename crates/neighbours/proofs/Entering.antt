@@ -4,17 +4,16 @@
 -- Assumes nothing.
 use mathlib.Core.Path.{_≡_, _∙_}
 use mathlib.Core.Bool.{true, false}
-use Prim.Native.Nat.{ℕ, _+_, _-_, _≤_, _<_, suc}
-use mathlib.Core.List.{_∷_, _++_}
+use Prim.Native.Nat.{ℕ, _+_, _-_, _≤_, _<_}
 use native.Mathlib.Omega.{arith}
 use borrow.Author.Tests.{le-leb, lt-leb}
-use lib.ListN.{length, set, take, drop}
+use lib.ListN.{length, set}
 use Rattle.format.specs.Outcome.{refuseIf, _>>_}
 use Rattle.neighbours.specs.declared.Change.the-variants.{Replaced, Appended, Forgotten, Refused}
 use Rattle.neighbours.specs.declared.Changed.{Changed}
 use Rattle.neighbours.specs.declared.Neighbour.{Neighbour}
 use Rattle.neighbours.specs.declared.Table.{Table}
-use Rattle.neighbours.specs.Rows.{most, noRow, place, has, used, valid}
+use Rattle.neighbours.specs.Rows.{most, place, has, used, valid, closedUp}
 use Rattle.neighbours.specs.Hearing.{entering, leaving}
 use Rattle.neighbours.specs.Answers.{doneBy, doneOf, tableAfter}
 use Rattle.neighbours.proofs.Rows.{place-all, has-place, has-none}
@@ -50,7 +49,7 @@ module _ (t : Table) (full : length (t .rows) ≡ most) (ok : valid t ≡ true) 
 
   module _ (a : ℕ) (at : ℕ) (e : at ≡ 0 + place a (used t)) where
     pub leave-old : {u : Table} → at < t .count
-        → u ≡ record { rows = take (t .count - 1) (take at (t .rows) ++ drop (suc at) (t .rows)) ++ noRow ∷ drop (t .count - 1) (take at (t .rows) ++ drop (suc at) (t .rows)); count = t .count - 1 }
+        → u ≡ closedUp t at
         → Answered t (leaving a (used t)) (record { table = u; change = Forgotten })
     unfolding leaving refuseIf _>>_ tableAfter doneBy doneOf
     leave-old h f =

@@ -2,11 +2,11 @@
 // of a whole table, then what changes one and the election; last the methods, which are the public calls.
 // They are total; what they answer is a definition of specs/. The election over a lent list is in list.rt.
 ghost use mathlib.Core.Path.{_≡_};
-ghost use mathlib.Core.Bool.{true, false, not, cond, _&&_};
-ghost use mathlib.Core.List.{[], _∷_, _++_};
-ghost use Prim.Native.Nat.{suc, _+_, _-_, _≤_, _<_};
-ghost use lib.ListN.{getD, take, drop};
-ghost use Rattle.neighbours.specs.Rows.{most, noRow, isZero, allZero, allowed, place, has, sheetRows, used, valid, tableOf};
+ghost use mathlib.Core.Bool.{true, false, cond};
+ghost use mathlib.Core.List.{[]};
+ghost use Prim.Native.Nat.{_+_, _-_, _≤_, _<_};
+ghost use lib.ListN.{drop};
+ghost use Rattle.neighbours.specs.Rows.{most, noRow, isZero, allZero, allowed, place, sheetRows, used, valid, tableOf, holdsAt, closedUp};
 ghost use Rattle.neighbours.specs.Hearing.{rowOf, asked, entering, leaving, hearing, forgetting};
 ghost use Rattle.neighbours.specs.Election.{allPack, mayPack, allHave, better, best, electing};
 ghost use Rattle.neighbours.specs.Answers.{askedBy, doneBy, doneOf, tableAfter, packingBy, electedBy};
@@ -163,7 +163,7 @@ fn find(table: Table, from: usize, address: u32) -> usize
 // Whether a row in use is allowed and its address does not come again.
 fn row_holds(table: Table, i: usize) -> bool
     requires { ⌜ (i < table .count) × (table .count ≤ most) ⌝ }
-    ensures { λ r. ⌜ r ≡ (allowed (getD (table .rows) i noRow) && not (has (getD (table .rows) i noRow .address) (drop (suc i) (used table)))) ⌝ }
+    ensures { λ r. ⌜ r ≡ holdsAt table i ⌝ }
 {
     let row = table.rows[i];
     if is_allowed(row) {
@@ -283,7 +283,7 @@ fn enter(table: Table, row: Neighbour) -> Changed
 // The rows after one move up, and the last row in use becomes 0.
 fn close_up(table: Table, at: usize) -> Table
     requires { ⌜ (at < table .count) × (table .count ≤ most) ⌝ }
-    ensures { λ r. ⌜ r ≡ record { rows = take (table .count - 1) (take at (table .rows) ++ drop (suc at) (table .rows)) ++ noRow ∷ drop (table .count - 1) (take at (table .rows) ++ drop (suc at) (table .rows)); count = table .count - 1 } ⌝ }
+    ensures { λ r. ⌜ r ≡ closedUp table at ⌝ }
 {
     let last = table.count - 1;
     let mut after = table;

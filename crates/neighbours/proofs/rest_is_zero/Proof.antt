@@ -21,7 +21,7 @@ full : (c : tie.Start Inv-loop μ-loop) → length (c .args .t1 .rows) ≡ most
 full c = all-rows (c .args .t1 .rows) (c .good .0 .1 .1 .0 .1 .0 .1)
 
 loop-holds : tie.Need-loop-holds Inv-loop μ-loop
-loop-holds c = (c .pre, refl)
+loop-holds c = (omega (arith, c .pre), refl)
 
 mul-is-zero : tie.Need-mul-is-zero Inv-loop μ-loop
 mul-is-zero c = search needs
