@@ -1,4 +1,4 @@
-// The election among the routers of a scenario, one of them our own. A router stands in 12 octets, as a sheet has a
+// The election among the routers of a scenario, one of them our own or none. A router stands in 12 octets, as a sheet has a
 // neighbour: address, priority, 1 if it has a priority, a zero octet, holdtime.
 use hello::Hello;
 use neighbours::Change;
@@ -64,4 +64,22 @@ pub(crate) fn elected(m: &[u8], own: usize) -> Elected
         at += ROUTER;
     }
     table.elect(address(m, own), priority(m, own))
+}
+
+// Every router is heard, then the rows elect, without our own; or the first refusal.
+pub(crate) fn elected_among(m: &[u8]) -> Elected {
+    let mut table = Table::empty();
+    let mut at = 0;
+    while at < m.len() {
+        let heard = table.hear(address(m, at), said(m, at));
+        let change = heard.change;
+        match change {
+            Change::Refused(r) => return Elected::Refused(r),
+            _ => {}
+        }
+        table = heard.table;
+        at += ROUTER;
+    }
+    let rows = table.rows;
+    neighbours::elect_rows(rows, table.count)
 }

@@ -3,6 +3,7 @@
 use crate::election::ROUTER;
 use crate::election::address;
 use crate::election::elected;
+use crate::election::elected_among;
 use crate::election::has_priority;
 use format::Refusal;
 use libc::STDERR_FILENO;
@@ -69,6 +70,11 @@ fn line(name: &[u8], m: &[u8], own: usize, observed: u32) -> bool
     true
 }
 
+// The election among all routers, each of them a row.
+fn rows_line(name: &[u8], m: &[u8], observed: u32) -> bool {
+    text(name) && text(b", among the rows: ") && answer(elected_among(m), observed)
+}
+
 fn lines(name: &[u8], m: &[u8], observed: u32) -> bool {
     if m.len() <= ROUTER {
         return text(name) && text(b": fewer than two routers\n");
@@ -76,7 +82,9 @@ fn lines(name: &[u8], m: &[u8], observed: u32) -> bool {
     if m.len() % ROUTER != 0 {
         return text(name) && text(b": a router is not whole\n");
     }
-    line(name, m, m.len() - ROUTER, observed) && line(name, m, 0, observed)
+    line(name, m, m.len() - ROUTER, observed)
+        && line(name, m, 0, observed)
+        && rows_line(name, m, observed)
 }
 
 // A scenario: its name, its routers, and the router that was observed to be elected. Where standard output takes no

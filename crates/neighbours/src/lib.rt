@@ -16,6 +16,7 @@ mod list;
 use format::Refusal;
 use hello::Hello;
 pub use list::elect_among;
+pub use list::elect_rows;
 
 // How many rows a table has.
 pub const ROWS: usize = 16;

@@ -1,12 +1,16 @@
 // Election over a lent list of neighbour rows, without our own router: each row is looked at once.
 ghost use mathlib.Core.Path.{_≡_};
 ghost use mathlib.Core.Bool.{true, false, cond};
-ghost use lib.Dec.{eqb};
+ghost use lib.Dec.{eqb, ltb};
+ghost use Prim.Native.Nat.{_≤_};
+ghost use lib.ListN.{take};
+ghost use Rattle.neighbours.specs.Rows.{most, used};
 ghost use Rattle.neighbours.specs.Answers.{electedBy};
 ghost use Rattle.neighbours.specs.Among.{first, looking, answering, electingAmong};
 use crate::Candidate;
 use crate::Elected;
 use crate::Neighbour;
+use crate::ROWS;
 use crate::better;
 use crate::higher;
 use format::Refusal;
@@ -111,4 +115,30 @@ pub fn elect_among(rows: &[Neighbour]) -> Elected
         i += 1;
     }
     answer(s)
+}
+
+// The rows in use, at most all.
+fn at_most(count: usize) -> usize
+    ensures { λ r. ⌜ r ≡ cond (ltb most count) most count ⌝ }
+{
+    if ROWS < count {
+        return ROWS;
+    }
+    count
+}
+
+// The first rows of an array, lent.
+fn elect_first(rows: [Neighbour; ROWS], n: usize) -> Elected
+    requires { ⌜ n ≤ most ⌝ }
+    ensures { λ r. ⌜ electedBy r ≡ electingAmong (take n rows) ⌝ }
+{
+    elect_among(&rows[..n])
+}
+
+// The designated router over the first n rows of an array, by value, for callers who do not lend.
+pub fn elect_rows(rows: [Neighbour; ROWS], n: usize) -> Elected
+    ensures { λ r. ⌜ electedBy r ≡ electingAmong (take n rows) ⌝ }
+{
+    let first = at_most(n);
+    elect_first(rows, first)
 }
