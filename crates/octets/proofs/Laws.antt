@@ -8,7 +8,7 @@
 --     put-put, put-next, put-before                         two writes in a row are one; the same for two calls, by what each promised, in either order
 --     take-put, drop-put, take-put-end, drop-put-end        what stands up to the end of a write and past it: at the start, and at any place
 --     part-put, field-put                                   what was written is read back: octets, and a field
---     stores-put, lows-be, taken-be                         stores one by one are a write; the octets as code takes them are those of the number
+--     stores-put, lows-be, taken-be, put-number             stores one by one are a write; the octets as code takes them are those of the number
 --     number-is, number-short                               a number by its octets, and where fewer are there
 --     field-got, field-short, write-next, write-full        what a reader or a writer answers, by the test that its code made
 --     field-back, field-lt, write-back, length-fitted       what a caller learns from an answer
@@ -252,6 +252,10 @@ taken-be (suc zero) n h = rw (← lows-be, mod-eq-of-lt h)
 taken-be (suc (suc k)) n h =
     let l : n / 256 ^ suc k < 256 = div-lt-iff-lt-mul (pow-pos (suc k)) .1 (rw pow-succ' at h) in
     rw (lows-be (suc k) n, be-suc (suc k) n, mod-eq-of-lt l)
+
+-- so a number stored octet by octet is written
+pub put-number : (k : ℕ) (d : List ℕ) (at n : ℕ) → at + k ≤ length d → n < 256 ^ k → stores d at 0 (taken k n) ≡ put d at (be k n)
+put-number k d at n h s = rw (taken-be k n s) (stores-put d at (be k n) (rw length-be h))
 
 -- a number by its octets
 pub number-is : (k : ℕ) (o : List ℕ) (at : ℕ) → at + k ≤ length o → numberAt k o at ≡ value (octetsFrom o at 0 k)

@@ -1,5 +1,5 @@
 -- Entries written one after another into a lent buffer, from things that stand one after another in a message.
---     put-number, put-number-next       a number stored octet by octet, and what is written past it
+--     put-number-next                   what is written past a number
 --     put-one                           one entry, as a list of entries
 --     Left                              what is still to be written gives the whole: left-room, left-step, left-end
 --     Series, series-length             things from a place on, by the first of them: their entries and octets; of one entry each
@@ -26,27 +26,19 @@ use Rattle.records.specs.Sizes.{groupRecordSize, groupRecordsSize, aggregatedSi
 use Rattle.format.specs.Family.{ipv4}
 use Rattle.format.specs.Entry.{assertEntryOctets, pairEntryOctets}
 use Rattle.format.specs.Record.{each}
-use Rattle.format.proofs.Lengths.{length-each}
+use Rattle.format.proofs.Lengths.{each-append, length-each}
 use Rattle.fields.specs.Answers.{plainAssert, plainPair}
 use Rattle.reading.specs.Copied.{likeButFor}
 use Rattle.reading.specs.Plain.{plainAsserts, plainPairs, plainAddresses, plainGroupRecord, plainGroupRecords, plainAggregated, plainRecords}
 
 -- ---- a number
 
-pub put-number : (k : ℕ) (d : List ℕ) (at n : ℕ) → at + k ≤ length d → n < 256 ^ k → stores d at 0 (taken k n) ≡ put d at (be k n)
-put-number k d at n h s = rw (taken-be k n s) (stores-put d at (be k n) (rw length-be h))
-
--- and what is written past it
+-- what is written past a number
 pub put-number-next : (k : ℕ) (d : List ℕ) (at n : ℕ) (f : List ℕ) {d′ d″ : List ℕ} {at′ : ℕ} → d′ ≡ put d at (be k n) → d″ ≡ put d′ at′ f → at′ ≡ at + k
     → d″ ≡ put d at (be k n ++ f)
 put-number-next k d at n f p q r = put-next d at (be k n) f p q (rw length-be r)
 
 -- ---- entries of one size
-
-each-append : {A : Type 0} (enc : A → List ℕ) (a b : List A) → each enc (a ++ b) ≡ each enc a ++ each enc b
-unfolding each
-each-append enc [] b = refl
-each-append enc (x ∷ a) b = rw (each-append enc a b, append-assoc)
 
 pub put-one : {A : Type 0} (enc : A → List ℕ) (d : List ℕ) (at : ℕ) {d′ : List ℕ} {x y : A} → d′ ≡ put d at (enc x) → x ≡ y → d′ ≡ put d at (each enc (y ∷ []))
 unfolding each

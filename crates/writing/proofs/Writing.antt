@@ -1,6 +1,6 @@
 -- Octets written into a lent buffer, from entries that stand one after another.
 --     copied                     the octets of a number stored as they stand
---     put-number, put-counted    a number stored octet by octet, and one of 16 bits that is followed by reserved octets
+--     put-counted                a number of 16 bits stored octet by octet, and two reserved octets
 --     Rows                       where a loop over entries stands: rows-start, rows-there, rows-next, rows-end, rows-out
 --     sealed                     a message whose checksum was 0, with its checksum
 -- Assumes nothing.
@@ -28,9 +28,6 @@ copied o d at out octet there room =
     (octets-cons (getD o (at + 2) 0) (octetsFrom o at 3 1) (octet (at + 2)) (octets-cons (getD o (at + 3) 0) [] (octet (at + 3)) octets-nil))) in
     stores-put d out (octetsFrom o at 0 4) room
     ∙ ap (put d out) (sym (be-value (octetsFrom o at 0 4) four) ∙ ap (be 4) (sym (number-is 4 o at there)))
-
-pub put-number : (k : ℕ) (d : List ℕ) (at n : ℕ) → at + k ≤ length d → n < 256 ^ k → stores d at 0 (taken k n) ≡ put d at (be k n)
-put-number k d at n h s = rw (taken-be k n s) (stores-put d at (be k n) (rw length-be h))
 
 -- a 16-bit number and two reserved octets
 pub put-counted : (d : List ℕ) (at n : ℕ) → at + 4 ≤ length d → stores d at 0 ((n / 256 % 256) ∷ (n % 256) ∷ 0 ∷ 0 ∷ []) ≡ put d at (be 2 n ++ (0 ∷ 0 ∷ []))

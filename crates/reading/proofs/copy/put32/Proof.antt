@@ -4,7 +4,7 @@ use native.Mathlib.Omega.{arith}
 use lib.ListN.{length-set}
 use denote.Ref.{now}
 use borrow.Author.Needs.{needs}
-use Rattle.reading.proofs.Copying.{put-number}
+use Rattle.octets.proofs.Laws.{put-number}
 use Rattle.reading.proofs.copy.put32.Statement.{statement}
 use Rattle.reading.proofs.copy.put32.Tie as tie
 

@@ -4,7 +4,7 @@ use native.Mathlib.Omega.{arith}
 use lib.ListN.{length-set, length-take}
 use denote.Ref.{now}
 use borrow.Author.Needs.{needs}
-use Rattle.writing.proofs.Writing.{put-number}
+use Rattle.octets.proofs.Laws.{put-number}
 use Rattle.writing.proofs.message.seal.Statement.{statement}
 use Rattle.writing.proofs.message.seal.Tie as tie
 
