@@ -20,7 +20,7 @@ use mathlib.Core.Bool.{true, false}
 use lib.ListN.{length, length-append, length-map}
 use borrow.Author.Tests.{le-leb, lt-leb}
 use Rattle.octets.specs.Octets.{numberAt, put, be}
-use Rattle.octets.proofs.Laws.{put-nil, put-put, put-next, length-put, length-be, stores, stores-put, taken, taken-be}
+use Rattle.octets.proofs.Laws.{put-nil, put-put, put-next, length-put, length-be}
 use Rattle.records.specs.Records.{AssertRecord, assert, PairRecord, ofGroup, AggregatedRecord, ofSource, ofRp, groupEntries, allGroupEntries, entries, allEntries}
 use Rattle.records.specs.Sizes.{groupRecordSize, groupRecordsSize, aggregatedSize, allSize}
 use Rattle.format.specs.Family.{ipv4}

@@ -11,7 +11,7 @@ use mathlib.Core.Path.{_≡_, refl, sym, ap, _∙_}
 use mathlib.Core.List.{List, [], _∷_, _++_}
 use lib.ListN.{length, getD, take}
 use Rattle.octets.specs.Octets.{numberAt, Octets, be, put}
-use Rattle.octets.proofs.Laws.{number-is, octetsFrom, stores, stores-put, be-value, octets-nil, octets-cons, put-nil, put-put, length-put, take-put, length-be, lows-be, taken, taken-be}
+use Rattle.octets.proofs.Laws.{number-is, octetsFrom, stores, stores-put, be-value, octets-nil, octets-cons, put-nil, put-put, length-put, take-put, length-be, lows-be}
 use Rattle.checksum.specs.Sum.{checksum}
 use Rattle.format.specs.Header.{octet0, octet1, message}
 use Rattle.format.specs.Record.{each}
