@@ -22,6 +22,7 @@ pub use list::elect_rows;
 pub const ROWS: usize = 16;
 
 // A neighbour: the priority is 0 where none was announced.
+#[repr(C)]
 pub struct Neighbour {
     pub address: u32,
     pub priority: u32,
@@ -31,6 +32,7 @@ pub struct Neighbour {
 }
 
 // The rows in use come first; the others are all 0.
+#[repr(C)]
 pub struct Table {
     pub rows: [Neighbour; ROWS],
     pub count: usize,
@@ -107,7 +109,7 @@ fn is_zero(row: Neighbour) -> bool
 }
 
 // Whether a sheet may hold a row.
-fn is_allowed(row: Neighbour) -> bool
+pub fn is_allowed(row: Neighbour) -> bool
     ensures { λ r. ⌜ r ≡ allowed row ⌝ }
 {
     if row.address == 0 {
@@ -207,7 +209,7 @@ fn rest_is_zero(table: Table) -> bool
 }
 
 // Whether row 14 of 01's table lets a table pass.
-fn is_valid(table: Table) -> bool
+pub fn is_valid(table: Table) -> bool
     ensures { λ r. ⌜ r ≡ valid table ⌝ }
 {
     if table.count > ROWS {

@@ -1,8 +1,10 @@
 -- What a packing call asks, by the tests that code makes.
 --     read-gives, read-refuses     what the answer about the limit says
 --     limit-usual, limit-low, limit-high, limit-within     the limit as read
+--     looked, listed-bad, listed-fine     the first bad entry from a number on, and of a whole list
 --     ask-limit, ask-room, ask-part, ask-start, ask-bad, ask-fine     the call is refused with 9, 8, 10, 7, or goes on
 -- Assumes nothing.
+use native.Mathlib.Omega.{arith}
 use Prim.Native.Nat.{ℕ, _-_, _*_, _/_, _%_, _≤_, _<_}
 use mathlib.Core.Path.{_≡_, sym, ap, _∙_}
 use mathlib.Core.List.{List}
@@ -51,6 +53,19 @@ module _ (limit : ℕ) where
   unfolding readLimit leastLimit
   limit-within z h g = rw (ne-eqb limit 0 z, le-leb 38 limit h, le-leb limit 65515 g)
 
+looked : (E : Entries) (o : List ℕ) (start : ℕ) → start ≤ length o / E .size → (b : ℕ) → badAt b (length o / E .size) ≡ firstBad (E .allowed) start (entriesAt E o (E .size * start) (length o / E .size - start)) → firstBad (E .allowed) start (drop start (entriesOf E o)) ≡ badAt b (length o / E .size)
+unfolding count
+looked E o start inside b look = ap (firstBad (E .allowed) start) (drop-entries E o start inside) ∙ sym look
+
+module _ (E : Entries) (o : List ℕ) (b : ℕ) (look : badAt b (length o / E .size) ≡ firstBad (E .allowed) 0 (entriesAt E o (E .size * 0) (length o / E .size - 0))) where
+  pub listed-bad : b < length o / E .size → refuses 7 b ≡ firstBad (E .allowed) 0 (entriesOf E o)
+  unfolding badAt
+  listed-bad bad = rw (looked E o 0 (omega arith) b look, lt-ltb b (length o / E .size) bad)
+
+  pub listed-fine : length o / E .size ≤ b → gives tt ≡ firstBad (E .allowed) 0 (entriesOf E o)
+  unfolding badAt
+  listed-fine fine = rw (looked E o 0 (omega arith) b look, le-ltb b (length o / E .size) fine)
+
 module _ (E : Entries) (o : List ℕ) (start limit room : ℕ) where
   pub ask-limit : (n p : ℕ) → readLimit (E .family) limit ≡ refuses n p → limited (asked E o start limit room) ≡ refuses n p
   unfolding asked limited Outcome._>>=_
@@ -72,16 +87,12 @@ module _ (E : Entries) (o : List ℕ) (start limit room : ℕ) where
         ask-start past = rw (read, le-ltb room l enough, eq-eqb (length o % E .size) 0 full, lt-leb start (length o / E .size) past)
 
         module _ (inside : start ≤ length o / E .size) (b : ℕ) (look : badAt b (length o / E .size) ≡ firstBad (E .allowed) start (entriesAt E o (E .size * start) (length o / E .size - start))) where
-          looked : firstBad (E .allowed) start (drop start (entriesOf E o)) ≡ badAt b (length o / E .size)
-          unfolding count
-          looked = ap (firstBad (E .allowed) start) (drop-entries E o start inside) ∙ sym look
-
           pub ask-bad : b < length o / E .size → limited (asked E o start limit room) ≡ refuses 7 b
           unfolding asked limited whole count badAt refuseIf Outcome._>>=_ Outcome._>>_
           ask-bad bad =
-              rw (read, le-ltb room l enough, eq-eqb (length o % E .size) 0 full, le-leb start (length o / E .size) inside, looked, lt-ltb b (length o / E .size) bad)
+              rw (read, le-ltb room l enough, eq-eqb (length o % E .size) 0 full, le-leb start (length o / E .size) inside, looked E o start inside b look, lt-ltb b (length o / E .size) bad)
 
           pub ask-fine : length o / E .size ≤ b → limited (asked E o start limit room) ≡ gives l
           unfolding asked limited whole count badAt refuseIf Outcome._>>=_ Outcome._>>_
           ask-fine fine =
-              rw (read, le-ltb room l enough, eq-eqb (length o % E .size) 0 full, le-leb start (length o / E .size) inside, looked, le-ltb b (length o / E .size) fine)
+              rw (read, le-ltb room l enough, eq-eqb (length o % E .size) 0 full, le-leb start (length o / E .size) inside, looked E o start inside b look, le-ltb b (length o / E .size) fine)

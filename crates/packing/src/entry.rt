@@ -1,4 +1,4 @@
-// Entries by the kind of message that is made of them. A list that is not whole has been refused before.
+// Entries by the kind of message that is made of them. Octets past the last whole entry are not looked at.
 use format::Kind;
 use joining::r_bit;
 use octets::number32;
@@ -6,15 +6,23 @@ use writing::entry_size;
 ghost use mathlib.Core.Path.{_≡_};
 ghost use Prim.Native.Nat.{_+_, _-_, _*_, _≤_, _<_};
 ghost use lib.ListN.{length};
-ghost use Rattle.format.specs.Entry.{entriesAt};
+ghost use Rattle.format.specs.Entry.{entriesAt, entriesOf};
 ghost use Rattle.format.specs.Packing.{firstBad};
 ghost use Rattle.writing.specs.Kinds.{entriesFor};
 ghost use Rattle.packing.specs.Kinds.{zeroFor, badAt};
+ghost use Rattle.packing.specs.Answers.{listedBy};
 
 // Groups lie in 224.0.0.0/4.
 const FIRST_GROUP: u32 = 0xe000_0000;
 
 const PAST_GROUPS: u32 = 0xf000_0000;
+
+// Whether every entry of a list is allowed.
+pub enum Listed {
+    Allowed,
+    // The number of the first that is not.
+    Bad(usize),
+}
 
 // Whether the source of an entry may be 0.
 fn zero_allowed(kind: Kind, e: &[u8], at: usize) -> bool
@@ -65,4 +73,16 @@ pub(crate) fn first_bad(kind: Kind, e: &[u8], start: usize, count: usize) -> usi
         at += size;
     }
     count
+}
+
+// Whether every entry of a list is one that a message of a kind may have.
+pub fn entries_allowed(kind: Kind, e: &[u8]) -> Listed
+    ensures { λ r. ⌜ listedBy r ≡ firstBad (entriesFor kind .allowed) 0 (entriesOf (entriesFor kind) (now (e .entry))) ⌝ }
+{
+    let count = e.len() / entry_size(kind);
+    let bad = first_bad(kind, e, 0, count);
+    if bad < count {
+        return Listed::Bad(bad);
+    }
+    Listed::Allowed
 }

@@ -20,3 +20,5 @@ pub use calls::pack_simple;
 pub use choice::Choice;
 pub use choice::pack_both;
 pub use choice::pack_chosen;
+pub use entry::Listed;
+pub use entry::entries_allowed;

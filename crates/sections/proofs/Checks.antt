@@ -1,0 +1,68 @@
+-- What the sections and the header of a sheet come to together.
+--     sections-asserts, sections-pairs, sections-rows     the first section at fault, or the last
+--     header-gives                                        what the answer about a header says
+--     sheet-header, sheet-fault, sheet-sound              the whole sheet
+-- Assumes nothing.
+use mathlib.Core.Path.{_≡_, refl, sym, ap, _∙_}
+use mathlib.Core.List.{List, []}
+use Prim.Native.Nat.{ℕ}
+use Rattle.format.specs.Outcome.{Outcome, gives, refuses, _>>=_, _>>_}
+use Rattle.format.specs.Family.{Family}
+use Rattle.format.specs.declared.Refusal.{Refusal}
+use Rattle.sections.specs.Layout.{Layout, assertsIn, pairsIn, headerSize, pairsFrom, rowsFrom}
+use Rattle.sections.specs.Checking.{checkHeader, checkEntries, checkRows, checking, checkedBy}
+use Rattle.sections.specs.Sections.{checkSections, sectionBy}
+use Rattle.sections.specs.declared.Counts.{Counts}
+use Rattle.sections.specs.declared.Checked.{Checked}
+use Rattle.sections.specs.declared.Checked.the-variants.{Valid, Refused}
+use Rattle.sections.specs.declared.Section.{Section}
+use Rattle.sections.specs.declared.Section.the-variants.{Sound, Fault}
+
+module _ (L : Layout) (f : Family) (o : List ℕ) (c : Counts) {a : Section}
+    (asserts : sectionBy a ≡ checkEntries (assertsIn f) o (headerSize L) (c .asserts)) where
+  pub sections-asserts : {p : ℕ} → a ≡ Fault p → sectionBy a ≡ checkSections L f o c
+  unfolding checkSections sectionBy _>>_
+  sections-asserts e = rw (← asserts, e) refl
+
+  module _ (sound : a ≡ Sound) {b : Section} (pairs : sectionBy b ≡ checkEntries (pairsIn f) o (pairsFrom L f c) (c .pairs)) where
+    pub sections-pairs : {p : ℕ} → b ≡ Fault p → sectionBy b ≡ checkSections L f o c
+    unfolding checkSections sectionBy _>>_
+    sections-pairs e = rw (← asserts, sound, ← pairs, e) refl
+
+    pub sections-rows : b ≡ Sound → {r : Outcome (Unit {0})} → r ≡ checkRows f o [] (rowsFrom L f c) (c .neighbours) → r ≡ checkSections L f o c
+    unfolding checkSections sectionBy _>>_
+    sections-rows e rows = rw (← asserts, sound, ← pairs, e) rows
+
+-- a line more after three
+regroup : {A : Type 0} (a b r : Outcome (Unit {0})) (y : Outcome A) → a >> (b >> (r >> y)) ≡ (a >> (b >> r)) >> y
+unfolding _>>_
+regroup (gives t) (gives u) r y = refl
+regroup (gives t) (refuses n p) r y = refl
+regroup (refuses n p) b r y = refl
+
+module _ (L : Layout) (f : Family) (o : List ℕ) {x : Checked} (header : checkedBy x ≡ checkHeader L f o) where
+  pub header-gives : {c : Counts} → x ≡ Valid c → checkHeader L f o ≡ gives c
+  unfolding checkedBy
+  header-gives e = sym header ∙ ap checkedBy e
+
+  pub sheet-header : {r : Refusal} → x ≡ Refused r → checkedBy x ≡ checking L f o
+  unfolding checking checkedBy _>>=_
+  sheet-header e = rw (← header, e) refl
+
+  module _ {c : Counts} (valid : x ≡ Valid c) where
+    then-all : checking L f o ≡ checkSections L f o c >> gives c
+    unfolding checking checkSections _>>=_
+    then-all =
+        rw (header-gives valid)
+        (regroup (checkEntries (assertsIn f) o (headerSize L) (c .asserts))
+        (checkEntries (pairsIn f) o (pairsFrom L f c) (c .pairs))
+        (checkRows f o [] (rowsFrom L f c) (c .neighbours))
+        (gives c))
+
+    pub sheet-fault : {s : Section} → sectionBy s ≡ checkSections L f o c → {p : ℕ} → s ≡ Fault p → refuses 14 p ≡ checking L f o
+    unfolding sectionBy _>>_
+    sheet-fault found e = sym (then-all ∙ rw (← found, e) refl)
+
+    pub sheet-sound : {s : Section} → sectionBy s ≡ checkSections L f o c → s ≡ Sound → gives c ≡ checking L f o
+    unfolding sectionBy _>>_
+    sheet-sound found e = sym (then-all ∙ rw (← found, e) refl)

@@ -1,0 +1,95 @@
+-- `sections::check_entries` meets its contract: what the part holds is what the sheet holds from the place on.
+-- Assumes nothing.
+use mathlib.Core.Path.{_≡_, ap}
+use Prim.Native.Nat.{_+_, _-_, _*_, _≤_}
+use native.Mathlib.Omega.{arith}
+use lib.ListN.{length}
+use denote.Ref.{now}
+use borrow.Author.Needs.{needs}
+use Rattle.writing.specs.Kinds.{entriesFor}
+use Rattle.sections.specs.Sections.{sectionBy}
+use Rattle.sections.proofs.Entries.{Found, entries-sound, entries-bad, bad-there}
+use Rattle.sections.proofs.check_entries.Statement.{statement}
+use Rattle.sections.proofs.check_entries.Tie as tie
+
+-- the size that code has is that of the kind
+same : (c : tie.After-entry-size) → c .entry-size .result * c .before .before .args .count ≡ entriesFor (c .before .before .args .kind) .size * c .before .before .args .count
+same c = ap (λ x. x * c .before .before .args .count) (c .entry-size .ensures)
+
+-- what was found in the part
+found : (c : tie.After-entries-allowed) → Found (c .before .before .before .before .args .kind) (now (c .before .before .before .before .args .o)) (c .before .before .before .before .args .from) (c .before .before .before .before .args .count) (c .entries-allowed .result)
+found c =
+    let a = c .before .before .before .before .args in
+    let cut : a .from + c .before .before .entry-size .result * a .count - a .from ≡ entriesFor (a .kind) .size * a .count = omega (arith, same (c .before .before)) in
+    rw cut at (c .entries-allowed .ensures)
+
+entry-size-requires : tie.Need-entry-size-requires
+entry-size-requires c κs = search needs
+
+mul-end : tie.Need-mul-end
+mul-end c = omega (arith, same c, c .before .before .pre)
+
+add-end : tie.Need-add-end
+add-end c = omega (arith, same c, c .before .before .pre)
+
+sub-entries-allowed : tie.Need-sub-entries-allowed
+sub-entries-allowed c = search needs
+
+part-entries-allowed-start : tie.Need-part-entries-allowed-start
+part-entries-allowed-start c = search needs
+
+part-entries-allowed-end : tie.Need-part-entries-allowed-end
+part-entries-allowed-end c = omega (arith, same c, c .before .before .pre)
+
+entries-allowed-requires : tie.Need-entries-allowed-requires
+entries-allowed-requires c κs = search needs
+
+enum-told : tie.Need-enum-told
+enum-told c = search needs
+
+enum-known-x : tie.Need-enum-known-x
+enum-known-x c = search needs
+
+-- the place of the entry that is at fault
+place : (c : tie.After-known-told) → c .before .before .before .before .before .before .before .args .from + c .before .before .before .before .before .entry-size .result * c .before .x .given .0 .0 ≤ length (now (c .before .before .before .before .before .before .before .args .o))
+place c =
+    let a = c .before .before .before .before .before .before .before .args in
+    rw (c .before .before .before .before .before .entry-size .ensures)
+    (bad-there (a .kind) (now (a .o)) (a .from) (a .count) (c .before .before .before .before .before .before .before .pre) (found (c .before .before .before)) (c .before .x .given .1))
+
+mul-t14 : tie.Need-mul-t14
+mul-t14 c = omega (arith, place c)
+
+add-t15 : tie.Need-add-t15
+add-t15 c = omega (arith, place c)
+
+returns : tie.Need-returns
+unfolding sectionBy
+returns c =
+    let a = c .before .before .before .before .before .before .args in
+    entries-sound (a .kind) (now (a .o)) (a .from) (a .count) (c .before .before .before .before .before .before .pre) (found (c .before .before)) (c .enum-told .given .1)
+
+returns-2 : tie.Need-returns-2
+unfolding sectionBy
+returns-2 c =
+    let a = c .before .before .before .before .before .before .before .args in
+    rw (c .before .before .before .before .before .entry-size .ensures)
+    (entries-bad (a .kind) (now (a .o)) (a .from) (a .count) (c .before .before .before .before .before .before .before .pre) (found (c .before .before .before)) (c .before .x .given .1))
+
+pub check-entries-spec : {M : Type 1} → statement M
+check-entries-spec =
+    tie.close
+    (tie.spec
+    entry-size-requires
+    mul-end
+    add-end
+    sub-entries-allowed
+    part-entries-allowed-start
+    part-entries-allowed-end
+    entries-allowed-requires
+    enum-told
+    enum-known-x
+    mul-t14
+    add-t15
+    returns
+    returns-2)

@@ -1,0 +1,66 @@
+-- `sections::check_header` meets its contract: the tests are those of the definition, in its order.
+-- Assumes nothing.
+use mathlib.Core.Path.{sym, _∙_}
+use denote.Ref.{now}
+use borrow.Author.Tests.{not-false}
+use borrow.Author.Needs.{needs}
+use Rattle.format.specs.Family.{ipv4}
+use Rattle.sections.specs.Layout.{base}
+use Rattle.sections.specs.Checking.{checkedBy}
+use Rattle.sections.proofs.Header.{header-short, header-counts, header-offsets, header-fine}
+use Rattle.sections.proofs.check_header.Statement.{statement}
+use Rattle.sections.proofs.check_header.Tie as tie
+
+refused-requires : tie.Need-refused-requires
+refused-requires c κs = search needs
+
+returns : tie.Need-returns
+returns c = c .refused .ensures ∙ sym (header-short base ipv4 (now (c .before .before .before .args .o)) (c .before .if1 .taken))
+
+counts-in-requires : tie.Need-counts-in-requires
+counts-in-requires c κs = search needs
+
+counts-allowed-requires : tie.Need-counts-allowed-requires
+counts-allowed-requires c κs = search needs
+
+refused-requires-2 : tie.Need-refused-requires-2
+refused-requires-2 c κs = search needs
+
+returns-2 : tie.Need-returns-2
+returns-2 c =
+    c .refused2 .ensures
+    ∙ sym (header-counts base ipv4 (now (c .before .before .before .before .before .before .args .o)) (c .before .before .before .counts-in .ensures) (c .before .before .before .before .if1 .left)
+    (c .before .before .counts-allowed .ensures) (c .before .if2 .taken))
+
+offsets-agree-requires : tie.Need-offsets-agree-requires
+offsets-agree-requires c κs = sym (c .before .counts-allowed .ensures) ∙ not-false _ (c .if2 .left)
+
+refused-requires-3 : tie.Need-refused-requires-3
+refused-requires-3 c κs = search needs
+
+returns-3 : tie.Need-returns-3
+returns-3 c =
+    c .refused3 .ensures
+    ∙ sym (header-offsets base ipv4 (now (c .before .before .before .before .before .before .before .before .args .o)) (c .before .before .before .before .before .counts-in .ensures) (c .before .before .before .before .before .before .if1 .left)
+    (c .before .before .before .before .counts-allowed .ensures) (c .before .before .before .if2 .left) (c .before .before .offsets-agree .ensures) (c .before .if3 .taken))
+
+returns-4 : tie.Need-returns-4
+unfolding checkedBy
+returns-4 c =
+    sym (header-fine base ipv4 (now (c .before .before .before .before .before .before .before .args .o)) (c .before .before .before .before .counts-in .ensures) (c .before .before .before .before .before .if1 .left)
+    (c .before .before .before .counts-allowed .ensures) (c .before .before .if2 .left) (c .before .offsets-agree .ensures) (c .if3 .left))
+
+pub check-header-spec : {M : Type 1} → statement M
+check-header-spec =
+    tie.close
+    (tie.spec
+    refused-requires
+    returns
+    counts-in-requires
+    counts-allowed-requires
+    refused-requires-2
+    returns-2
+    offsets-agree-requires
+    refused-requires-3
+    returns-3
+    returns-4)

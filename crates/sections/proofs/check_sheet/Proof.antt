@@ -1,0 +1,65 @@
+-- `sections::check_sheet` meets its contract: the header, then the sections.
+-- Assumes nothing.
+use mathlib.Core.Path.{_∙_}
+use denote.Ref.{now}
+use borrow.Author.Needs.{needs}
+use Rattle.format.specs.Family.{ipv4}
+use Rattle.sections.specs.Layout.{base}
+use Rattle.sections.specs.Checking.{checkedBy}
+use Rattle.sections.proofs.Header.{header-end}
+use Rattle.sections.proofs.Checks.{header-gives, sheet-header, sheet-fault, sheet-sound}
+use Rattle.sections.proofs.check_sheet.Statement.{statement}
+use Rattle.sections.proofs.check_sheet.Tie as tie
+
+check-header-requires : tie.Need-check-header-requires
+check-header-requires c κs = search needs
+
+enum-known-x : tie.Need-enum-known-x
+enum-known-x c = search needs
+
+enum-told : tie.Need-enum-told
+enum-told c = search needs
+
+returns : tie.Need-returns
+returns c = sheet-header base ipv4 (now (c .before .before .before .before .args .o)) (c .before .before .check-header .ensures) (c .enum-told .given .1)
+
+check-sections-requires : tie.Need-check-sections-requires
+check-sections-requires c κs =
+    let o = now (c .before .before .before .before .before .args .o) in
+    header-end base ipv4 o _ (header-gives base ipv4 o (c .before .before .before .check-header .ensures) (c .before .x .given .1))
+
+enum-told-2 : tie.Need-enum-told-2
+enum-told-2 c = search needs
+
+enum-known-s : tie.Need-enum-known-s
+enum-known-s c = search needs
+
+refused-requires : tie.Need-refused-requires
+refused-requires c κs = search needs
+
+returns-2 : tie.Need-returns-2
+unfolding checkedBy
+returns-2 c =
+    sheet-sound base ipv4 (now (c .before .before .before .before .before .before .before .before .args .o)) (c .before .before .before .before .before .before .check-header .ensures) (c .before .before .before .before .x .given .1)
+    (c .before .before .check-sections .ensures) (c .enum-told2 .given .1)
+
+returns-3 : tie.Need-returns-3
+returns-3 c =
+    c .refused .ensures
+    ∙ sheet-fault base ipv4 (now (c .before .before .before .before .before .before .before .before .before .before .args .o)) (c .before .before .before .before .before .before .before .before .check-header .ensures) (c .before .before .before .before .before .before .x .given .1)
+    (c .before .before .before .before .check-sections .ensures) (c .before .before .s .given .1)
+
+pub check-sheet-spec : {M : Type 1} → statement M
+check-sheet-spec =
+    tie.close
+    (tie.spec
+    check-header-requires
+    enum-known-x
+    enum-told
+    returns
+    check-sections-requires
+    enum-told-2
+    enum-known-s
+    refused-requires
+    returns-2
+    returns-3)

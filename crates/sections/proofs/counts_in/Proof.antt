@@ -1,0 +1,28 @@
+-- `sections::counts_in` meets its contract, count by count.
+-- Assumes nothing.
+use denote.Ref.{now}
+use borrow.Author.Needs.{needs}
+use Rattle.sections.proofs.Header.{counts-are}
+use Rattle.sections.proofs.counts_in.Statement.{statement}
+use Rattle.sections.proofs.counts_in.Tie as tie
+
+number16-requires : tie.Need-number16-requires
+number16-requires c κs = search needs
+
+number16-requires-2 : tie.Need-number16-requires-2
+number16-requires-2 c κs = search needs
+
+number16-requires-3 : tie.Need-number16-requires-3
+number16-requires-3 c κs = search needs
+
+returns : tie.Need-returns
+returns c = counts-are (now (c .before .before .before .before .args .o)) (c .before .before .number16 .ensures) (c .before .number162 .ensures) (c .number163 .ensures)
+
+pub counts-in-spec : {M : Type 1} → statement M
+counts-in-spec =
+    tie.close
+    (tie.spec
+    number16-requires
+    number16-requires-2
+    number16-requires-3
+    returns)

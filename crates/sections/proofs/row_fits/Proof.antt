@@ -1,0 +1,85 @@
+-- `sections::row_fits` meets its contract: its form, the row, the rows before it.
+-- Assumes nothing.
+use mathlib.Core.Path.{refl, sym, _∙_}
+use Prim.Native.Nat.{_+_, _*_}
+use native.Mathlib.Omega.{arith}
+use denote.Ref.{now}
+use borrow.Author.Needs.{needs}
+use Rattle.format.specs.Family.{ipv4}
+use Rattle.sections.specs.Sections.{earlierRows}
+use Rattle.sections.proofs.Rows.{fits-flags, fits-zero, fits-not, fits-is}
+use Rattle.sections.proofs.row_fits.Statement.{statement}
+use Rattle.sections.proofs.row_fits.Tie as tie
+
+mul-at : tie.Need-mul-at
+mul-at c = search needs
+
+add-at : tie.Need-add-at
+add-at c = search needs
+
+add-number8 : tie.Need-add-number8
+add-number8 c = search needs
+
+number8-requires : tie.Need-number8-requires
+number8-requires c κs = search needs
+
+returns : tie.Need-returns
+returns c =
+    let a = c .before .before .before .args in
+    fits-flags (now (a .o)) (a .from + 12 * a .i) (earlierRows ipv4 (now (a .o)) (a .from) (a .i)) (c .before .number8 .ensures) refl (c .if1 .taken)
+
+add-number8-2 : tie.Need-add-number8-2
+add-number8-2 c = search needs
+
+number8-requires-2 : tie.Need-number8-requires-2
+number8-requires-2 c κs = search needs
+
+returns-2 : tie.Need-returns-2
+returns-2 c =
+    let a = c .before .before .before .before .before .args in
+    fits-zero (now (a .o)) (a .from + 12 * a .i) (earlierRows ipv4 (now (a .o)) (a .from) (a .i))
+    (c .before .before .before .number8 .ensures) (c .before .number82 .ensures) (c .before .before .if1 .left) (c .if2 .taken)
+
+row-at-requires : tie.Need-row-at-requires
+row-at-requires c κs = search needs
+
+is-allowed-requires : tie.Need-is-allowed-requires
+is-allowed-requires c κs = search needs
+
+is-earlier-requires : tie.Need-is-earlier-requires
+is-earlier-requires c κs = omega (arith, c .before .before .before .before .before .before .before .before .pre)
+
+returns-3 : tie.Need-returns-3
+returns-3 c =
+    let a = c .before .before .before .before .before .before .before .before .before .args in
+    fits-is (now (a .o)) (a .from + 12 * a .i) (earlierRows ipv4 (now (a .o)) (a .from) (a .i))
+    (c .before .before .before .before .before .before .before .number8 .ensures) (c .before .before .before .before .before .number82 .ensures) (c .before .before .before .before .before .before .if1 .left) (c .before .before .before .before .if2 .left)
+    (c .before .before .before .row-at .ensures)
+    (sym (c .before .before .is-allowed .ensures) ∙ c .before .if3 .taken)
+    (c .is-earlier .ensures)
+
+returns-4 : tie.Need-returns-4
+returns-4 c =
+    let a = c .before .before .before .before .before .before .before .before .args in
+    fits-not (now (a .o)) (a .from + 12 * a .i) (earlierRows ipv4 (now (a .o)) (a .from) (a .i))
+    (c .before .before .before .before .before .before .number8 .ensures) (c .before .before .before .before .number82 .ensures) (c .before .before .before .before .before .if1 .left) (c .before .before .before .if2 .left)
+    (c .before .before .row-at .ensures)
+    (sym (c .before .is-allowed .ensures) ∙ c .if3 .left)
+
+pub row-fits-spec : {M : Type 1} → statement M
+row-fits-spec =
+    tie.close
+    (tie.spec
+    mul-at
+    add-at
+    add-number8
+    number8-requires
+    returns
+    add-number8-2
+    number8-requires-2
+    returns-2
+    row-at-requires
+    is-allowed-requires
+    is-earlier-requires
+    returns-3
+    returns-4)

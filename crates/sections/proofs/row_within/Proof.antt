@@ -1,0 +1,55 @@
+-- `sections::row_within` meets its contract, field by field.
+-- Assumes nothing.
+use Prim.Native.Nat.{_+_}
+use native.Mathlib.Omega.{arith}
+use denote.Ref.{now}
+use borrow.Author.Needs.{needs}
+use Rattle.format.proofs.Entries.{numberAt-lt}
+use Rattle.sections.proofs.Rows.{row-is}
+use Rattle.sections.proofs.row_within.Statement.{statement}
+use Rattle.sections.proofs.row_within.Tie as tie
+
+add-number8 : tie.Need-add-number8
+add-number8 c = search needs
+
+number8-requires : tie.Need-number8-requires
+number8-requires c κs = search needs
+
+number32-requires : tie.Need-number32-requires
+number32-requires c κs = search needs
+
+add-number32 : tie.Need-add-number32
+add-number32 c = search needs
+
+number32-requires-2 : tie.Need-number32-requires-2
+number32-requires-2 c κs = search needs
+
+add-number16 : tie.Need-add-number16
+add-number16 c = search needs
+
+number16-requires : tie.Need-number16-requires
+number16-requires c κs = search needs
+
+cast-t14 : tie.Need-cast-t14
+cast-t14 c =
+    let s = c .before .before .before .before in
+    omega (arith, c .number16 .ensures, numberAt-lt 2 (now (s .before .args .o)) (s .before .args .at + 10) (λ i. s .shared-slice-known .given i .fits))
+
+returns : tie.Need-returns
+returns c =
+    let a = c .before .before .before .before .before .args in
+    row-is (now (a .o)) (a .at) (c .before .before .number32 .ensures) (c .before .number322 .ensures) (c .before .before .before .number8 .ensures) (c .number16 .ensures)
+
+pub row-within-spec : {M : Type 1} → statement M
+row-within-spec =
+    tie.close
+    (tie.spec
+    add-number8
+    number8-requires
+    number32-requires
+    add-number32
+    number32-requires-2
+    add-number16
+    number16-requires
+    cast-t14
+    returns)

@@ -1,0 +1,90 @@
+-- A sheet is checked "in the order: header there, counts, offsets and end (place 0); then entries in octet order (place: the entry's first octet)".
+-- "Any fault is 14."
+--     fault                            14 at a place, if a test holds
+--     countsIn, offsetsAgree           what the header says
+--     checkHeader                      the header: its counts
+--     checkEntries                     n entries from a place on
+--     rowForm, rowFits, checkRows      n rows from a place on, of which none has the address of an earlier one
+--     checking                         the call
+--     checkedBy                        01's number and values for each case of an answer
+-- Assumes nothing: these are definitions.
+use Prim.Native.Nat.{ℕ, zero, suc, _+_, _*_}
+use mathlib.Core.Bool.{Bool, not, _&&_}
+use mathlib.Core.List.{List, [], _∷_}
+use lib.ListN.{length}
+use lib.Dec.{eqb, leb, ltb}
+use Rattle.octets.specs.Octets.{numberAt}
+use Rattle.format.specs.Outcome.{Outcome, gives, refuses, refuseIf, _>>=_, _>>_}
+use Rattle.format.specs.Family.{Family}
+use Rattle.format.specs.Entry.{Entries}
+use Rattle.neighbours.specs.Rows.{allowed, has}
+use Rattle.neighbours.specs.declared.Neighbour.{Neighbour}
+use Rattle.sections.specs.Layout.{Layout, assertsIn, pairsIn, rowSize, headerSize, pairsFrom, rowsFrom, end}
+use Rattle.sections.specs.Contents.{flagsAt, rowAt}
+use Rattle.sections.specs.declared.Counts.{Counts}
+use Rattle.sections.specs.declared.Checked.{Checked}
+use Rattle.sections.specs.declared.Checked.the-variants.{Valid, Refused}
+
+unfoldable pub fault : Bool → ℕ → Outcome (Unit {0})
+fault test place = refuseIf test 14 place
+
+-- ---- the header
+
+unfoldable pub countsIn : Layout → List ℕ → Counts
+countsIn L o = record {
+  asserts = numberAt (L .width) o 0;
+  pairs = numberAt (L .width) o (2 * L .width);
+  neighbours = numberAt (L .width) o (4 * L .width);
+}
+
+unfoldable pub countsAllowed : Layout → Counts → Bool
+countsAllowed L c = leb (c .asserts) (L .assertLimit) && (leb (c .pairs) (L .pairLimit) && leb (c .neighbours) (L .rowLimit))
+
+-- "in that order, without gaps, to the end"
+unfoldable pub offsetsAgree : Layout → Family → List ℕ → Counts → Bool
+offsetsAgree L f o c =
+    eqb (numberAt (L .width) o (L .width)) (headerSize L)
+    && (eqb (numberAt (L .width) o (3 * L .width)) (pairsFrom L f c)
+    && (eqb (numberAt (L .width) o (5 * L .width)) (rowsFrom L f c)
+    && eqb (length o) (end L f c)))
+
+unfoldable pub checkHeader : Layout → Family → List ℕ → Outcome Counts
+checkHeader L f o = do
+  fault (ltb (length o) (headerSize L)) 0
+  fault (not (countsAllowed L (countsIn L o))) 0
+  fault (not (offsetsAgree L f o (countsIn L o))) 0
+  gives (countsIn L o)
+
+-- ---- the sections
+
+unfoldable pub checkEntries : Entries → List ℕ → ℕ → ℕ → Outcome (Unit {0})
+checkEntries E o at zero = gives tt
+checkEntries E o at (suc n) = do
+  fault (not (E .allowed (E .entryAt o at))) at
+  checkEntries E o (at + E .size) n
+
+-- "Other flags are refused", "a zero octet"
+unfoldable pub rowForm : Family → List ℕ → ℕ → Bool
+rowForm f o at = ltb (flagsAt f o at) 4 && eqb (numberAt 1 o (at + f .width + 5)) 0
+
+-- "no neighbour address 0 or twice": of two rows the later is at fault
+unfoldable pub rowFits : Family → List ℕ → ℕ → List Neighbour → Bool
+rowFits f o at earlier = rowForm f o at && (allowed (rowAt f o at) && not (has (rowAt f o at .address) earlier))
+
+unfoldable pub checkRows : Family → List ℕ → List Neighbour → ℕ → ℕ → Outcome (Unit {0})
+checkRows f o earlier at zero = gives tt
+checkRows f o earlier at (suc n) = do
+  fault (not (rowFits f o at earlier)) at
+  checkRows f o (rowAt f o at ∷ earlier) (at + rowSize f) n
+
+unfoldable pub checking : Layout → Family → List ℕ → Outcome Counts
+checking L f o = do
+  c ← checkHeader L f o
+  checkEntries (assertsIn f) o (headerSize L) (c .asserts)
+  checkEntries (pairsIn f) o (pairsFrom L f c) (c .pairs)
+  checkRows f o [] (rowsFrom L f c) (c .neighbours)
+  gives c
+
+unfoldable pub checkedBy : Checked → Outcome Counts
+checkedBy (Valid c) = gives c
+checkedBy (Refused r) = refuses (r .number) (r .place)

@@ -1,0 +1,216 @@
+-- A sheet that passes the check, read and written again, gives the same octets.
+--     at-part, part-from        octets of a sheet from a place on
+--     Checks, checked           what the check asked of a sheet
+--     Header, header-parts      and of its header
+--     sheet-again               the sheet of its contents is the sheet
+--     again                     so writing them gives it back
+--     read-writes-back          for 01's sheet
+--     sizes                     the parts of a sheet that passes the check lie in it
+-- Assumes nothing.
+use Prim.Native.Nat.{ℕ, _+_, _*_, _/_, _%_, _≤_, _<_}
+use native.Mathlib.Nat.{mul-div-right, mul-mod-right}
+use native.Mathlib.Omega.{arith}
+use mathlib.Core.Path.{_≡_, refl, sym, ap, subst, _∙_}
+use mathlib.Core.Bool.{true}
+use mathlib.Core.List.{List, [], _++_, append-assoc, append-nil}
+use borrow.Author.Tests.{not-false, eqb-true, ltb-false, le-ltb, eq-eqb}
+use lib.Dec.{lit<, lit≤}
+use lib.ListN.{length, take, drop, length-drop, take-append-drop}
+use lib.Seq.{length-take-le, drop-drop, drop-length}
+use Rattle.octets.specs.Octets.{Octets}
+use Rattle.format.specs.Outcome
+use Rattle.format.specs.Outcome.{Outcome, gives, refuseIf}
+use Rattle.format.specs.Family.{Family, ipv4}
+use Rattle.format.specs.Entry.{Entries, count, whole, entriesOf}
+use Rattle.format.specs.Packing.{firstBad}
+use Rattle.format.specs.Record.{each}
+use Rattle.format.proofs.Outcomes.{gives-same, bind-gives, then-gives, unless-gives}
+use Rattle.format.proofs.Readers.{At}
+use Rattle.format.proofs.Calls.{every-allowed}
+use Rattle.neighbours.specs.Rows.{most, used, valid, tableOf}
+use Rattle.neighbours.proofs.Tables.{and-true}
+use Rattle.neighbours.proofs.Kept.{used-of, valid-of}
+use Rattle.sections.specs.Layout.{Layout, base, assertsIn, pairsIn, rowSize, headerSize, pairsFrom, rowsFrom, end, headerOctets}
+use Rattle.sections.specs.Contents.{Contents, rowOctets, countsOf, contentsAt, sheetOctets}
+use Rattle.sections.specs.Checking.{fault, countsIn, countsAllowed, offsetsAgree, checkHeader, checkEntries, checkRows, checking}
+use Rattle.sections.specs.declared.Counts.{Counts}
+use Rattle.sections.proofs.Header.{counts-within}
+use Rattle.sheet.specs.Calls.{contentsOf, atZero, asked}
+use Rattle.sheet.proofs.Places.{Local, asserts-local, pairs-local, check-every, number-from}
+use Rattle.sheet.proofs.Rows.{length-rowsAt, rows-sheet, rows-from}
+use Rattle.sheet.proofs.Written.{Offsets}
+
+-- ---- parts of a sheet
+
+at-part : (o : List ℕ) (at k : ℕ) → at + k ≤ length o → At o at (take k (drop at o))
+at-part o at k h =
+    let long : length (take k (drop at o)) ≡ k = length-take-le k (drop at o) (simp length-drop (omega arith)) in
+    record { stands = rw long; fits = omega arith }
+
+part-from : (o : List ℕ) (k at p : ℕ) {x : List ℕ} → p ≡ at + k → drop p o ≡ x → drop at o ≡ take k (drop at o) ++ x
+part-from o k at p e r = rw (← r, e, ← drop-drop k at o) (sym (take-append-drop k (drop at o)))
+
+-- ---- what the check asked
+
+pub record Checks (L : Layout) (f : Family) (o : List ℕ) (c : Counts) : Type 0 where
+  pub header : checkHeader L f o ≡ gives c
+  pub asserts : checkEntries (assertsIn f) o (headerSize L) (c .asserts) ≡ gives tt
+  pub pairs : checkEntries (pairsIn f) o (pairsFrom L f c) (c .pairs) ≡ gives tt
+  pub rows : checkRows f o [] (rowsFrom L f c) (c .neighbours) ≡ gives tt
+
+pub checked : (L : Layout) (f : Family) (o : List ℕ) (c : Counts) → checking L f o ≡ gives c → Checks L f o c
+unfolding checking
+checked L f o c e =
+    bind-gives (checkHeader L f o) _ c e (λ a header e1.
+    then-gives (checkEntries (assertsIn f) o (headerSize L) (a .asserts)) _ c e1 (λ u asserts e2.
+    then-gives (checkEntries (pairsIn f) o (pairsFrom L f a) (a .pairs)) _ c e2 (λ v pairs e3.
+    then-gives (checkRows f o [] (rowsFrom L f a) (a .neighbours)) _ c e3 (λ w rows e4.
+    subst (λ (x : Counts). Checks L f o x) (gives-same e4) (record { header = header; asserts = asserts; pairs = pairs; rows = rows })))))
+
+record Header (L : Layout) (f : Family) (o : List ℕ) (c : Counts) : Type 0 where
+  there : headerSize L ≤ length o
+  counts : countsIn L o ≡ c
+  allowed : countsAllowed L c ≡ true
+  agree : offsetsAgree L f o c ≡ true
+
+header-parts : (L : Layout) (f : Family) (o : List ℕ) (c : Counts) → checkHeader L f o ≡ gives c → Header L f o c
+unfolding checkHeader fault
+header-parts L f o c e =
+    unless-gives _ 14 0 _ c e (λ short e1.
+    unless-gives _ 14 0 _ c e1 (λ over e2.
+    unless-gives _ 14 0 _ c e2 (λ apart e3.
+    let is : countsIn L o ≡ c = gives-same e3 in
+    record {
+      there = ltb-false _ _ short;
+      counts = is;
+      allowed = rw is at (not-false (countsAllowed L (countsIn L o)) over);
+      agree = rw is at (not-false (offsetsAgree L f o (countsIn L o)) apart);
+    })))
+
+module _ (L : Layout) (f : Family) (o : List ℕ) (c : Counts) (h : Header L f o c) where
+  agreed : Offsets L f o c × (length o ≡ end L f c)
+  unfolding offsetsAgree
+  agreed =
+      let a = and-true _ _ (h .agree) in
+      let b = and-true _ _ (a .1) in
+      let d = and-true _ _ (b .1) in
+      ((eqb-true _ _ (a .0), eqb-true _ _ (b .0), eqb-true _ _ (d .0)), eqb-true _ _ (d .1))
+
+  ends : length o ≡ end L f c
+  ends = agreed .1
+
+  header-from : Octets o → {x : List ℕ} → drop (headerSize L) o ≡ x → o ≡ headerOctets L f c ++ x
+  unfolding headerOctets countsIn
+  header-from octets {x} r =
+      let w : ℕ = L .width in
+      let there : 6 * w ≤ length o = h .there in
+      simp append-assoc
+      (number-from o octets w (c .asserts) 0 w (ap (λ (n : Counts). n .asserts) (sym (h .counts))) (omega arith) (omega arith)
+      (number-from o octets w (headerSize L) w (2 * w) (sym (agreed .0 .0)) (omega arith) (omega arith)
+      (number-from o octets w (c .pairs) (2 * w) (3 * w) (ap (λ (n : Counts). n .pairs) (sym (h .counts))) (omega arith) (omega arith)
+      (number-from o octets w (pairsFrom L f c) (3 * w) (4 * w) (sym (agreed .0 .1)) (omega arith) (omega arith)
+      (number-from o octets w (c .neighbours) (4 * w) (5 * w) (ap (λ (n : Counts). n .neighbours) (sym (h .counts))) (omega arith) (omega arith)
+      (number-from o octets w (rowsFrom L f c) (5 * w) (6 * w) (sym (agreed .0 .2)) (omega arith) (omega arith) r))))))
+
+-- ---- the sheet
+
+-- n entries that stand in a sheet are a whole list of n allowed ones
+record Listed (E : Entries) (e : List ℕ) (n : ℕ) : Type 0 where
+  isWhole : whole E e ≡ true
+  many : count E e ≡ n
+  fine : firstBad (E .allowed) 0 (entriesOf E e) ≡ gives tt
+
+listed : (E : Entries) → Local E → 0 < E .size → (o : List ℕ) (at n : ℕ) → at + E .size * n ≤ length o → checkEntries E o at n ≡ gives tt
+    → Listed E (take (E .size * n) (drop at o)) n
+unfolding whole count entriesOf
+listed E loc some o at n h g =
+    let e : List ℕ = take (E .size * n) (drop at o) in
+    let long : length e ≡ E .size * n = length-take-le (E .size * n) (drop at o) (simp length-drop (omega arith)) in
+    let many : length e / E .size ≡ n = rw long (mul-div-right n some) in
+    record {
+      isWhole = eq-eqb (length e % E .size) 0 (rw long (mul-mod-right (E .size) n));
+      many = many;
+      fine = rw many (every-allowed (E .allowed) 0 _ (check-every E loc e (at-part o at (E .size * n) h) n 0 (omega arith) (omega arith) g));
+    }
+
+-- of a family with addresses, and a layout with no more rows than a table
+module _ (L : Layout) (f : Family) (some : 0 < f .width) (few : L .rowLimit ≤ most) (o : List ℕ) (octets : Octets o) (c : Counts) (checks : Checks L f o c) where
+  abbrev these : Contents
+  these = contentsAt L f o c
+
+  abbrev again : Contents
+  again = contentsOf (contentsAt L f o c .asserts) (contentsAt L f o c .pairs) (tableOf (contentsAt L f o c .rows))
+
+  header : Header L f o c
+  header = header-parts L f o c (checks .header)
+
+  fits : rowsFrom L f c ≤ length o
+  unfolding end
+  fits = omega (arith, ends L f o c header)
+
+  asserts-listed : Listed (assertsIn f) (these .asserts) (c .asserts)
+  unfolding contentsAt rowsFrom pairsFrom
+  asserts-listed = listed (assertsIn f) (asserts-local f) (omega arith) o (headerSize L) (c .asserts) (omega (arith, fits)) (checks .asserts)
+
+  pairs-listed : Listed (pairsIn f) (these .pairs) (c .pairs)
+  unfolding contentsAt rowsFrom
+  pairs-listed = listed (pairsIn f) (pairs-local f) (omega arith) o (pairsFrom L f c) (c .pairs) (omega (arith, fits)) (checks .pairs)
+
+  few-rows : length (these .rows) ≤ most
+  unfolding contentsAt
+  few-rows = rw (length-rowsAt f o (rowsFrom L f c) (c .neighbours)) (omega (arith, counts-within L c (header .allowed) .2))
+
+  table-valid : valid (tableOf (these .rows)) ≡ true
+  unfolding contentsAt
+  table-valid = valid-of (these .rows) few-rows (rows-sheet f o (c .neighbours) [] (rowsFrom L f c) (checks .rows) .0)
+
+  counts-again : countsOf f again ≡ c
+  unfolding countsOf contentsOf contentsAt
+  counts-again =
+      let a = asserts-listed .many in
+      let p = pairs-listed .many in
+      let r : length (used (tableOf (these .rows))) ≡ c .neighbours = ap length (used-of (these .rows)) ∙ length-rowsAt f o (rowsFrom L f c) (c .neighbours) in
+      λ i. record { asserts = a i; pairs = p i; neighbours = r i }
+
+  pairs-start : pairsFrom L f c ≡ headerSize L + assertsIn f .size * c .asserts
+  unfolding pairsFrom
+  pairs-start = refl
+
+  rows-start : rowsFrom L f c ≡ pairsFrom L f c + pairsIn f .size * c .pairs
+  unfolding rowsFrom
+  rows-start = refl
+
+  rows-end : length o ≡ rowsFrom L f c + rowSize f * c .neighbours
+  unfolding end
+  rows-end = ends L f o c header
+
+  pub sheet-again : sheetOctets L f again ≡ o
+  unfolding sheetOctets contentsOf contentsAt
+  sheet-again =
+      let rows : drop (rowsFrom L f c) o ≡ each (rowOctets f) (these .rows) ++ [] =
+      rows-from f o octets (c .neighbours) [] (rowsFrom L f c) {p = length o} rows-end (omega arith) (checks .rows) (drop-length o) in
+      rw (counts-again, used-of (these .rows))
+      (sym (header-from L f o c header octets
+      (part-from o (assertsIn f .size * c .asserts) (headerSize L) (pairsFrom L f c) pairs-start
+      (part-from o (pairsIn f .size * c .pairs) (pairsFrom L f c) (rowsFrom L f c) rows-start
+      (rw append-nil at rows)))))
+
+  pub writes-again : (room : ℕ) → length o ≤ room → asked L f (these .asserts) (these .pairs) (tableOf (these .rows)) room ≡ gives o
+  unfolding asked atZero refuseIf Outcome._>>_
+  writes-again room h =
+      let a = asserts-listed in
+      let p = pairs-listed in
+      rw (a .isWhole, p .isWhole, counts-again, header .allowed, table-valid, sheet-again, le-ltb room (length o) h, a .fine, p .fine)
+
+pub read-writes-back : (o : List ℕ) → Octets o → (c : Counts) → checking base ipv4 o ≡ gives c → (room : ℕ) → length o ≤ room
+    → asked base ipv4 (contentsAt base ipv4 o c .asserts) (contentsAt base ipv4 o c .pairs) (tableOf (contentsAt base ipv4 o c .rows)) room ≡ gives o
+read-writes-back o octets c e room h = writes-again base ipv4 (lit< tt) (lit≤ tt) o octets c (checked base ipv4 o c e) room h
+
+-- ---- for code: the parts of a sheet that passes the check lie in it
+
+pub sizes : (o : List ℕ) (c : Counts) → checking base ipv4 o ≡ gives c
+    → (c .neighbours ≤ 16) × (12 + 16 * c .asserts + 8 * c .pairs + 12 * c .neighbours ≡ length o)
+unfolding end rowsFrom pairsFrom
+sizes o c e =
+    let h = header-parts base ipv4 o c (checked base ipv4 o c e .header) in
+    (counts-within base c (h .allowed) .2, sym (ends base ipv4 o c h))

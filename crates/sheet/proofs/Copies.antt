@@ -1,0 +1,160 @@
+-- Octets copied and numbers stored, as the code does it.
+--     copied-eight                      eight octets read one by one, then stored one by one
+--     Copying                           where a loop that copies stands: copying-start, copying-there, copying-next, copying-end
+--     flags-put                         flags and a zero octet, stored one by one
+--     row-put                           a row, written in four steps
+--     Rowing                            where a loop that writes rows stands: rowing-start, rowing-there, rowing-next, rowing-end
+-- Assumes nothing.
+use Prim.Native.Nat.{ℕ, zero, suc, _+_, _*_, _%_, _≤_, _<_}
+use native.Mathlib.Nat.{add-zero, add-suc}
+use native.Mathlib.Omega.{arith}
+use mathlib.Core.Path.{_≡_, refl, sym, ap, _∙_}
+use mathlib.Core.Bool.{cond}
+use mathlib.Core.List.{List, [], _∷_, _++_, append-assoc, append-nil}
+use lib.Dec.{lit<}
+use lib.ListN.{length, getD, set, take, drop, length-drop, length-append}
+use lib.Seq.{take-add, take-all, take-suc, drop-drop, drop-cons, getD-take, length-take-le}
+use Rattle.octets.specs.Octets.{put, be}
+use Rattle.octets.proofs.Laws.{place, octetsFrom, stores, stores-put, taken-be, put-nil, put-next, length-put, length-be}
+use Rattle.format.specs.Family.{ipv4}
+use Rattle.format.specs.Record.{each}
+use Rattle.format.proofs.Lengths.{each-append}
+use Rattle.neighbours.specs.Rows.{used}
+use Rattle.neighbours.specs.declared.Neighbour.{Neighbour}
+use Rattle.neighbours.specs.declared.Table.{Table}
+use Rattle.neighbours.proofs.Rows.{used-long}
+use Rattle.reading.proofs.Copying.{put-number-next}
+use Rattle.sections.specs.Contents.{rowOctets}
+use Rattle.sheet.proofs.Rows.{length-row, length-rows}
+
+-- ---- octets copied
+
+from-part : (o : List ℕ) (at j k : ℕ) → at + j + k ≤ length o → octetsFrom o at j k ≡ take k (drop (at + j) o)
+from-part o at j zero h = refl
+from-part o at j (suc k) h =
+    let here : at + j < length o = omega arith in
+    let is : place at j ≡ at + j = go j in
+    rw (is, drop-cons o (at + j) 0 here, ← add-suc, from-part o at (suc j) k (omega arith))
+  where
+    go : (j : ℕ) → place at j ≡ at + j
+    go zero = sym (add-zero at)
+    go (suc j) = refl
+
+eight : (s : List ℕ) (from : ℕ) → from + 8 ≤ length s → octetsFrom s from 0 8 ≡ take 8 (drop from s)
+eight s from h = from-part s from 0 8 (omega arith) ∙ ap (λ x. take 8 (drop x s)) (add-zero from)
+
+pub copied-eight : (s : List ℕ) (from : ℕ) (d : List ℕ) (at : ℕ) → from + 8 ≤ length s → at + 8 ≤ length d
+    → stores d at 0 (octetsFrom s from 0 8) ≡ put d at (take 8 (drop from s))
+copied-eight s from d at h g = stores-put d at (octetsFrom s from 0 8) g ∙ ap (put d at) (eight s from h)
+
+-- after i of n octets
+pub record Copying (s : List ℕ) (from n : ℕ) (d₀ : List ℕ) (at : ℕ) (d : List ℕ) (i : ℕ) : Type 0 where
+  pub there : from + n ≤ length s
+  pub room : at + n ≤ length d₀
+  pub eights : n % 8 ≡ 0
+  pub turns : i % 8 ≡ 0
+  pub within : i ≤ n
+  pub same : length d ≡ length d₀
+  pub gives : d ≡ put d₀ at (take i (drop from s))
+
+pub copying-start : {s : List ℕ} {from n : ℕ} {d : List ℕ} {at : ℕ} → from + n ≤ length s → at + n ≤ length d → n % 8 ≡ 0
+    → Copying s from n d at d 0
+copying-start {d = d} {at} there room eights =
+    record { there = there; room = room; eights = eights; turns = refl; within = omega arith; same = refl; gives = sym (put-nil d at) }
+
+module _ {s : List ℕ} {from n : ℕ} {d₀ : List ℕ} {at : ℕ} {d : List ℕ} {i : ℕ} (c : Copying s from n d₀ at d i) where
+  pub copying-there : i < n → (from + i + 8 ≤ length s) × (at + i + 8 ≤ length d)
+  copying-there h = (omega (arith, c .there, c .eights, c .turns), omega (arith, c .room, c .eights, c .turns, c .same))
+
+  pub copying-next : {d′ : List ℕ} {i′ : ℕ} → i < n → d′ ≡ put d (at + i) (take 8 (drop (from + i) s)) → i′ ≡ i + 8 → Copying s from n d₀ at d′ i′
+  copying-next {d′} {i′} h p q =
+      let front : List ℕ = take i (drop from s) in
+      let next : List ℕ = take 8 (drop (from + i) s) in
+      let fits = copying-there h in
+      let long : length front ≡ i = length-take-le i (drop from s) (simp length-drop (omega (arith, fits .0))) in
+      let short : length next ≡ 8 = length-take-le 8 (drop (from + i) s) (simp length-drop (omega (arith, fits .0))) in
+      let joined : front ++ next ≡ take i′ (drop from s) = rw (q, take-add i 8 (drop from s), drop-drop i from s) in
+      record {
+        there = c .there;
+        room = c .room;
+        eights = c .eights;
+        turns = omega (arith, c .turns);
+        within = omega (arith, c .eights, c .turns, c .within);
+        same = ap length p ∙ (length-put d (at + i) next (omega (arith, short, fits .1)) ∙ c .same);
+        gives = put-next d₀ at front next (c .gives) p (omega (arith, long)) ∙ ap (put d₀ at) joined;
+      }
+
+  pub copying-end : n ≤ i → d ≡ put d₀ at (take n (drop from s))
+  copying-end h = let e : i ≡ n = omega (arith, c .within) in rw (← e) (c .gives)
+
+-- ---- a row
+
+pub flags-put : (d : List ℕ) (p q x : ℕ) → q ≡ p + 1 → p + 2 ≤ length d → x < 256 → set (set d p x) q 0 ≡ put d p (be 1 x ++ be 1 0)
+flags-put d p q x e h s = rw (e, ← taken-be 1 x s, ← taken-be 1 0 (lit< tt)) (stores-put d p (x ∷ 0 ∷ []) h)
+
+pub row-put : (n : Neighbour) (d : List ℕ) (at : ℕ) {d₁ d₂ d₃ d₄ : List ℕ} {p q r : ℕ}
+    → d₁ ≡ put d at (be 4 (n .address)) → d₂ ≡ put d₁ p (be 4 (n .priority))
+    → d₃ ≡ put d₂ q (be 1 (cond (n .«has_priority») 1 0 + cond (n .packs) 2 0) ++ be 1 0)
+    → d₄ ≡ put d₃ r (be 2 (n .holdtime)) → p ≡ at + 4 → q ≡ at + 8 → r ≡ at + 10
+    → d₄ ≡ put d at (rowOctets ipv4 n)
+unfolding rowOctets
+row-put n d at {d₁} {d₂} {d₃} {d₄} {p} {q} {r} a b f h ep eq er =
+    let flags : ℕ = cond (n .«has_priority») 1 0 + cond (n .packs) 2 0 in
+    let two : List ℕ = be 1 flags ++ be 1 0 in
+    let last : d₄ ≡ put d₂ q (two ++ be 2 (n .holdtime)) = put-next d₂ q two (be 2 (n .holdtime)) f h (omega (arith, length-two flags)) in
+    rw (append-assoc (be 1 flags) (be 1 0) (be 2 (n .holdtime))) at
+    (put-number-next 4 d at (n .address) (be 4 (n .priority) ++ (two ++ be 2 (n .holdtime))) a
+    (put-number-next 4 d₁ p (n .priority) (two ++ be 2 (n .holdtime)) b last (omega arith))
+    ep)
+  where
+    length-two : (x : ℕ) → length (be 1 x ++ be 1 0) ≡ 2
+    length-two x = simp (length-append, length-be)
+
+-- ---- rows one after another
+
+-- after i rows
+pub record Rowing (t : Table) (d₀ : List ℕ) (at : ℕ) (d : List ℕ) (i : ℕ) : Type 0 where
+  pub full : t .count ≤ length (t .rows)
+  pub room : at + 12 * t .count ≤ length d₀
+  pub within : i ≤ t .count
+  pub same : length d ≡ length d₀
+  pub gives : d ≡ put d₀ at (each (rowOctets ipv4) (take i (used t)))
+
+pub rowing-start : {t : Table} {d : List ℕ} {at : ℕ} → t .count ≤ length (t .rows) → at + 12 * t .count ≤ length d → Rowing t d at d 0
+unfolding each
+rowing-start {t} {d} {at} full room = record { full = full; room = room; within = omega arith; same = refl; gives = sym (put-nil d at) }
+
+module _ {t : Table} {d₀ : List ℕ} {at : ℕ} {d : List ℕ} {i : ℕ} (c : Rowing t d₀ at d i) where
+  pub rowing-there : i < t .count → at + 12 * i + 12 ≤ length d
+  rowing-there h = omega (arith, c .room, c .same)
+
+  pub rowing-next : {d′ : List ℕ} {i′ : ℕ} (z : Neighbour) → i < t .count
+      → d′ ≡ put d (at + 12 * i) (rowOctets ipv4 (getD (t .rows) i z)) → i′ ≡ i + 1 → Rowing t d₀ at d′ i′
+  unfolding each
+  rowing-next {d′} {i′} z h p q =
+      let n : Neighbour = getD (t .rows) i z in
+      let front : List Neighbour = take i (used t) in
+      let many : length (used t) ≡ t .count = used-long (t .rows) (t .count) (c .full) in
+      let long : length front ≡ i = length-take-le i (used t) (omega (arith, many)) in
+      let octets : length (each (rowOctets ipv4) front) ≡ 12 * i = length-rows ipv4 front ∙ ap (λ x. 12 * x) long in
+      let row : length (rowOctets ipv4 n) ≡ 12 = length-row ipv4 n in
+      let suc-i : i′ ≡ suc i = omega (arith, q) in
+      let more : take i′ (used t) ≡ front ++ (n ∷ []) =
+      ap (λ x. take x (used t)) suc-i ∙ (take-suc (used t) i z (omega (arith, many)) ∙ ap (λ x. front ++ (x ∷ [])) (getD-take (t .count) (t .rows) i z h)) in
+      let last : each (rowOctets ipv4) (front ++ (n ∷ [])) ≡ each (rowOctets ipv4) front ++ rowOctets ipv4 n =
+      each-append (rowOctets ipv4) front (n ∷ []) ∙ ap (λ x. each (rowOctets ipv4) front ++ x) (append-nil (rowOctets ipv4 n)) in
+      record {
+        full = c .full;
+        room = c .room;
+        within = omega (arith, q);
+        same = ap length p ∙ (length-put d (at + 12 * i) (rowOctets ipv4 n) (omega (arith, row, rowing-there h)) ∙ c .same);
+        gives =
+            put-next d₀ at (each (rowOctets ipv4) front) (rowOctets ipv4 n) (c .gives) p (omega (arith, octets))
+            ∙ ap (put d₀ at) (sym (ap (each (rowOctets ipv4)) more ∙ last));
+      }
+
+  pub rowing-end : t .count ≤ i → d ≡ put d₀ at (each (rowOctets ipv4) (used t))
+  rowing-end h =
+      let e : i ≡ t .count = omega (arith, c .within) in
+      let all : take i (used t) ≡ used t = take-all i (used t) (omega (arith, used-long (t .rows) (t .count) (c .full), h)) in
+      rw all at (c .gives)

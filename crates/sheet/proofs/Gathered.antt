@@ -1,0 +1,140 @@
+-- Reading a sheet, by the tests that code makes, and the loop that gathers its rows.
+--     Gathering                 where that loop stands: gathering-start, gathering-next, gathering-end
+--     checked-gives, checked-refuses      what the check answered
+--     read-bad, read-short, read-short-pairs, read-fine     what reading comes to: a fault, too little room, the lists and the table
+-- Assumes nothing.
+use Prim.Native.Nat.{ℕ, zero, suc, _+_, _-_, _*_, _≤_, _<_}
+use native.Mathlib.Nat.{mul-suc, add-zero, mul-zero}
+use native.Mathlib.Omega.{arith}
+use mathlib.Core.Path.{_≡_, refl, sym, ap, _∙_}
+use mathlib.Core.List.{List, [], _∷_, _++_}
+use borrow.Author.Tests.{lt-ltb, le-ltb}
+use lib.ListN.{length, take, drop, set, replicate, length-append, length-drop}
+use lib.Seq.{append-snoc, set-at, length-take-le}
+use Rattle.octets.specs.Octets.{put}
+use Rattle.format.specs.Outcome
+use Rattle.format.specs.Outcome.{Outcome, gives, refuses, refuseIf}
+use Rattle.format.specs.Family.{ipv4}
+use Rattle.format.specs.declared.Refusal.{Refusal}
+use Rattle.neighbours.specs.Rows.{most, noRow, tableOf}
+use Rattle.neighbours.specs.declared.Neighbour.{Neighbour}
+use Rattle.neighbours.specs.declared.Table.{Table}
+use Rattle.neighbours.proofs.Changes.{table-is}
+use Rattle.sections.specs.Layout.{base, pairsFrom, rowsFrom}
+use Rattle.sections.specs.Contents.{rowAt, rowsAt, contentsAt}
+use Rattle.sections.specs.Checking.{checking, checkedBy}
+use Rattle.sections.specs.declared.Counts.{Counts}
+use Rattle.sections.specs.declared.Checked.{Checked}
+use Rattle.sections.specs.declared.Checked.the-variants.{Valid, Refused}
+use Rattle.sheet.specs.Calls.{ReadingCall, roomFor, delivered, reading}
+use Rattle.sheet.proofs.Rows.{length-rowsAt}
+use Rattle.sheet.proofs.Again.{sizes}
+
+-- ---- rows gathered
+
+rows-snoc : (o : List ℕ) (i at : ℕ) → rowsAt ipv4 o at (suc i) ≡ rowsAt ipv4 o at i ++ (rowAt ipv4 o (at + 12 * i) ∷ [])
+unfolding rowsAt
+rows-snoc o zero at = rw (mul-zero 12, add-zero at)
+rows-snoc o (suc i) at =
+    let e : at + 12 + 12 * i ≡ at + 12 * suc i = omega (arith, mul-suc 12 i) in
+    ap (λ l. rowAt ipv4 o at ∷ l) (rows-snoc o i (at + 12) ∙ ap (λ p. rowsAt ipv4 o (at + 12) i ++ (rowAt ipv4 o p ∷ [])) e)
+
+-- a row more
+table-more : (l : List Neighbour) (r : Neighbour) (i : ℕ) → length l ≡ i → i < most
+    → record { rows = set (tableOf l .rows) i r; count = i + 1 } ≡ tableOf (l ++ (r ∷ []))
+unfolding tableOf
+table-more l r i e h =
+    let k : ℕ = most - i - 1 in
+    let one : most - length l ≡ suc k = omega arith in
+    let long : length (l ++ (r ∷ [])) ≡ i + 1 = length-append l (r ∷ []) ∙ ap (λ x. x + 1) e in
+    table-is (record { rows = set (tableOf l .rows) i r; count = i + 1 }) (l ++ (r ∷ [])) k
+    (ap (λ x. set (l ++ replicate x noRow) i r) one ∙ (set-at l noRow (replicate k noRow) r i e ∙ sym (append-snoc l r (replicate k noRow))))
+    refl (sym long) (omega arith)
+
+-- after i of n rows
+pub record Gathering (o : List ℕ) (at n : ℕ) (t : Table) (i : ℕ) : Type 0 where
+  pub few : n ≤ most
+  pub there : at + 12 * n ≤ length o
+  pub within : i ≤ n
+  pub is : t ≡ tableOf (rowsAt ipv4 o at i)
+
+pub gathering-start : {o : List ℕ} {at n : ℕ} {t : Table} → n ≤ most → at + 12 * n ≤ length o → t ≡ tableOf [] → Gathering o at n t 0
+unfolding rowsAt
+gathering-start few there e = record { few = few; there = there; within = omega arith; is = e }
+
+module _ {o : List ℕ} {at n : ℕ} {t : Table} {i : ℕ} (g : Gathering o at n t i) where
+  pub gathering-next : {r : Neighbour} {p i′ : ℕ} → i < n → r ≡ rowAt ipv4 o p → p ≡ at + 12 * i → i′ ≡ i + 1
+      → Gathering o at n (record { rows = set (t .rows) i r; count = i′ }) i′
+  gathering-next {r} {p} {i′} h e q j =
+      let next : suc i ≡ i′ = omega arith in
+      let long = length-rowsAt ipv4 o at i in
+      let more : rowsAt ipv4 o at i ++ (r ∷ []) ≡ rowsAt ipv4 o at (i + 1) =
+      ap (λ x. rowsAt ipv4 o at i ++ (x ∷ [])) (e ∙ ap (rowAt ipv4 o) q) ∙ (sym (rows-snoc o i at) ∙ ap (rowsAt ipv4 o at) (next ∙ j)) in
+      record {
+        few = g .few;
+        there = g .there;
+        within = omega arith;
+        is =
+            rw (g .is, j)
+            (table-more (rowsAt ipv4 o at i) r i long (omega (arith, g .few))
+            ∙ ap tableOf more);
+      }
+
+  pub gathering-end : n ≤ i → t ≡ tableOf (rowsAt ipv4 o at n)
+  gathering-end h = let e : i ≡ n = omega (arith, g .within) in g .is ∙ ap (λ x. tableOf (rowsAt ipv4 o at x)) e
+
+-- ---- what the check answered
+
+module _ (o : List ℕ) {x : Checked} (said : checkedBy x ≡ checking base ipv4 o) where
+  pub checked-gives : {c : Counts} → x ≡ Valid c → checking base ipv4 o ≡ gives c
+  unfolding checkedBy
+  checked-gives q = sym said ∙ ap checkedBy q
+
+  pub checked-refuses : {r : Refusal} → x ≡ Refused r → checking base ipv4 o ≡ refuses (r .number) (r .place)
+  unfolding checkedBy
+  checked-refuses q = sym said ∙ ap checkedBy q
+
+-- ---- the call
+
+abbrev pub nothingRead : ℕ → ℕ → List ℕ → List ℕ → ReadingCall
+nothingRead n p da dp = record { answer = refuses n p; asserts = da; pairs = dp; table = tableOf [] }
+
+module _ (o da dp : List ℕ) where
+  pub read-bad : {n p : ℕ} → checking base ipv4 o ≡ refuses n p → reading base ipv4 o da dp ≡ nothingRead n p da dp
+  unfolding reading delivered Outcome._>>=_
+  read-bad e = rw e
+
+  module _ (c : Counts) (e : checking base ipv4 o ≡ gives c) where
+    asserts-long : length (contentsAt base ipv4 o c .asserts) ≡ 16 * c .asserts
+    unfolding contentsAt
+    asserts-long = let s = sizes o c e in length-take-le (16 * c .asserts) (drop 12 o) (simp length-drop (omega (arith, s)))
+
+    pairs-long : length (contentsAt base ipv4 o c .pairs) ≡ 8 * c .pairs
+    unfolding contentsAt pairsFrom
+    pairs-long = let s = sizes o c e in length-take-le (8 * c .pairs) (drop (12 + 16 * c .asserts) o) (simp length-drop (omega (arith, s)))
+
+    pub read-short : length da < 16 * c .asserts → reading base ipv4 o da dp ≡ nothingRead 8 0 da dp
+    unfolding reading delivered roomFor refuseIf Outcome._>>=_ Outcome._>>_
+    read-short h = rw (e, asserts-long, lt-ltb (length da) (16 * c .asserts) h)
+
+    pub read-short-pairs : 16 * c .asserts ≤ length da → length dp < 8 * c .pairs → reading base ipv4 o da dp ≡ nothingRead 8 0 da dp
+    unfolding reading delivered roomFor refuseIf Outcome._>>=_ Outcome._>>_
+    read-short-pairs h g = rw (e, asserts-long, pairs-long, le-ltb (length da) (16 * c .asserts) h, lt-ltb (length dp) (8 * c .pairs) g)
+
+    -- the two lists and the table, by the places that code reads at
+    abbrev allRead : ReadingCall
+    allRead = record {
+      answer = gives c;
+      asserts = put da 0 (take (16 * c .asserts) (drop 12 o));
+      pairs = put dp 0 (take (8 * c .pairs) (drop (12 + 16 * c .asserts) o));
+      table = tableOf (rowsAt ipv4 o (12 + 16 * c .asserts + 8 * c .pairs) (c .neighbours));
+    }
+
+    delivered-is : delivered base ipv4 o da dp (gives c) ≡ allRead
+    unfolding delivered contentsAt rowsFrom pairsFrom
+    delivered-is = refl
+
+    pub read-fine : 16 * c .asserts ≤ length da → 8 * c .pairs ≤ length dp → reading base ipv4 o da dp ≡ allRead
+    unfolding reading roomFor refuseIf Outcome._>>=_ Outcome._>>_
+    read-fine h g =
+        rw (e, asserts-long, pairs-long, le-ltb (length da) (16 * c .asserts) h, le-ltb (length dp) (8 * c .pairs) g) delivered-is

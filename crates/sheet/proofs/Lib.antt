@@ -1,0 +1,7 @@
+pub mod Places
+pub mod Rows
+pub mod Written
+pub mod Again
+pub mod Copies
+pub mod Asks
+pub mod Gathered

@@ -1,0 +1,196 @@
+-- The rows of a sheet: read back from their octets, checked as the table's own test does it, and their octets from what was read.
+--     length-row, length-rows           12 octets each
+--     row-at, rows-at                   rows that stand in a sheet are read as they were
+--     check-rows                        and pass the check if a table may hold them
+--     row-from, rows-from               rows that pass the check give the octets that they were read from
+--     rows-sheet, length-rowsAt         and a table may hold them; how many there are
+-- Assumes nothing.
+use Prim.Native.Nat.{ℕ, zero, suc, _+_, _*_, _/_, _%_, _≤_, _<_}
+use native.Mathlib.Nat.{mul-suc, mul-zero}
+use native.Mathlib.Omega.{arith}
+use mathlib.Core.Path.{_≡_, refl, sym, ap}
+use mathlib.Core.Bool.{Bool, true, false, not, cond, _&&_, _||_}
+use mathlib.Core.List.{List, [], _∷_, _++_, append-assoc}
+use borrow.Author.Tests.{not-true, not-false, eqb-true, eqb-false, ltb-true, lt-ltb, ne-eqb}
+use lib.Dec.{eqb, lit<}
+use lib.ListN.{length, drop, length-append}
+use Rattle.octets.specs.Octets.{Octets, numberAt, be}
+use Rattle.octets.proofs.Laws.{length-be}
+use Rattle.records.specs.Every.{Every}
+use Rattle.records.proofs.Every.{every-map, every-both}
+use Rattle.format.specs.Outcome.{gives, refuseIf, _>>_}
+use Rattle.format.specs.Family.{Family}
+use Rattle.format.specs.Record.{each}
+use Rattle.format.proofs.Outcomes.{unless-gives}
+use Rattle.format.proofs.Readers.{At, at-left, at-right}
+use Rattle.format.proofs.Lengths.{length-each}
+use Rattle.neighbours.specs.Rows.{allowed, has, sheetRows}
+use Rattle.neighbours.specs.declared.Neighbour.{Neighbour}
+use Rattle.neighbours.proofs.Tables.{never, and-true}
+use Rattle.sections.specs.Layout.{rowSize}
+use Rattle.sections.specs.Contents.{flagsAt, rowAt, rowsAt, rowOctets}
+use Rattle.sections.specs.Checking.{fault, rowForm, rowFits, checkRows}
+use Rattle.sheet.specs.Valid.{RowFits}
+use Rattle.sheet.proofs.Places.{number-at, rest-at, number-from}
+
+-- ---- flags
+
+flags-few : (p q : Bool) → cond p 1 0 + cond q 2 0 < 4
+flags-few true true = lit< tt
+flags-few true false = lit< tt
+flags-few false true = lit< tt
+flags-few false false = lit< tt
+
+flag-1 : (p q : Bool) → eqb ((cond p 1 0 + cond q 2 0) % 2) 1 ≡ p
+flag-1 true true = refl
+flag-1 true false = refl
+flag-1 false true = refl
+flag-1 false false = refl
+
+flag-2 : (p q : Bool) → eqb ((cond p 1 0 + cond q 2 0) / 2 % 2) 1 ≡ q
+flag-2 true true = refl
+flag-2 true false = refl
+flag-2 false true = refl
+flag-2 false false = refl
+
+flags-back : (n : ℕ) → n < 4 → cond (eqb (n % 2) 1) 1 0 + cond (eqb (n / 2 % 2) 1) 2 0 ≡ n
+flags-back zero h = refl
+flags-back (suc zero) h = refl
+flags-back (suc (suc zero)) h = refl
+flags-back (suc (suc (suc zero))) h = refl
+flags-back (suc (suc (suc (suc n)))) h = absurd (omega arith)
+
+-- ---- addresses
+
+-- two rows have two addresses; none of some rows has a row's
+abbrev Other : Neighbour → Neighbour → Type 0
+Other n m = eqb (n .address) (m .address) ≡ false
+
+abbrev New : List Neighbour → Neighbour → Type 0
+New l m = has (m .address) l ≡ false
+
+apart : (n : Neighbour) (l : List Neighbour) → has (n .address) l ≡ false → Every (Other n) l
+unfolding has Every
+apart n [] e = tt
+apart n (m ∷ l) e = go (eqb (m .address) (n .address)) refl e (apart n l)
+  where
+    go : (b : Bool) → eqb (m .address) (n .address) ≡ b → (b || has (n .address) l) ≡ false
+        → (has (n .address) l ≡ false → Every (Other n) l)
+        → (eqb (n .address) (m .address) ≡ false) × Every (Other n) l
+    go true q g k = never g
+    go false q g k = (ne-eqb (n .address) (m .address) (λ x. eqb-false (m .address) (n .address) q (sym x)), k g)
+
+or-false : (a b : Bool) → (a || b) ≡ false → (a ≡ false) × (b ≡ false)
+or-false true b e = never e
+or-false false b e = (refl, e)
+
+apart-back : (n : Neighbour) (l : List Neighbour) → Every (Other n) l → has (n .address) l ≡ false
+unfolding has Every
+apart-back n [] e = refl
+apart-back n (m ∷ l) e = rw (ne-eqb (m .address) (n .address) (λ x. eqb-false (n .address) (m .address) (e .0) (sym x))) (apart-back n l (e .1))
+
+-- ---- rows that stand in a sheet
+
+module _ (f : Family) where
+  pub length-row : (n : Neighbour) → length (rowOctets f n) ≡ rowSize f
+  unfolding rowOctets
+  length-row n = simp (length-append, length-be) (omega arith)
+
+  pub length-rows : (l : List Neighbour) → length (each (rowOctets f) l) ≡ rowSize f * length l
+  length-rows l = length-each (rowOctets f) (rowSize f) length-row l
+
+  module _ {o : List ℕ} where
+    pub row-at : (n : Neighbour) (at : ℕ) → At o at (rowOctets f n) → RowFits f n → (rowAt f o at ≡ n) × (rowForm f o at ≡ true)
+    unfolding rowOctets rowAt rowForm flagsAt
+    row-at n at h s =
+        let w : ℕ = f .width in
+        let flags : ℕ = cond (n .«has_priority») 1 0 + cond (n .packs) 2 0 in
+        let few : flags < 4 = flags-few (n .«has_priority») (n .packs) in
+        let h1 = rest-at w (n .address) _ h in
+        let h2 = rest-at 4 (n .priority) _ h1 in
+        let h3 = rest-at 1 flags _ h2 in
+        let h4 = rest-at 1 0 _ h3 in
+        let a : numberAt w o at ≡ n .address = number-at w (n .address) (at-left (be w (n .address)) _ h) refl (s .address) in
+        let p : numberAt 4 o (at + w) ≡ n .priority = number-at 4 (n .priority) (at-left (be 4 (n .priority)) _ h1) refl (s .priority) in
+        let g : numberAt 1 o (at + w + 4) ≡ flags = number-at 1 flags (at-left (be 1 flags) _ h2) refl (omega arith) in
+        let z : numberAt 1 o (at + w + 5) ≡ 0 = number-at 1 0 (at-left (be 1 0) _ h3) (omega arith) (lit< tt) in
+        let t : numberAt 2 o (at + w + 6) ≡ n .holdtime = number-at 2 (n .holdtime) h4 (omega arith) (s .holdtime) in
+        let x : eqb (numberAt 1 o (at + w + 4) % 2) 1 ≡ n .«has_priority» = rw g (flag-1 (n .«has_priority») (n .packs)) in
+        let y : eqb (numberAt 1 o (at + w + 4) / 2 % 2) 1 ≡ n .packs = rw g (flag-2 (n .«has_priority») (n .packs)) in (
+          λ i. record { address = a i; priority = p i; «has_priority» = x i; packs = y i; holdtime = t i },
+          rw (g, z, lt-ltb flags 4 few),
+        )
+
+    pub rows-at : (l : List Neighbour) (at : ℕ) → At o at (each (rowOctets f) l) → Every (RowFits f) l → rowsAt f o at (length l) ≡ l
+    unfolding rowsAt each Every
+    rows-at [] at h s = refl
+    rows-at (n ∷ l) at h s =
+        let a = row-at n at (at-left (rowOctets f n) (each (rowOctets f) l) h) (s .0) .0 in
+        let b = rows-at l (at + rowSize f) (rw (length-row n) at (at-right (rowOctets f n) (each (rowOctets f) l) h)) (s .1) in
+        λ i. a i ∷ b i
+
+    pub check-rows : (l earlier : List Neighbour) (at : ℕ) → At o at (each (rowOctets f) l) → Every (RowFits f) l → sheetRows l ≡ true
+        → Every (New earlier) l → checkRows f o earlier at (length l) ≡ gives tt
+    unfolding checkRows rowFits sheetRows each Every has fault refuseIf _>>_
+    check-rows [] earlier at h s e new = refl
+    check-rows (n ∷ l) earlier at h s e new =
+        let r = row-at n at (at-left (rowOctets f n) (each (rowOctets f) l) h) (s .0) in
+        let p = and-true (allowed n && not (has (n .address) l)) (sheetRows l) e in
+        let q = and-true (allowed n) (not (has (n .address) l)) (p .0) in
+        let others = apart n l (not-true _ (q .1)) in
+        rw (r .1, r .0, q .0, new .0)
+        (check-rows l (n ∷ earlier) (at + rowSize f) (rw (length-row n) at (at-right (rowOctets f n) (each (rowOctets f) l) h)) (s .1) (p .1)
+        (every-map (λ (m : Neighbour). Other n m × New earlier m) (New (n ∷ earlier)) (λ (m : Neighbour) b. rw (b .0, b .1)) l (every-both _ _ l others (new .1))))
+
+-- ---- and back: rows that pass the check
+
+module _ (f : Family) (o : List ℕ) where
+  pub length-rowsAt : (at n : ℕ) → length (rowsAt f o at n) ≡ n
+  unfolding rowsAt
+  length-rowsAt at zero = refl
+  length-rowsAt at (suc n) = ap suc (length-rowsAt (at + rowSize f) n)
+
+  pub rows-sheet : (n : ℕ) (earlier : List Neighbour) (at : ℕ) → checkRows f o earlier at n ≡ gives tt
+      → (sheetRows (rowsAt f o at n) ≡ true) × Every (New earlier) (rowsAt f o at n)
+  unfolding checkRows rowsAt rowFits sheetRows has Every fault
+  rows-sheet zero earlier at g = (refl, tt)
+  rows-sheet (suc n) earlier at g =
+      let r : Neighbour = rowAt f o at in
+      let l : List Neighbour = rowsAt f o (at + rowSize f) n in
+      unless-gives (not (rowFits f o at earlier)) 14 at (checkRows f o (r ∷ earlier) (at + rowSize f) n) tt g
+      (λ t rest.
+      let fits = and-true (rowForm f o at) _ (not-false _ t) in
+      let parts = and-true (allowed r) _ (fits .1) in
+      let more = rows-sheet n (r ∷ earlier) (at + rowSize f) rest in
+      let two = every-map (New (r ∷ earlier)) (λ (m : Neighbour). Other r m × New earlier m)
+      (λ (m : Neighbour) b. or-false (eqb (r .address) (m .address)) (has (m .address) earlier) b) l (more .1) in
+      let others = every-map (λ (m : Neighbour). Other r m × New earlier m) (Other r) (λ (m : Neighbour) b. b .0) l two in
+      let before = every-map (λ (m : Neighbour). Other r m × New earlier m) (New earlier) (λ (m : Neighbour) b. b .1) l two in
+      (rw (parts .0, apart-back r l others) (more .0), (not-true _ (parts .1), before)))
+
+  module _ (octets : Octets o) where
+    pub row-from : (at : ℕ) {p : ℕ} {x : List ℕ} → p ≡ at + rowSize f → p ≤ length o → rowForm f o at ≡ true → drop p o ≡ x
+        → drop at o ≡ rowOctets f (rowAt f o at) ++ x
+    unfolding rowOctets rowAt rowForm flagsAt
+    row-from at {p} {x} e h form r =
+        let w : ℕ = f .width in
+        let parts = and-true _ _ form in
+        simp append-assoc
+        (number-from o octets w (numberAt w o at) at (at + w) refl refl (omega arith)
+        (number-from o octets 4 (numberAt 4 o (at + w)) (at + w) (at + w + 4) refl refl (omega arith)
+        (number-from o octets 1 _ (at + w + 4) (at + w + 5) (flags-back (numberAt 1 o (at + w + 4)) (ltb-true _ 4 (parts .0))) (omega arith) (omega arith)
+        (number-from o octets 1 0 (at + w + 5) (at + w + 6) (sym (eqb-true _ 0 (parts .1))) (omega arith) (omega arith)
+        (number-from o octets 2 (numberAt 2 o (at + w + 6)) (at + w + 6) p refl (omega arith) h r)))))
+
+    pub rows-from : (n : ℕ) (earlier : List Neighbour) (at : ℕ) {p : ℕ} {x : List ℕ} → p ≡ at + rowSize f * n → p ≤ length o
+        → checkRows f o earlier at n ≡ gives tt → drop p o ≡ x
+        → drop at o ≡ each (rowOctets f) (rowsAt f o at n) ++ x
+    unfolding checkRows rowsAt rowFits each fault
+    rows-from zero earlier at {p} e h g r = let q : p ≡ at = omega (arith, mul-zero (rowSize f)) in rw (← q) r
+    rows-from (suc n) earlier at e h g r =
+        let s = mul-suc (rowSize f) n in
+        unless-gives (not (rowFits f o at earlier)) 14 at (checkRows f o (rowAt f o at ∷ earlier) (at + rowSize f) n) tt g
+        (λ t rest.
+        let fits = and-true (rowForm f o at) _ (not-false _ t) in
+        rw append-assoc
+        (row-from at refl (omega arith) (fits .0) (rows-from n (rowAt f o at ∷ earlier) (at + rowSize f) (omega arith) h rest r)))

@@ -1,0 +1,285 @@
+-- A sheet as it is written: it passes the check, it reads back, and no two contents have one sheet.
+--     base-roomy                the fields of 01's header hold every count and offset
+--     Accepted, accepted        what writing asked of contents that it accepts
+--     length-header, Offsets    the length of a header, and its offsets
+--     header-checks             a header that stands at the start of a sheet of its length passes the check
+--     written-checks            a sheet that was written passes the check, with the counts of its contents
+--     written-contents          and holds them
+--     written-reads-back        so reading it gives the two lists and the table
+--     sheets-differ             two contents of one sheet are the same
+--     something-holds, something-held     the conditions can be met
+-- Assumes nothing.
+use Prim.Native.Nat.{ℕ, _+_, _*_, _%_, _^_, _≤_, _<_}
+use native.Mathlib.Nat.{div-add-mod, zero-add}
+use native.Mathlib.Omega.{arith}
+use mathlib.Core.Path.{_≡_, refl, sym, ap, _∙_}
+use mathlib.Core.Bool.{true, false}
+use mathlib.Core.List.{List, [], _∷_, _++_}
+use borrow.Author.Tests.{not-false, eqb-true, le-ltb, eq-eqb}
+use lib.Dec.{lit<}
+use lib.ListN.{length, take, drop, length-append}
+use Rattle.octets.specs.Octets.{numberAt, value, be, put}
+use Rattle.octets.proofs.Laws.{length-be}
+use Rattle.records.specs.Every.{Every}
+use Rattle.format.specs.Outcome
+use Rattle.format.specs.Outcome.{Outcome, gives, refuses, refuseIf, _>>=_, _>>_}
+use Rattle.format.specs.Family.{Family, ipv4, mayBeSource}
+use Rattle.format.specs.Entry.{Entries, count, whole, entriesOf, entriesAt, assertAt, pairAt, allowedAssert, allowedPair}
+use Rattle.format.specs.Packing.{firstBad}
+use Rattle.format.specs.Record.{each}
+use Rattle.format.proofs.Outcomes.{no-refusal, gives-same, then-gives, unless-gives}
+use Rattle.format.proofs.Readers.{At, at-left, at-right, at-end}
+use Rattle.format.proofs.Calls.{allowed-every}
+use Rattle.format.proofs.Lengths.{number, _then_}
+use Rattle.neighbours.specs.Rows.{noRow, isZero, allZero, allowed, has, sheetRows, used, valid, tableOf}
+use Rattle.neighbours.specs.declared.Neighbour.{Neighbour}
+use Rattle.neighbours.specs.declared.Table.{Table}
+use Rattle.neighbours.proofs.Tables.{and-true, valid-parts}
+use Rattle.neighbours.proofs.Changes.{valid-table}
+use Rattle.sections.specs.Layout.{Layout, base, assertsIn, pairsIn, rowSize, headerSize, pairsFrom, rowsFrom, end, headerOctets}
+use Rattle.sections.specs.Contents.{Contents, rowOctets, countsOf, contentsAt, sheetOctets}
+use Rattle.sections.specs.Checking.{fault, countsIn, countsAllowed, offsetsAgree, checkHeader, checkEntries, checkRows, checking}
+use Rattle.sections.specs.declared.Counts.{Counts}
+use Rattle.sections.proofs.Header.{counts-within}
+use Rattle.sheet.specs.Calls.{contentsOf, atZero, asked, roomFor, delivered, reading}
+use Rattle.sheet.specs.Valid.{Roomy, Held, Holds}
+use Rattle.sheet.proofs.Places.{number-at, rest-at, asserts-local, pairs-local, check-fine}
+use Rattle.sheet.proofs.Rows.{length-rows, rows-at, check-rows}
+
+-- ---- what fits
+
+pub base-roomy : Roomy base ipv4
+unfolding pairsFrom rowsFrom
+base-roomy = record {
+  asserts = λ c ok. omega (arith, counts-within base c ok);
+  pairs = λ c ok. omega (arith, counts-within base c ok);
+  neighbours = λ c ok. omega (arith, counts-within base c ok);
+  offsets = λ c ok. omega (arith, counts-within base c ok);
+}
+
+-- ---- what writing asked
+
+pub record Accepted (L : Layout) (f : Family) (ea ep : List ℕ) (t : Table) : Type 0 where
+  pub asserts : whole (assertsIn f) ea ≡ true
+  pub pairs : whole (pairsIn f) ep ≡ true
+  pub counts : countsAllowed L (countsOf f (contentsOf ea ep t)) ≡ true
+  pub table : valid t ≡ true
+  pub assertsFine : firstBad (assertsIn f .allowed) 0 (entriesOf (assertsIn f) ea) ≡ gives tt
+  pub pairsFine : firstBad (pairsIn f .allowed) 0 (entriesOf (pairsIn f) ep) ≡ gives tt
+
+at-zero-gives : (x : Outcome (Unit {0})) (u : Unit {0}) → atZero x ≡ gives u → x ≡ gives tt
+unfolding atZero
+at-zero-gives (gives tt) u e = refl
+at-zero-gives (refuses n p) u e = absurd (no-refusal e)
+
+pub accepted : (L : Layout) (f : Family) (ea ep : List ℕ) (t : Table) (room : ℕ) (o : List ℕ) → asked L f ea ep t room ≡ gives o → Accepted L f ea ep t
+unfolding asked
+accepted L f ea ep t room o e =
+    unless-gives _ 10 0 _ o e (λ a e1.
+    unless-gives _ 14 0 _ o e1 (λ b e2.
+    unless-gives _ 8 0 _ o e2 (λ c e3.
+    then-gives (atZero (firstBad (assertsIn f .allowed) 0 (entriesOf (assertsIn f) ea))) _ o e3 (λ u x e4.
+    then-gives (atZero (firstBad (pairsIn f .allowed) 0 (entriesOf (pairsIn f) ep))) _ o e4 (λ v y e5.
+    let lists = and-true _ _ (not-false _ a) in
+    let rest = and-true _ _ (not-false _ b) in
+    record {
+      asserts = lists .0;
+      pairs = lists .1;
+      counts = rest .0;
+      table = rest .1;
+      assertsFine = at-zero-gives _ u x;
+      pairsFine = at-zero-gives _ v y;
+    })))))
+
+-- a whole list has the octets of its entries
+whole-is : (E : Entries) (e : List ℕ) → whole E e ≡ true → length e ≡ E .size * count E e
+unfolding whole count
+whole-is E e h = let none : length e % E .size ≡ 0 = eqb-true (length e % E .size) 0 h in omega (arith, div-add-mod (length e) (E .size))
+
+-- ---- the header
+
+-- the three offsets that a header gives
+abbrev pub Offsets : Layout → Family → List ℕ → Counts → Type 0
+Offsets L f o c =
+    (numberAt (L .width) o (L .width) ≡ headerSize L)
+    × (numberAt (L .width) o (3 * L .width) ≡ pairsFrom L f c)
+    × (numberAt (L .width) o (5 * L .width) ≡ rowsFrom L f c)
+
+pub length-header : (L : Layout) (f : Family) (c : Counts) → length (headerOctets L f c) ≡ headerSize L
+unfolding headerOctets
+length-header L f c = simp (length-append, length-be) (omega arith)
+
+module _ (L : Layout) (f : Family) (roomy : Roomy L f) (c : Counts) (ok : countsAllowed L c ≡ true) where
+  first-below : headerSize L ≤ pairsFrom L f c
+  unfolding pairsFrom
+  first-below = omega arith
+
+  second-below : pairsFrom L f c ≤ rowsFrom L f c
+  unfolding rowsFrom
+  second-below = omega arith
+
+  -- its numbers are read as they were
+  header-read : {o : List ℕ} → At o 0 (headerOctets L f c)
+      → (countsIn L o ≡ c) × Offsets L f o c
+  unfolding headerOctets countsIn
+  header-read {o} h =
+      let w : ℕ = L .width in
+      let last : rowsFrom L f c < 256 ^ w = roomy .offsets c ok in
+      let h1 = rest-at w _ _ h in
+      let h2 = rest-at w _ _ h1 in
+      let h3 = rest-at w _ _ h2 in
+      let h4 = rest-at w _ _ h3 in
+      let h5 = rest-at w _ _ h4 in
+      let a : numberAt w o 0 ≡ c .asserts = number-at w _ (at-left (be w (c .asserts)) _ h) refl (roomy .asserts c ok) in
+      let b : numberAt w o w ≡ headerSize L = number-at w _ (at-left (be w (headerSize L)) _ h1) (omega arith) (omega (arith, last, first-below, second-below)) in
+      let d : numberAt w o (2 * w) ≡ c .pairs = number-at w _ (at-left (be w (c .pairs)) _ h2) (omega arith) (roomy .pairs c ok) in
+      let e : numberAt w o (3 * w) ≡ pairsFrom L f c = number-at w _ (at-left (be w (pairsFrom L f c)) _ h3) (omega arith) (omega (arith, last, second-below)) in
+      let g : numberAt w o (4 * w) ≡ c .neighbours = number-at w _ (at-left (be w (c .neighbours)) _ h4) (omega arith) (roomy .neighbours c ok) in
+      let j : numberAt w o (5 * w) ≡ rowsFrom L f c = number-at w _ h5 (omega arith) last in
+      (λ i. record { asserts = a i; pairs = d i; neighbours = g i }, (b, e, j))
+
+  pub header-checks : {o : List ℕ} → At o 0 (headerOctets L f c) → length o ≡ end L f c → checkHeader L f o ≡ gives c
+  unfolding checkHeader offsetsAgree fault refuseIf _>>_
+  header-checks {o} h long =
+      let r = header-read h in
+      let there : headerSize L ≤ length o = omega (arith, h .fits, length-header L f c) in
+      rw (le-ltb (length o) (headerSize L) there, r .0, ok, eq-eqb _ _ (r .1 .0), eq-eqb _ _ (r .1 .1), eq-eqb _ _ (r .1 .2), eq-eqb _ _ long)
+
+-- ---- the sheet
+
+every-nothing : (l : List Neighbour) → Every (λ (m : Neighbour). has (m .address) [] ≡ false) l
+unfolding has Every
+every-nothing [] = tt
+every-nothing (n ∷ l) = (refl, every-nothing l)
+
+module _ (L : Layout) (f : Family) (roomy : Roomy L f) (ea ep : List ℕ) (t : Table) (holds : Holds L f ea ep t) (held : Held f t) where
+  abbrev these : Contents
+  these = contentsOf ea ep t
+
+  abbrev counts : Counts
+  counts = countsOf f (contentsOf ea ep t)
+
+  abbrev octets : List ℕ
+  octets = sheetOctets L f (contentsOf ea ep t)
+
+  was : Accepted L f ea ep t
+  was = accepted L f ea ep t _ octets (holds .accepted)
+
+  asserts-long : length ea ≡ assertsIn f .size * (counts .asserts)
+  unfolding contentsOf countsOf
+  asserts-long = whole-is (assertsIn f) ea (was .asserts)
+
+  pairs-long : length ep ≡ pairsIn f .size * (counts .pairs)
+  unfolding contentsOf countsOf
+  pairs-long = whole-is (pairsIn f) ep (was .pairs)
+
+  rows-long : length (each (rowOctets f) (used t)) ≡ rowSize f * (counts .neighbours)
+  unfolding contentsOf countsOf
+  rows-long = length-rows f (used t)
+
+  header-long : length (headerOctets L f counts) ≡ headerSize L
+  header-long = length-header L f counts
+
+  -- where the parts stand
+  header-at : At octets 0 (headerOctets L f counts)
+  unfolding sheetOctets contentsOf
+  header-at = at-left (headerOctets L f counts) (ea ++ (ep ++ each (rowOctets f) (used t))) (at-end [] octets)
+
+  lists-at : At octets (headerSize L) (ea ++ (ep ++ each (rowOctets f) (used t)))
+  unfolding sheetOctets contentsOf
+  lists-at = rw (header-long, zero-add) at (at-right (headerOctets L f counts) (ea ++ (ep ++ each (rowOctets f) (used t))) (at-end [] octets))
+
+  asserts-at : At octets (headerSize L) ea
+  asserts-at = at-left ea (ep ++ each (rowOctets f) (used t)) lists-at
+
+  later-at : At octets (pairsFrom L f counts) (ep ++ each (rowOctets f) (used t))
+  unfolding pairsFrom
+  later-at = rw asserts-long at (at-right ea (ep ++ each (rowOctets f) (used t)) lists-at)
+
+  pairs-at : At octets (pairsFrom L f counts) ep
+  pairs-at = at-left ep (each (rowOctets f) (used t)) later-at
+
+  rows-stand : At octets (rowsFrom L f counts) (each (rowOctets f) (used t))
+  unfolding rowsFrom
+  rows-stand = rw pairs-long at (at-right ep (each (rowOctets f) (used t)) later-at)
+
+  long : length octets ≡ end L f counts
+  unfolding sheetOctets contentsOf pairsFrom rowsFrom end
+  long = simp (length-append, header-long, asserts-long, pairs-long, rows-long) (omega arith)
+
+  -- the counts that the header gives are those of the contents
+  pub written-checks : checking L f octets ≡ gives counts
+  unfolding checking contentsOf countsOf entriesOf Outcome._>>=_ Outcome._>>_
+  written-checks =
+      let asserts : checkEntries (assertsIn f) octets (headerSize L) (counts .asserts) ≡ gives tt =
+      check-fine (assertsIn f) (asserts-local f) ea asserts-at (counts .asserts) 0 (omega arith) (omega (arith, asserts-long))
+      (allowed-every _ 0 _ (was .assertsFine)) in
+      let pairs : checkEntries (pairsIn f) octets (pairsFrom L f counts) (counts .pairs) ≡ gives tt =
+      check-fine (pairsIn f) (pairs-local f) ep pairs-at (counts .pairs) 0 (omega arith) (omega (arith, pairs-long))
+      (allowed-every _ 0 _ (was .pairsFine)) in
+      let rows : checkRows f octets [] (rowsFrom L f counts) (counts .neighbours) ≡ gives tt =
+      check-rows f (used t) [] (rowsFrom L f counts) rows-stand (held .fits) (valid-parts t (was .table) .sheet) (every-nothing (used t)) in
+      rw (header-checks L f roomy counts (was .counts) header-at long, asserts, pairs, rows)
+
+  pub written-contents : contentsAt L f octets counts ≡ contentsOf ea ep t
+  unfolding contentsAt contentsOf countsOf
+  written-contents =
+      let a : take (assertsIn f .size * counts .asserts) (drop (headerSize L) octets) ≡ ea = rw (← asserts-long) (asserts-at .stands) in
+      let p : take (pairsIn f .size * counts .pairs) (drop (pairsFrom L f counts) octets) ≡ ep = rw (← pairs-long) (pairs-at .stands) in
+      let r = rows-at f (used t) (rowsFrom L f counts) rows-stand (held .fits) in
+      λ i. record { asserts = a i; pairs = p i; rows = r i }
+
+  pub same-table : tableOf (used t) ≡ t
+  same-table = sym (valid-table t (held .full) (valid-parts t (was .table)))
+
+  written-delivered : (da dp : List ℕ)
+      → delivered L f octets da dp (gives counts) ≡ record { answer = gives counts; asserts = put da 0 ea; pairs = put dp 0 ep; table = t }
+  unfolding delivered contentsOf
+  written-delivered da dp = rw (written-contents, same-table)
+
+  -- into buffers with room
+  pub written-reads-back : (da dp : List ℕ) → length ea ≤ length da → length ep ≤ length dp
+      → reading L f octets da dp ≡ record { answer = gives counts; asserts = put da 0 ea; pairs = put dp 0 ep; table = t }
+  unfolding reading roomFor contentsOf refuseIf Outcome._>>=_ Outcome._>>_
+  written-reads-back da dp ra rp =
+      rw (written-checks, written-contents, le-ltb (length da) (length ea) ra, le-ltb (length dp) (length ep) rp) (written-delivered da dp)
+
+-- ---- two contents
+
+module _ (L : Layout) (f : Family) (roomy : Roomy L f) (ea ep : List ℕ) (t : Table) (holds : Holds L f ea ep t) (held : Held f t)
+    (ea′ ep′ : List ℕ) (t′ : Table) (holds′ : Holds L f ea′ ep′ t′) (held′ : Held f t′) where
+  pub sheets-differ : sheetOctets L f (contentsOf ea ep t) ≡ sheetOctets L f (contentsOf ea′ ep′ t′) → (ea ≡ ea′) × (ep ≡ ep′) × (t ≡ t′)
+  unfolding contentsOf
+  sheets-differ e =
+      let counts : countsOf f (contentsOf ea ep t) ≡ countsOf f (contentsOf ea′ ep′ t′) =
+      gives-same (sym (written-checks L f roomy ea ep t holds held) ∙ ap (checking L f) e ∙ written-checks L f roomy ea′ ep′ t′ holds′ held′) in
+      let same : contentsOf ea ep t ≡ contentsOf ea′ ep′ t′ =
+      sym (written-contents L f roomy ea ep t holds held) ∙ (λ i. contentsAt L f (e i) (counts i)) ∙ written-contents L f roomy ea′ ep′ t′ holds′ held′ in (
+        ap (λ (c : Contents). c .asserts) same,
+        ap (λ (c : Contents). c .pairs) same,
+        sym (same-table L f roomy ea ep t holds held) ∙ ap (λ (c : Contents). tableOf (c .rows)) same ∙ same-table L f roomy ea′ ep′ t′ holds′ held′,
+      )
+
+-- ---- the conditions can be met
+
+-- an assert, a pair with source 0 and a neighbour without priority
+abbrev some-assert : List ℕ
+some-assert = be 4 0xe801_0101 ++ (be 4 0x0a00_0001 ++ (be 4 110 ++ be 4 20))
+
+abbrev some-pair : List ℕ
+some-pair = be 4 0xe801_0101 ++ be 4 0
+
+abbrev some-row : Neighbour
+some-row = record { address = 0x0a00_0002; priority = 0; «has_priority» = false; packs = true; holdtime = 105 }
+
+pub something-holds : Holds base ipv4 some-assert some-pair (tableOf (some-row ∷ []))
+unfolding asked whole count countsAllowed countsOf contentsOf sheetOctets headerOctets pairsFrom rowsFrom rowOctets each be valid sheetRows allowed has allZero isZero noRow tableOf firstBad entriesOf entriesAt assertAt pairAt numberAt value allowedAssert allowedPair mayBeSource atZero refuseIf Outcome._>>_
+something-holds = record {
+  asserts = (number 4 0xe801_0101 then number 4 0x0a00_0001 then number 4 110 then number 4 20) .below;
+  pairs = (number 4 0xe801_0101 then number 4 0) .below;
+  accepted = refl;
+}
+
+pub something-held : Held ipv4 (tableOf (some-row ∷ []))
+unfolding tableOf Every
+something-held = record { full = refl; fits = (record { address = lit< tt; priority = lit< tt; holdtime = lit< tt }, tt) }

@@ -1,0 +1,57 @@
+-- `sheet::write::write_sheet` meets its contract: what `due` answered says which way the call goes.
+-- Assumes nothing.
+use denote.Ref.{now}
+use Rattle.sheet.proofs.Asks.{due-gives, stored-answer, stored-buffer, stored-nothing}
+use borrow.Author.Needs.{needs}
+use Rattle.sheet.proofs.write.write_sheet.Statement.{statement}
+use Rattle.sheet.proofs.write.write_sheet.Tie as tie
+
+due-requires : tie.Need-due-requires
+due-requires c κs = search needs
+
+enum-told : tie.Need-enum-told
+enum-told c = search needs
+
+enum-told-2 : tie.Need-enum-told-2
+enum-told-2 c = search needs
+
+returns : tie.Need-returns
+returns c =
+    let s = c .before .before .before .before .before .before in
+    let a = s .args in
+    let x = c .before .before .due in (
+      stored-answer (now (a .asserts)) (now (a .pairs)) (a .table) (now (a .d)) (x .result) (x .ensures),
+      stored-nothing (now (a .asserts)) (now (a .pairs)) (a .table) (now (a .d)) (x .result) (x .ensures) (c .enum-told2 .given .1),
+    )
+
+fill-requires : tie.Need-fill-requires
+fill-requires c κs =
+    let s = c .before .before .before .before .before .before .before in
+    let a = s .args in
+    let x = c .before .before .before .due in
+    due-gives (now (a .asserts)) (now (a .pairs)) (a .table) (now (a .d)) (x .result) (x .ensures) (c .before .enum-told .given .1)
+
+same-length : tie.Need-same-length
+same-length c = search needs
+
+returns-2 : tie.Need-returns-2
+returns-2 c =
+    let s = c .before .before .before .before .before .before .before .before .before .before in
+    let a = s .args in
+    let x = c .before .before .before .before .before .before .due in
+    let y = c .before .before .fill in (
+      stored-answer (now (a .asserts)) (now (a .pairs)) (a .table) (now (a .d)) (x .result) (x .ensures),
+      stored-buffer (now (a .asserts)) (now (a .pairs)) (a .table) (now (a .d)) (x .result) (x .ensures) (c .before .before .before .before .enum-told .given .1) (y .ensures),
+    )
+
+pub write-sheet-spec : {M : Type 1} → statement M
+write-sheet-spec =
+    tie.close
+    (tie.spec
+    due-requires
+    enum-told
+    enum-told-2
+    returns
+    fill-requires
+    same-length
+    returns-2)

@@ -1,0 +1,99 @@
+-- Reading and writing a sheet (01, "The sheet").
+--     ReadingCall, delivered, reading      "Reading one gives its two entry lists, copied, and the table; 8 last"
+--     roomFor                              whether lent room is enough for both lists
+--     foundBy                              01's number and values for each case of a reading's answer
+--     atZero, contentsOf, asked            what writing refuses: "by 10, 14 .. , 8, 7, at place 0"
+--     WritingCall, stored, writing         answer, and buffer as the call returns
+--     lengthOf                             what writing asks, with the octets left out
+--     storedBy                             01's number and values for each case of a writing's answer
+-- Checking is in `sections`. Assumes nothing: these are definitions.
+use Prim.Native.Nat.{ℕ}
+use mathlib.Core.Bool.{not, _&&_, _||_}
+use mathlib.Core.List.{List, []}
+use lib.ListN.{length}
+use lib.Dec.{ltb}
+use Rattle.octets.specs.Octets.{put}
+use Rattle.format.specs.Outcome.{Outcome, gives, refuses, refuseIf, _>>=_, _>>_}
+use Rattle.format.specs.Family.{Family}
+use Rattle.format.specs.Entry.{whole, entriesOf}
+use Rattle.format.specs.Packing.{firstBad}
+use Rattle.neighbours.specs.Rows.{used, valid, tableOf}
+use Rattle.neighbours.specs.declared.Table.{Table}
+use Rattle.sections.specs.Layout.{Layout, assertsIn, pairsIn}
+use Rattle.sections.specs.Contents.{Contents, countsOf, contentsAt, sheetOctets}
+use Rattle.sections.specs.Checking.{countsAllowed, checking}
+use Rattle.sections.specs.declared.Counts.{Counts}
+use Rattle.sheet.specs.declared.Found.{Found}
+use Rattle.sheet.specs.declared.Found.the-variants.{Entries as Copied, Refused as NotFound}
+use Rattle.sheet.specs.declared.Stored.{Stored}
+use Rattle.sheet.specs.declared.Stored.the-variants.{Wrote, Refused as NotStored}
+
+-- ---- reading
+
+pub record ReadingCall : Type 0 where
+  pub answer : Outcome Counts
+  -- the two lent buffers as the call returns: room past the entries stays
+  pub asserts : List ℕ
+  pub pairs : List ℕ
+  -- the table given back: without neighbours where the call refuses
+  pub table : Table
+
+unfoldable pub roomFor : Contents → List ℕ → List ℕ → Outcome (Unit {0})
+roomFor c da dp = refuseIf (ltb (length da) (length (c .asserts)) || ltb (length dp) (length (c .pairs))) 8 0
+
+unfoldable pub delivered : Layout → Family → List ℕ → List ℕ → List ℕ → Outcome Counts → ReadingCall
+delivered L f o da dp (gives c) =
+    let s = contentsAt L f o c in
+    record { answer = gives c; asserts = put da 0 (s .asserts); pairs = put dp 0 (s .pairs); table = tableOf (s .rows) }
+delivered L f o da dp (refuses n p) = record { answer = refuses n p; asserts = da; pairs = dp; table = tableOf [] }
+
+unfoldable pub reading : Layout → Family → List ℕ → List ℕ → List ℕ → ReadingCall
+reading L f o da dp = delivered L f o da dp do
+  c ← checking L f o
+  roomFor (contentsAt L f o c) da dp
+  gives c
+
+unfoldable pub foundBy : Found → Outcome Counts
+foundBy (Copied c) = gives c
+foundBy (NotFound r) = refuses (r .number) (r .place)
+
+-- ---- writing
+
+-- the number of the first bad entry is not said: "at place 0"
+unfoldable pub atZero : Outcome (Unit {0}) → Outcome (Unit {0})
+atZero (gives u) = gives u
+atZero (refuses n p) = refuses n 0
+
+unfoldable pub contentsOf : List ℕ → List ℕ → Table → Contents
+contentsOf ea ep t = record { asserts = ea; pairs = ep; rows = used t }
+
+unfoldable pub asked : Layout → Family → List ℕ → List ℕ → Table → ℕ → Outcome (List ℕ)
+asked L f ea ep t room = do
+  refuseIf (not (whole (assertsIn f) ea && whole (pairsIn f) ep)) 10 0
+  refuseIf (not (countsAllowed L (countsOf f (contentsOf ea ep t)) && valid t)) 14 0
+  refuseIf (ltb room (length (sheetOctets L f (contentsOf ea ep t)))) 8 0
+  atZero (firstBad (assertsIn f .allowed) 0 (entriesOf (assertsIn f) ea))
+  atZero (firstBad (pairsIn f .allowed) 0 (entriesOf (pairsIn f) ep))
+  gives (sheetOctets L f (contentsOf ea ep t))
+
+pub record WritingCall : Type 0 where
+  -- the length of the sheet
+  pub answer : Outcome ℕ
+  -- the lent buffer as the call returns
+  pub buffer : List ℕ
+
+unfoldable pub stored : List ℕ → Outcome (List ℕ) → WritingCall
+stored d (gives e) = record { answer = gives (length e); buffer = put d 0 e }
+stored d (refuses n p) = record { answer = refuses n p; buffer = d }
+
+unfoldable pub writing : Layout → Family → List ℕ → List ℕ → Table → List ℕ → WritingCall
+writing L f ea ep t d = stored d (asked L f ea ep t (length d))
+
+-- what writing asks, with the octets left out
+unfoldable pub lengthOf : Outcome (List ℕ) → Outcome ℕ
+lengthOf (gives e) = gives (length e)
+lengthOf (refuses n p) = refuses n p
+
+unfoldable pub storedBy : Stored → Outcome ℕ
+storedBy (Wrote n) = gives n
+storedBy (NotStored r) = refuses (r .number) (r .place)

@@ -1,0 +1,37 @@
+// The stored sheet: reading one into two lent entry buffers and a table, and writing one. Checking is in `sections`.
+//
+// copy.rt        octets of one slice copied into another
+// put.rt         a header and rows, written into a lent buffer
+// read.rt        reading a sheet
+// write.rt       writing a sheet
+mod copy;
+mod put;
+mod read;
+mod write;
+
+use format::Refusal;
+use neighbours::Table;
+pub use read::read_sheet;
+pub use sections::Checked;
+pub use sections::Counts;
+pub use sections::check_sheet;
+pub use write::write_sheet;
+
+// What reading a sheet finds.
+pub enum Found {
+    Entries(Counts),
+    Refused(Refusal),
+}
+
+// The table that a sheet holds, with what was found; a table without neighbours where the call refuses.
+pub struct SheetRead {
+    pub table: Table,
+    pub found: Found,
+}
+
+// What writing a sheet did.
+pub enum Stored {
+    // How many octets were written.
+    Wrote(usize),
+    Refused(Refusal),
+}

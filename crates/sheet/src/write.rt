@@ -1,0 +1,119 @@
+// Writing a sheet: what is asked first, in the order 10, 14, 8, 7, then the octets.
+use crate::Stored;
+use crate::copy::copy;
+use crate::put::put_header;
+use crate::put::put_rows;
+use format::Kind;
+use format::Refusal;
+use neighbours::Table;
+use neighbours::is_valid;
+use packing::Listed;
+use packing::entries_allowed;
+use sections::Counts;
+ghost use mathlib.Core.Path.{_≡_};
+ghost use mathlib.Core.Bool.{_&&_, cond};
+ghost use lib.ListN.{length};
+ghost use Rattle.octets.specs.Octets.{put};
+ghost use Rattle.format.specs.Outcome.{gives, refuses};
+ghost use Rattle.format.specs.Family.{ipv4};
+ghost use Rattle.format.specs.Entry.{whole, entriesOf};
+ghost use Rattle.format.specs.Packing.{firstBad};
+ghost use Rattle.writing.specs.Kinds.{entriesFor};
+ghost use Rattle.neighbours.specs.Rows.{valid};
+ghost use Rattle.sections.specs.Layout.{base, assertsIn, pairsIn};
+ghost use Rattle.sections.specs.Contents.{countsOf, sheetOctets};
+ghost use Rattle.sections.specs.Checking.{countsAllowed};
+ghost use Rattle.sheet.specs.Calls.{contentsOf, atZero, asked, lengthOf, writing, storedBy};
+
+// Refused, at place 0.
+fn refused(number: u8) -> Stored
+    ensures { λ r. ⌜ storedBy r ≡ refuses number 0 ⌝ }
+{
+    Stored::Refused(Refusal { number, place: 0 })
+}
+
+// Whether both lists are whole.
+fn are_whole(asserts: &[u8], pairs: &[u8]) -> bool
+    ensures { λ r. ⌜ r ≡ whole (assertsIn ipv4) (now (asserts .entry)) && whole (pairsIn ipv4) (now (pairs .entry)) ⌝ }
+{
+    if asserts.len() % 16 != 0 {
+        return false;
+    }
+    pairs.len() % 8 == 0
+}
+
+// Whether no count is over its limit, and the table is one that a sheet may hold.
+fn are_storable(asserts: &[u8], pairs: &[u8], table: Table) -> bool
+    ensures { λ r. ⌜ r ≡ countsAllowed base (countsOf ipv4 (contentsOf (now (asserts .entry)) (now (pairs .entry)) table)) && valid table ⌝ }
+{
+    if 1024 < asserts.len() / 16 {
+        return false;
+    }
+    if 1024 < pairs.len() / 8 {
+        return false;
+    }
+    is_valid(table)
+}
+
+// Whether every entry of a list is allowed.
+fn all_allowed(kind: Kind, e: &[u8]) -> bool
+    ensures { λ r. ⌜ atZero (firstBad (entriesFor kind .allowed) 0 (entriesOf (entriesFor kind) (now (e .entry)))) ≡ cond r (gives tt) (refuses 7 0) ⌝ }
+{
+    match entries_allowed(kind, e) {
+        Listed::Allowed => true,
+        Listed::Bad(_) => false,
+    }
+}
+
+// The length of the sheet that is due, or a refusal.
+fn due(asserts: &[u8], pairs: &[u8], table: Table, room: usize) -> Stored
+    ensures { λ r. ⌜ storedBy r ≡ lengthOf (asked base ipv4 (now (asserts .entry)) (now (pairs .entry)) table room) ⌝ }
+{
+    if !are_whole(asserts, pairs) {
+        return refused(10);
+    }
+    if !are_storable(asserts, pairs, table) {
+        return refused(14);
+    }
+    let n = 12 + asserts.len() + pairs.len() + 12 * table.count;
+    if room < n {
+        return refused(8);
+    }
+    if !all_allowed(Kind::Simple, asserts) {
+        return refused(7);
+    }
+    if !all_allowed(Kind::RegisterStop, pairs) {
+        return refused(7);
+    }
+    Stored::Wrote(n)
+}
+
+// The octets of a sheet that is due.
+fn fill(asserts: &[u8], pairs: &[u8], table: Table, d: &mut [u8])
+    requires { ⌜ asked base ipv4 (now asserts) (now pairs) table (length (now d)) ≡ gives (sheetOctets base ipv4 (contentsOf (now asserts) (now pairs) table)) ⌝ }
+    ensures { λ _. ⌜ now (d .exit) ≡ put (now (d .entry)) 0 (sheetOctets base ipv4 (contentsOf (now (asserts .entry)) (now (pairs .entry)) table)) ⌝ }
+{
+    let c = Counts {
+        asserts: asserts.len() / 16,
+        pairs: pairs.len() / 8,
+        neighbours: table.count,
+    };
+    put_header(d, c);
+    copy(asserts, 0, asserts.len(), d, 12);
+    let at = 12 + asserts.len();
+    copy(pairs, 0, pairs.len(), d, at);
+    put_rows(d, at + pairs.len(), table);
+}
+
+// Writes the one sheet of two entry lists and a table.
+pub fn write_sheet(asserts: &[u8], pairs: &[u8], table: Table, d: &mut [u8]) -> Stored
+    ensures answer { λ r. ⌜ storedBy r ≡ writing base ipv4 (now (asserts .entry)) (now (pairs .entry)) table (now (d .entry)) .answer ⌝ }
+    ensures buffer { λ _. ⌜ now (d .exit) ≡ writing base ipv4 (now (asserts .entry)) (now (pairs .entry)) table (now (d .entry)) .buffer ⌝ }
+{
+    let answer = due(asserts, pairs, table, d.len());
+    let Stored::Wrote(_) = answer else {
+        return answer;
+    };
+    fill(asserts, pairs, table, d);
+    answer
+}
