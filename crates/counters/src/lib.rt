@@ -11,12 +11,14 @@ ghost use mathlib.Core.Path.{_≡_};
 ghost use Rattle.counters.specs.Counting.{noTotals, noneByKind, noneCounted, numberOf, sum, moreIf, moreAt, moreIn, counting, answerOf};
 
 // How many messages, and how many records they had.
+#[repr(C)]
 pub struct Totals {
     pub messages: u64,
     pub records: u64,
 }
 
 // The totals of each kind, in 01's order.
+#[repr(C)]
 pub struct ByKind {
     pub hello: Totals,
     pub assert: Totals,
@@ -27,6 +29,7 @@ pub struct ByKind {
 }
 
 // All counters: one record.
+#[repr(C)]
 pub struct Counters {
     pub sent: ByKind,
     pub received: ByKind,

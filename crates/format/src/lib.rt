@@ -19,6 +19,7 @@ pub const LEAST_LIMIT: usize = 38;
 pub const GREATEST_LIMIT: usize = 65515;
 
 // A number of 01's table, and the place at fault.
+#[repr(C)]
 pub struct Refusal {
     pub number: u8,
     pub place: usize,

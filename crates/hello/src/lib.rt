@@ -31,6 +31,7 @@ enum OptionsRead {
 }
 
 // What a Hello says: the priority is 0 where none is announced.
+#[repr(C)]
 pub struct Hello {
     pub holdtime: u16,
     pub has_priority: bool,

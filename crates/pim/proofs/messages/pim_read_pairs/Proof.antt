@@ -1,0 +1,25 @@
+-- `pim::messages::pim_read_pairs` meets its contract, as the function that it calls.
+-- Assumes nothing.
+use mathlib.Core.Path.{ap, _∙_}
+use borrow.Author.Needs.{needs}
+use Rattle.pim.specs.Answers.{readAnswer}
+use Rattle.pim.proofs.messages.pim_read_pairs.Statement.{statement}
+use Rattle.pim.proofs.messages.pim_read_pairs.Tie as tie
+
+read-pairs-requires : tie.Need-read-pairs-requires
+read-pairs-requires c κs = search needs
+
+read-answer-requires : tie.Need-read-answer-requires
+read-answer-requires c κs = search needs
+
+same-length : tie.Need-same-length
+same-length c = search needs
+
+returns : tie.Need-returns
+returns c =
+    let k = c .before .before .before in
+    (c .read-answer .ensures ∙ ap readAnswer (k .read-pairs .ensures .0), k .read-pairs .ensures .1)
+
+pub pim-read-pairs-spec : {M : Type 1} → statement M
+pim-read-pairs-spec =
+    tie.close (tie.spec read-pairs-requires read-answer-requires same-length returns)

@@ -1,0 +1,25 @@
+-- `pim::packs::pim_pack_aggregated` meets its contract, as the function that it calls.
+-- Assumes nothing.
+use mathlib.Core.Path.{ap, _∙_}
+use borrow.Author.Needs.{needs}
+use Rattle.pim.specs.Answers.{packAnswer}
+use Rattle.pim.proofs.packs.pim_pack_aggregated.Statement.{statement}
+use Rattle.pim.proofs.packs.pim_pack_aggregated.Tie as tie
+
+pack-aggregated-requires : tie.Need-pack-aggregated-requires
+pack-aggregated-requires c κs = search needs
+
+pack-answer-requires : tie.Need-pack-answer-requires
+pack-answer-requires c κs = search needs
+
+same-length : tie.Need-same-length
+same-length c = search needs
+
+returns : tie.Need-returns
+returns c =
+    let k = c .before .before .before in
+    (c .pack-answer .ensures ∙ ap packAnswer (k .pack-aggregated .ensures .0), k .pack-aggregated .ensures .1)
+
+pub pim-pack-aggregated-spec : {M : Type 1} → statement M
+pim-pack-aggregated-spec =
+    tie.close (tie.spec pack-aggregated-requires pack-answer-requires same-length returns)

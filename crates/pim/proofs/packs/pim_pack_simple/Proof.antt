@@ -1,0 +1,25 @@
+-- `pim::packs::pim_pack_simple` meets its contract, as the function that it calls.
+-- Assumes nothing.
+use mathlib.Core.Path.{ap, _∙_}
+use borrow.Author.Needs.{needs}
+use Rattle.pim.specs.Answers.{packAnswer}
+use Rattle.pim.proofs.packs.pim_pack_simple.Statement.{statement}
+use Rattle.pim.proofs.packs.pim_pack_simple.Tie as tie
+
+pack-simple-requires : tie.Need-pack-simple-requires
+pack-simple-requires c κs = search needs
+
+pack-answer-requires : tie.Need-pack-answer-requires
+pack-answer-requires c κs = search needs
+
+same-length : tie.Need-same-length
+same-length c = search needs
+
+returns : tie.Need-returns
+returns c =
+    let k = c .before .before .before in
+    (c .pack-answer .ensures ∙ ap packAnswer (k .pack-simple .ensures .0), k .pack-simple .ensures .1)
+
+pub pim-pack-simple-spec : {M : Type 1} → statement M
+pim-pack-simple-spec =
+    tie.close (tie.spec pack-simple-requires pack-answer-requires same-length returns)

@@ -1,0 +1,31 @@
+-- `pim::popcounts::order_number` meets its contract, by the order.
+-- Assumes nothing.
+use borrow.Author.Needs.{needs}
+use Rattle.pim.specs.Stored.{orderNumber}
+use Rattle.pim.proofs.popcounts.order_number.Statement.{statement}
+use Rattle.pim.proofs.popcounts.order_number.Tie as tie
+
+enum-told : tie.Need-enum-told
+enum-told c = search needs
+
+enum-told-2 : tie.Need-enum-told-2
+enum-told-2 c = search needs
+
+enum-told-3 : tie.Need-enum-told-3
+enum-told-3 c = search needs
+
+returns : tie.Need-returns
+unfolding orderNumber
+returns c = rw (c .enum-told .given .1)
+
+returns-2 : tie.Need-returns-2
+unfolding orderNumber
+returns-2 c = rw (c .enum-told2 .given .1)
+
+returns-3 : tie.Need-returns-3
+unfolding orderNumber
+returns-3 c = rw (c .enum-told3 .given .1)
+
+pub order-number-spec : {M : Type 1} → statement M
+order-number-spec =
+    tie.close (tie.spec enum-told enum-told-2 enum-told-3 returns returns-2 returns-3)

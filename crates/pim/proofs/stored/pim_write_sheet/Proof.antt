@@ -1,0 +1,24 @@
+-- `pim::stored::pim_write_sheet` meets its contract, as the function that it calls.
+-- Assumes nothing.
+use mathlib.Core.Path.{_∙_}
+use borrow.Author.Needs.{needs}
+use Rattle.pim.proofs.stored.pim_write_sheet.Statement.{statement}
+use Rattle.pim.proofs.stored.pim_write_sheet.Tie as tie
+
+write-sheet-requires : tie.Need-write-sheet-requires
+write-sheet-requires c κs = search needs
+
+store-answer-requires : tie.Need-store-answer-requires
+store-answer-requires c κs = search needs
+
+same-length : tie.Need-same-length
+same-length c = search needs
+
+returns : tie.Need-returns
+returns c =
+    let k = c .before .before .before in
+    (c .store-answer .ensures ∙ (rw (k .write-sheet .ensures .0)), k .write-sheet .ensures .1)
+
+pub pim-write-sheet-spec : {M : Type 1} → statement M
+pim-write-sheet-spec =
+    tie.close (tie.spec write-sheet-requires store-answer-requires same-length returns)

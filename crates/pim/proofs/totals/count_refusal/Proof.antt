@@ -1,0 +1,28 @@
+-- `pim::totals::count_refusal` meets its contract, by the case of the answer.
+-- Assumes nothing.
+use borrow.Author.Needs.{needs}
+use Rattle.counters.specs.Counting.{answerOf}
+use Rattle.pim.specs.Answers.{refusalOf}
+use Rattle.pim.proofs.totals.count_refusal.Statement.{statement}
+use Rattle.pim.proofs.totals.count_refusal.Tie as tie
+
+enum-told : tie.Need-enum-told
+enum-told c = search needs
+
+accepted-requires : tie.Need-accepted-requires
+accepted-requires c κs = search needs
+
+enum-known-a : tie.Need-enum-known-a
+enum-known-a c = search needs
+
+returns : tie.Need-returns
+unfolding refusalOf answerOf
+returns c = rw (c .before .enum-told .given .1, c .accepted .ensures)
+
+returns-2 : tie.Need-returns-2
+unfolding refusalOf answerOf
+returns-2 c = rw (c .before .a .given .1)
+
+pub count-refusal-spec : {M : Type 1} → statement M
+count-refusal-spec =
+    tie.close (tie.spec enum-told accepted-requires enum-known-a returns returns-2)

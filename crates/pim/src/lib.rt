@@ -1,0 +1,18 @@
+// The library that other languages link: every call of the crates below under a name of its own, over numbers, byte slices and small records.
+// There is no logic here: each function hands its arguments on and puts the answer into a record that C can hold. include/pim.h describes
+// each of them.
+//
+// messages.rt     header, body, a record read singly, the reading calls
+// packs.rt        the packing calls
+// tables.rt       the neighbour table and the election
+// totals.rt       the counters
+// popcounts.rt    Pop-Count attributes
+// stored.rt       the stored sheet
+// sums.rt         the checksum
+mod messages;
+mod packs;
+mod popcounts;
+mod stored;
+mod sums;
+mod tables;
+mod totals;

@@ -1,0 +1,452 @@
+/* One small lab on the bench: neighbours heard, a router elected, asserts packed and read back, counted,
+ * Pop-Count attributes merged, the sheet kept, and one damaged message refused.
+ *
+ * Build and run it from the top of the repository:
+ *
+ *     cc -std=c99 -Wall -Wextra -Iinclude examples/bench.c target/staticlib/libpim.a -o target/bench-example
+ *     target/bench-example
+ *
+ * It prints what examples/bench.expected holds. A call that refuses where it should not is named on standard
+ * error, and the exit status is 1.
+ */
+#include "pim.h"
+
+#include <inttypes.h>
+#include <stdio.h>
+#include <stdlib.h>
+#include <string.h>
+
+enum {
+    LIMIT = 60,         /* of a message in the train, in octets */
+    MOST_MESSAGES = 16, /* that the train may have here */
+    ASSERT_ENTRY = 16,
+    PAIR_ENTRY = 8,
+    SHEET_ROOM = 1024
+};
+
+#define OUR_ADDRESS 0x0a000001u /* 10.0.0.1 */
+#define OUR_PRIORITY 1u
+#define R 0x80000000u /* the R bit above the metric preference */
+
+/* ---- what can go wrong */
+
+static void fail(const char *what)
+{
+    fflush(stdout);
+    fprintf(stderr, "bench-example: %s\n", what);
+    exit(EXIT_FAILURE);
+}
+
+/* Stops with a message if the call refused. */
+static void must(const char *call, pim_refusal refusal)
+{
+    if (refusal.number == PIM_ACCEPTED)
+        return;
+    fflush(stdout);
+    fprintf(stderr, "bench-example: %s refused: number %u at place %zu\n", call, (unsigned)refusal.number,
+            refusal.place);
+    exit(EXIT_FAILURE);
+}
+
+/* ---- printing and counting */
+
+static void print_address(uint32_t address)
+{
+    printf("%u.%u.%u.%u", (unsigned)(address >> 24), (unsigned)(address >> 16 & 255), (unsigned)(address >> 8 & 255),
+           (unsigned)(address & 255));
+}
+
+static const char *yes_or_no(bool b)
+{
+    return b ? "yes" : "no";
+}
+
+static void print_priority(bool has_priority, uint32_t priority)
+{
+    if (has_priority)
+        printf("priority %" PRIu32, priority);
+    else
+        printf("priority none");
+}
+
+static void put_number(uint8_t *octets, uint32_t number)
+{
+    octets[0] = (uint8_t)(number >> 24);
+    octets[1] = (uint8_t)(number >> 16);
+    octets[2] = (uint8_t)(number >> 8);
+    octets[3] = (uint8_t)number;
+}
+
+static void count(pim_counters *counters, bool received, uint8_t kind, size_t records)
+{
+    pim_count_answer answer = pim_count(*counters, received, kind, records);
+    must("pim_count", answer.refusal);
+    *counters = answer.counters;
+}
+
+/* ---- neighbours */
+
+/* Holdtime 105, priority 5, packed assert capability. */
+static const uint8_t first_hello[] = {0x20, 0x00, 0xdf, 0x4f, 0x00, 0x01, 0x00, 0x02, 0x00, 0x69, 0x00,
+                                      0x13, 0x00, 0x04, 0x00, 0x00, 0x00, 0x05, 0x00, 0x28, 0x00, 0x00};
+
+/* Holdtime 210, a generation identifier (which is skipped), priority 9, packed assert capability. */
+static const uint8_t second_hello[] = {0x20, 0x00, 0x76, 0x1e, 0x00, 0x01, 0x00, 0x02, 0x00, 0xd2,
+                                       0x00, 0x14, 0x00, 0x04, 0x12, 0x34, 0x56, 0x78, 0x00, 0x13,
+                                       0x00, 0x04, 0x00, 0x00, 0x00, 0x09, 0x00, 0x28, 0x00, 0x00};
+
+/* Packed assert capability alone: no priority, and the holdtime that no option stands for. */
+static const uint8_t third_hello[] = {0x20, 0x00, 0xdf, 0xd7, 0x00, 0x28, 0x00, 0x00};
+
+/* Hears one Hello: printed, counted, put into the table. */
+static void hear(pim_table *table, pim_counters *counters, uint32_t address, const uint8_t *message, size_t size)
+{
+    pim_hello_answer read = pim_read_hello(message, size);
+    pim_table_answer heard;
+
+    must("pim_read_hello", read.refusal);
+    printf("hello from ");
+    print_address(address);
+    printf(": holdtime %u, ", (unsigned)read.hello.holdtime);
+    print_priority(read.hello.has_priority, read.hello.priority);
+    printf(", packing %s\n", yes_or_no(read.hello.packing));
+
+    heard = pim_hear(*table, address, read.hello);
+    must("pim_hear", heard.refusal);
+    *table = heard.table;
+    count(counters, true, PIM_HELLO, 0);
+}
+
+static void print_table(const pim_table *table)
+{
+    size_t i;
+
+    printf("table: %zu rows\n", table->count);
+    for (i = 0; i < table->count; i++) {
+        const pim_neighbour *row = &table->rows[i];
+        printf("  row %zu: ", i);
+        print_address(row->address);
+        printf(", ");
+        print_priority(row->has_priority, row->priority);
+        printf(", packs %s, holdtime %u\n", yes_or_no(row->packs), (unsigned)row->holdtime);
+    }
+}
+
+static void elect(pim_table table)
+{
+    pim_elect_answer elected = pim_elect(table, OUR_ADDRESS, OUR_PRIORITY);
+    pim_allowed_answer packing = pim_packing_allowed(table);
+
+    must("pim_elect", elected.refusal);
+    must("pim_packing_allowed", packing.refusal);
+    printf("designated router: ");
+    print_address(elected.address);
+    printf("; packing allowed: %s\n", yes_or_no(packing.allowed));
+}
+
+/* Two neighbours with a priority, then a third without: from there on the highest address is elected. */
+static void hear_all(pim_table *table, pim_counters *counters)
+{
+    *table = pim_table_empty();
+    hear(table, counters, 0x0a000002, first_hello, sizeof first_hello);
+    hear(table, counters, 0x0a000003, second_hello, sizeof second_hello);
+    elect(*table);
+    hear(table, counters, 0x0a000009, third_hello, sizeof third_hello);
+    elect(*table);
+    print_table(table);
+}
+
+/* ---- asserts */
+
+typedef struct {
+    uint32_t group, source, r_preference, metric;
+} assert_row;
+
+static const assert_row assert_rows[] = {
+    /* R=0: one source, five groups */
+    {0xe8010101, 0x0a010001, 110, 20},
+    {0xe8010102, 0x0a010001, 110, 20},
+    {0xe8010103, 0x0a010001, 110, 20},
+    {0xe8010104, 0x0a010001, 110, 20},
+    {0xe8010105, 0x0a010001, 110, 20},
+    /* R=1: one group, five sources */
+    {0xef000001, 0x0a020001, R | 100, 10},
+    {0xef000001, 0x0a020002, R | 100, 10},
+    {0xef000001, 0x0a020003, R | 100, 10},
+    {0xef000001, 0x0a020004, R | 100, 10},
+    {0xef000001, 0x0a020005, R | 100, 10},
+    /* R=1: a group for itself, source 0 */
+    {0xef000002, 0x00000000, R | 100, 10},
+};
+
+enum { ASSERTS = sizeof assert_rows / sizeof assert_rows[0] };
+
+typedef struct {
+    uint8_t octets[MOST_MESSAGES][LIMIT];
+    size_t lengths[MOST_MESSAGES];
+    size_t count;
+} message_train;
+
+static void make_asserts(uint8_t *entries)
+{
+    size_t i;
+
+    for (i = 0; i < ASSERTS; i++) {
+        put_number(entries + ASSERT_ENTRY * i, assert_rows[i].group);
+        put_number(entries + ASSERT_ENTRY * i + 4, assert_rows[i].source);
+        put_number(entries + ASSERT_ENTRY * i + 8, assert_rows[i].r_preference);
+        put_number(entries + ASSERT_ENTRY * i + 12, assert_rows[i].metric);
+    }
+}
+
+/* Packs until nothing is left: then the length is 0. */
+static void pack(const uint8_t *entries, size_t size, message_train *train, pim_counters *counters)
+{
+    size_t start = 0;
+
+    printf("packing %d asserts, limit %d\n", ASSERTS, LIMIT);
+    train->count = 0;
+    for (;;) {
+        uint8_t message[LIMIT];
+        pim_pack_answer packed = pim_pack_aggregated(entries, size, start, LIMIT, message, sizeof message);
+
+        must("pim_pack_aggregated", packed.refusal);
+        if (packed.length == 0)
+            break;
+        if (train->count == MOST_MESSAGES)
+            fail("the train has more messages than this example keeps");
+        memcpy(train->octets[train->count], message, packed.length);
+        train->lengths[train->count] = packed.length;
+        train->count++;
+        start += packed.taken;
+        printf("  message %zu: %zu octets, %zu entries\n", train->count, packed.length, packed.taken);
+        count(counters, false, PIM_AGGREGATED, packed.taken);
+    }
+}
+
+/* Reads all messages into one list. Returns the list's octets. */
+static size_t read_train(const message_train *train, uint8_t *entries, size_t room, pim_counters *counters)
+{
+    size_t at = 0;
+    size_t i;
+
+    for (i = 0; i < train->count; i++) {
+        pim_read_answer read = pim_read_asserts(train->octets[i], train->lengths[i], entries + at, room - at);
+
+        must("pim_read_asserts", read.refusal);
+        at += ASSERT_ENTRY * read.count;
+        count(counters, true, read.kind, read.count);
+    }
+    return at;
+}
+
+static void check_train(const uint8_t *entries, size_t size, const message_train *train, pim_counters *counters)
+{
+    uint8_t again[ASSERT_ENTRY * (ASSERTS + 1)];
+    size_t length = read_train(train, again, sizeof again, counters);
+
+    if (length != size || memcmp(again, entries, size) != 0)
+        fail("the train does not read back to the list");
+    printf("read back: %zu messages, %zu entries, the same list\n", train->count, length / ASSERT_ENTRY);
+}
+
+/* ---- counters */
+
+static void print_totals(const char *kind, pim_totals sent, pim_totals received)
+{
+    printf("  %s: sent %" PRIu64 " messages, %" PRIu64 " records; received %" PRIu64 " messages, %" PRIu64 " records\n",
+           kind, sent.messages, sent.records, received.messages, received.records);
+}
+
+static void print_counters(const pim_counters *counters)
+{
+    const pim_by_kind *sent = &counters->sent;
+    const pim_by_kind *received = &counters->received;
+
+    printf("counters\n");
+    print_totals("hello", sent->hello, received->hello);
+    print_totals("assert", sent->assert_, received->assert_);
+    print_totals("simple", sent->simple, received->simple);
+    print_totals("aggregated", sent->aggregated, received->aggregated);
+    print_totals("null-register", sent->null_register, received->null_register);
+    print_totals("register-stop", sent->register_stop, received->register_stop);
+}
+
+/* ---- Pop-Count attributes */
+
+/* Three attributes back to back. All have transit, both speeds, node and diameter; the third has no stub. */
+static const uint8_t contributors[] = {
+    /* all eight options: MTU 1500, flags S and P, transit 10, stub 5, 100 x 10^2 and 100 x 10^4 kbit/s,
+     * domain 1, node 3, diameter 2, time zone 1 */
+    0x03, 0x16, 0x05, 0xdc, 0x00, 0x11, 0xff, 0x00, 0x00, 0x00, 0x00, 0x0a, 0x00, 0x00, 0x00, 0x05, 0x08, 0x64, 0x10,
+    0x64, 0x01, 0x03, 0x02, 0x01,
+    /* neither domain nor time zone: MTU 1400, flags A and P, transit 20, stub 6, 25 x 10^3 and 40 x 10^6
+     * kbit/s, node 4, diameter 5 */
+    0x03, 0x14, 0x05, 0x78, 0x00, 0x12, 0xf6, 0x00, 0x00, 0x00, 0x00, 0x14, 0x00, 0x00, 0x00, 0x06, 0x0c, 0x19, 0x18,
+    0x28, 0x04, 0x05,
+    /* no stub either: MTU 9000, flag P, transit 30, 1 x 10^6 and 1 x 10^6 kbit/s, node 1, diameter 1 */
+    0x03, 0x10, 0x23, 0x28, 0x00, 0x10, 0xb6, 0x00, 0x00, 0x00, 0x00, 0x1e, 0x18, 0x01, 0x18, 0x01, 0x01, 0x01};
+
+static void print_speed(const char *name, uint16_t speed)
+{
+    printf("  %s: %u x 10^%u kbit/s\n", name, (unsigned)(speed & 0x3ff), (unsigned)(speed >> 10));
+}
+
+static void print_attribute(const pim_attribute *a)
+{
+    printf("  E %d, MTU %u, flags 0x%04x, options 0x%04x\n", a->e, (unsigned)a->mtu, (unsigned)a->flags,
+           (unsigned)a->options);
+    if (a->options & PIM_TRANSIT)
+        printf("  transit: %" PRIu32 "\n", a->values.transit);
+    if (a->options & PIM_STUB)
+        printf("  stub: %" PRIu32 "\n", a->values.stub);
+    if (a->options & PIM_MINIMUM_SPEED)
+        print_speed("least speed", a->values.minimum_speed);
+    if (a->options & PIM_MAXIMUM_SPEED)
+        print_speed("greatest speed", a->values.maximum_speed);
+    if (a->options & PIM_NODE)
+        printf("  node: %u\n", (unsigned)a->values.node);
+    if (a->options & PIM_DIAMETER)
+        printf("  diameter: %u\n", (unsigned)a->values.diameter);
+}
+
+/* Our least speed is as fast as the first contributor's, written in another way: ours stays. */
+static void merge(void)
+{
+    pim_own own = {1500, 0x0014, 2, 1, 0x0c0a, 0x1064}; /* 10 x 10^3 and 100 x 10^4 kbit/s */
+    uint8_t buffer[22];
+    pim_length_answer merged = pim_merge(own, true, contributors, sizeof contributors, buffer, sizeof buffer);
+    pim_attribute_answer read;
+
+    must("pim_merge", merged.refusal);
+    read = pim_read_attribute(buffer, merged.length, 0);
+    must("pim_read_attribute", read.refusal);
+    if (read.next != merged.length)
+        fail("the merged attribute is not read to its end");
+    printf("merged Pop-Count attribute: %zu octets\n", merged.length);
+    print_attribute(&read.attribute);
+}
+
+/* ---- the sheet */
+
+/* Group and source of each pair; in a sheet source 0 is allowed. */
+static const uint32_t pair_rows[][2] = {{0xe8010101, 0x0a010001}, {0xe8010102, 0x0a010001}, {0xef000002, 0x00000000}};
+
+enum { PAIRS = sizeof pair_rows / sizeof pair_rows[0] };
+
+static void make_pairs(uint8_t *entries)
+{
+    size_t i;
+
+    for (i = 0; i < PAIRS; i++) {
+        put_number(entries + PAIR_ENTRY * i, pair_rows[i][0]);
+        put_number(entries + PAIR_ENTRY * i + 4, pair_rows[i][1]);
+    }
+}
+
+/* Field by field: a struct may hold octets between its fields. */
+static bool same_table(const pim_table *a, const pim_table *b)
+{
+    size_t i;
+
+    for (i = 0; i < PIM_ROWS; i++) {
+        const pim_neighbour *x = &a->rows[i];
+        const pim_neighbour *y = &b->rows[i];
+        if (x->address != y->address || x->priority != y->priority || x->has_priority != y->has_priority ||
+            x->packs != y->packs || x->holdtime != y->holdtime)
+            return false;
+    }
+    return a->count == b->count;
+}
+
+static void print_counts(const char *what, pim_counts counts)
+{
+    printf("  %s: %zu asserts, %zu pairs, %zu neighbours\n", what, counts.asserts, counts.pairs, counts.neighbours);
+}
+
+/* Reads the sheet and compares with what it was written from. */
+static void check_read(const uint8_t *sheet, size_t length, const uint8_t *asserts, const uint8_t *pairs,
+                       const pim_table *table)
+{
+    uint8_t asserts_again[ASSERT_ENTRY * ASSERTS];
+    uint8_t pairs_again[PAIR_ENTRY * PAIRS];
+    pim_sheet_answer read =
+        pim_read_sheet(sheet, length, asserts_again, sizeof asserts_again, pairs_again, sizeof pairs_again);
+
+    must("pim_read_sheet", read.refusal);
+    print_counts("read back", read.counts);
+    if (read.counts.asserts != ASSERTS || read.counts.pairs != PAIRS || !same_table(&read.table, table) ||
+        memcmp(asserts_again, asserts, sizeof asserts_again) != 0 ||
+        memcmp(pairs_again, pairs, sizeof pairs_again) != 0)
+        fail("the sheet does not read back to its lists and table");
+    printf("  the same lists and table\n");
+}
+
+static void keep(const uint8_t *asserts, size_t size, const pim_table *table)
+{
+    uint8_t pairs[PAIR_ENTRY * PAIRS];
+    uint8_t sheet[SHEET_ROOM];
+    pim_length_answer written;
+    pim_check_answer checked;
+
+    make_pairs(pairs);
+    written = pim_write_sheet(asserts, size, pairs, sizeof pairs, *table, sheet, sizeof sheet);
+    must("pim_write_sheet", written.refusal);
+    printf("sheet: %zu octets\n", written.length);
+    checked = pim_check_sheet(sheet, written.length);
+    must("pim_check_sheet", checked.refusal);
+    print_counts("checked", checked.counts);
+    check_read(sheet, written.length, asserts, pairs, table);
+}
+
+/* ---- a refusal */
+
+/* The second message of the train has one group. It is made to claim two, with a checksum that holds. */
+static void show_refusal(const message_train *train)
+{
+    uint8_t message[LIMIT];
+    uint8_t entries[2 * ASSERT_ENTRY] = {0};
+    const uint8_t untouched[2 * ASSERT_ENTRY] = {0};
+    size_t length;
+    uint16_t sum;
+    pim_read_answer read;
+
+    if (train->count < 2 || train->lengths[1] < 24)
+        fail("the train has no second message to damage");
+    length = train->lengths[1];
+    memcpy(message, train->octets[1], length);
+    message[23]++; /* the low octet of the number of groups */
+    sum = pim_checksum(message, length);
+    message[2] = (uint8_t)(sum >> 8);
+    message[3] = (uint8_t)sum;
+    if (!pim_checksum_holds(message, length))
+        fail("the new checksum does not hold");
+
+    read = pim_read_asserts(message, length, entries, sizeof entries);
+    if (read.refusal.number == PIM_ACCEPTED)
+        fail("the damaged message is not refused");
+    if (memcmp(entries, untouched, sizeof entries) != 0)
+        fail("the refusal changed lent memory");
+    printf("damaged message: refused %u at %zu\n", (unsigned)read.refusal.number, read.refusal.place);
+}
+
+int main(void)
+{
+    uint8_t asserts[ASSERT_ENTRY * ASSERTS];
+    message_train train;
+    pim_table table;
+    pim_counters counters = pim_counters_none();
+
+    hear_all(&table, &counters);
+    make_asserts(asserts);
+    pack(asserts, sizeof asserts, &train, &counters);
+    check_train(asserts, sizeof asserts, &train, &counters);
+    print_counters(&counters);
+    merge();
+    keep(asserts, sizeof asserts, &table);
+    show_refusal(&train);
+
+    if (fflush(stdout) != 0 || ferror(stdout))
+        fail("the output cannot be written");
+    return EXIT_SUCCESS;
+}
