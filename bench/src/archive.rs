@@ -1,0 +1,246 @@
+//! The archive's functions, declared as in include/pim.h, each behind a safe function over slices.
+
+#[repr(C)]
+#[derive(Clone, Copy, Debug, Default, PartialEq, Eq)]
+pub struct Refusal {
+    pub number: u8,
+    pub place: usize,
+}
+
+#[repr(C)]
+pub struct ReadAnswer {
+    pub refusal: Refusal,
+    pub count: usize,
+    pub kind: u8,
+}
+
+#[repr(C)]
+pub struct PackAnswer {
+    pub refusal: Refusal,
+    pub length: usize,
+    pub taken: usize,
+}
+
+#[repr(C)]
+#[derive(Clone, Copy, Debug, PartialEq, Eq)]
+pub struct Hello {
+    pub holdtime: u16,
+    pub has_priority: bool,
+    pub priority: u32,
+    pub packing: bool,
+}
+
+#[repr(C)]
+pub struct HelloAnswer {
+    pub refusal: Refusal,
+    pub hello: Hello,
+}
+
+pub const ROWS: usize = 16;
+
+#[repr(C)]
+#[derive(Clone, Copy, Debug, Default, PartialEq, Eq)]
+pub struct Neighbour {
+    pub address: u32,
+    pub priority: u32,
+    pub has_priority: bool,
+    pub packs: bool,
+    pub holdtime: u16,
+}
+
+#[repr(C)]
+#[derive(Clone, Copy, Debug, PartialEq, Eq)]
+pub struct Table {
+    pub rows: [Neighbour; ROWS],
+    pub count: usize,
+}
+
+#[repr(C)]
+#[derive(Clone, Copy)]
+pub struct Own {
+    pub mtu: u16,
+    pub flags: u16,
+    pub transit: u32,
+    pub stub: u32,
+    pub minimum_speed: u16,
+    pub maximum_speed: u16,
+}
+
+#[repr(C)]
+pub struct LengthAnswer {
+    pub refusal: Refusal,
+    pub length: usize,
+}
+
+#[repr(C)]
+#[derive(Clone, Copy, Debug, PartialEq, Eq)]
+pub struct Counts {
+    pub asserts: usize,
+    pub pairs: usize,
+    pub neighbours: usize,
+}
+
+#[repr(C)]
+pub struct CheckAnswer {
+    pub refusal: Refusal,
+    pub counts: Counts,
+}
+
+#[repr(C)]
+pub struct SheetAnswer {
+    pub refusal: Refusal,
+    pub counts: Counts,
+    pub table: Table,
+}
+
+type Pack = unsafe extern "C" fn(*const u8, usize, usize, usize, *mut u8, usize) -> PackAnswer;
+
+extern "C" {
+    fn pim_read_asserts(m: *const u8, n: usize, entries: *mut u8, room: usize) -> ReadAnswer;
+    fn pim_read_pairs(m: *const u8, n: usize, entries: *mut u8, room: usize) -> ReadAnswer;
+    fn pim_read_hello(m: *const u8, n: usize) -> HelloAnswer;
+    fn pim_pack_simple(
+        e: *const u8,
+        size: usize,
+        at: usize,
+        limit: usize,
+        b: *mut u8,
+        room: usize,
+    ) -> PackAnswer;
+    fn pim_pack_aggregated(
+        e: *const u8,
+        size: usize,
+        at: usize,
+        limit: usize,
+        b: *mut u8,
+        room: usize,
+    ) -> PackAnswer;
+    fn pim_pack_null_register(
+        e: *const u8,
+        size: usize,
+        at: usize,
+        limit: usize,
+        b: *mut u8,
+        room: usize,
+    ) -> PackAnswer;
+    fn pim_pack_register_stop(
+        e: *const u8,
+        size: usize,
+        at: usize,
+        limit: usize,
+        b: *mut u8,
+        room: usize,
+    ) -> PackAnswer;
+    fn pim_merge(own: Own, e: bool, c: *const u8, n: usize, b: *mut u8, room: usize) -> LengthAnswer;
+    fn pim_check_sheet(o: *const u8, n: usize) -> CheckAnswer;
+    fn pim_read_sheet(
+        o: *const u8,
+        n: usize,
+        asserts: *mut u8,
+        assert_room: usize,
+        pairs: *mut u8,
+        pair_room: usize,
+    ) -> SheetAnswer;
+    fn pim_write_sheet(
+        asserts: *const u8,
+        assert_size: usize,
+        pairs: *const u8,
+        pair_size: usize,
+        table: Table,
+        buffer: *mut u8,
+        room: usize,
+    ) -> LengthAnswer;
+    fn pim_checksum(m: *const u8, n: usize) -> u16;
+    fn pim_checksum_holds(m: *const u8, n: usize) -> bool;
+}
+
+// Each call lends slices that are alive and do not overlap, as the header asks.
+
+#[inline(always)]
+pub fn read_asserts(m: &[u8], entries: &mut [u8]) -> ReadAnswer {
+    unsafe { pim_read_asserts(m.as_ptr(), m.len(), entries.as_mut_ptr(), entries.len()) }
+}
+
+#[inline(always)]
+pub fn read_pairs(m: &[u8], entries: &mut [u8]) -> ReadAnswer {
+    unsafe { pim_read_pairs(m.as_ptr(), m.len(), entries.as_mut_ptr(), entries.len()) }
+}
+
+#[inline(always)]
+pub fn read_hello(m: &[u8]) -> HelloAnswer {
+    unsafe { pim_read_hello(m.as_ptr(), m.len()) }
+}
+
+#[inline(always)]
+fn pack(call: Pack, entries: &[u8], start: usize, limit: usize, buffer: &mut [u8]) -> PackAnswer {
+    unsafe { call(entries.as_ptr(), entries.len(), start, limit, buffer.as_mut_ptr(), buffer.len()) }
+}
+
+#[inline(always)]
+pub fn pack_simple(entries: &[u8], start: usize, limit: usize, buffer: &mut [u8]) -> PackAnswer {
+    pack(pim_pack_simple, entries, start, limit, buffer)
+}
+
+#[inline(always)]
+pub fn pack_aggregated(entries: &[u8], start: usize, limit: usize, buffer: &mut [u8]) -> PackAnswer {
+    pack(pim_pack_aggregated, entries, start, limit, buffer)
+}
+
+#[inline(always)]
+pub fn pack_null_register(entries: &[u8], start: usize, limit: usize, buffer: &mut [u8]) -> PackAnswer {
+    pack(pim_pack_null_register, entries, start, limit, buffer)
+}
+
+#[inline(always)]
+pub fn pack_register_stop(entries: &[u8], start: usize, limit: usize, buffer: &mut [u8]) -> PackAnswer {
+    pack(pim_pack_register_stop, entries, start, limit, buffer)
+}
+
+#[inline(always)]
+pub fn merge(own: Own, e: bool, contributors: &[u8], buffer: &mut [u8]) -> LengthAnswer {
+    unsafe { pim_merge(own, e, contributors.as_ptr(), contributors.len(), buffer.as_mut_ptr(), buffer.len()) }
+}
+
+#[inline(always)]
+pub fn check_sheet(sheet: &[u8]) -> CheckAnswer {
+    unsafe { pim_check_sheet(sheet.as_ptr(), sheet.len()) }
+}
+
+#[inline(always)]
+pub fn read_sheet(sheet: &[u8], asserts: &mut [u8], pairs: &mut [u8]) -> SheetAnswer {
+    unsafe {
+        pim_read_sheet(
+            sheet.as_ptr(),
+            sheet.len(),
+            asserts.as_mut_ptr(),
+            asserts.len(),
+            pairs.as_mut_ptr(),
+            pairs.len(),
+        )
+    }
+}
+
+#[inline(always)]
+pub fn write_sheet(asserts: &[u8], pairs: &[u8], table: Table, buffer: &mut [u8]) -> LengthAnswer {
+    unsafe {
+        pim_write_sheet(
+            asserts.as_ptr(),
+            asserts.len(),
+            pairs.as_ptr(),
+            pairs.len(),
+            table,
+            buffer.as_mut_ptr(),
+            buffer.len(),
+        )
+    }
+}
+
+#[inline(always)]
+pub fn checksum(m: &[u8]) -> u16 {
+    unsafe { pim_checksum(m.as_ptr(), m.len()) }
+}
+
+#[inline(always)]
+pub fn checksum_holds(m: &[u8]) -> bool {
+    unsafe { pim_checksum_holds(m.as_ptr(), m.len()) }
+}

@@ -1,0 +1,173 @@
+//! The inputs, the same in every run.
+
+use second::neighbours::{Neighbour, Table, ROWS};
+use second::rng::Rng;
+
+const R: u32 = 0x8000_0000;
+
+/// A list of entries being made.
+struct List {
+    octets: Vec<u8>,
+    size: usize,
+}
+
+impl List {
+    fn of(count: usize, entry: usize) -> List {
+        List { octets: Vec::with_capacity(count * entry), size: count * entry }
+    }
+
+    fn is_full(&self) -> bool {
+        self.octets.len() >= self.size
+    }
+
+    /// One entry more, unless the list is full.
+    fn put(&mut self, words: &[u32]) {
+        if !self.is_full() {
+            for word in words {
+                self.octets.extend_from_slice(&word.to_be_bytes());
+            }
+        }
+    }
+}
+
+fn group(rng: &mut Rng) -> u32 {
+    0xE000_0000 | rng.next_u32() >> 4
+}
+
+fn source(rng: &mut Rng) -> u32 {
+    rng.next_u32() | 1
+}
+
+fn preference(rng: &mut Rng) -> u32 {
+    rng.next_u32() & 0xFF
+}
+
+/// Assert entries without anything in common, 32 with R=0 and 32 with R=1 in turn: a change at each entry
+/// would measure the branch predictor.
+pub fn lone_asserts(count: usize) -> Vec<u8> {
+    let mut rng = Rng::new(1);
+    let mut list = List::of(count, 16);
+    for i in 0..count {
+        let r = if i / 32 % 2 == 0 { 0 } else { R };
+        let entry = [group(&mut rng), source(&mut rng), r | preference(&mut rng), rng.next_u32() & 0xFFFF];
+        list.put(&entry);
+    }
+    list.octets
+}
+
+/// Assert entries as a lab has them: sources with 1 to 24 groups (R=0), and routers with 1 to 6 groups of
+/// 1 to 8 sources, or of source 0 alone (R=1).
+pub fn mixed_asserts(count: usize) -> Vec<u8> {
+    let mut rng = Rng::new(2);
+    let mut list = List::of(count, 16);
+    while !list.is_full() {
+        if rng.one_in(2) {
+            source_run(&mut rng, &mut list);
+        } else {
+            rp_run(&mut rng, &mut list);
+        }
+    }
+    list.octets
+}
+
+fn source_run(rng: &mut Rng, list: &mut List) {
+    let (source, preference, metric) = (source(rng), preference(rng), rng.next_u32() & 0xFFFF);
+    for _ in 0..1 + rng.below(24) {
+        list.put(&[group(rng), source, preference, metric]);
+    }
+}
+
+fn rp_run(rng: &mut Rng, list: &mut List) {
+    let (preference, metric) = (R | preference(rng), rng.next_u32() & 0xFFFF);
+    for _ in 0..1 + rng.below(6) {
+        let group = group(rng);
+        if rng.one_in(4) {
+            list.put(&[group, 0, preference, metric]);
+            continue;
+        }
+        for _ in 0..1 + rng.below(8) {
+            list.put(&[group, source(rng), preference, metric]);
+        }
+    }
+}
+
+/// Assert entries of one source, R=0: a single run of groups.
+pub fn one_source_asserts(count: usize) -> Vec<u8> {
+    let mut rng = Rng::new(3);
+    let mut list = List::of(count, 16);
+    while !list.is_full() {
+        list.put(&[group(&mut rng), 0x0A00_0001, 110, 20]);
+    }
+    list.octets
+}
+
+/// Assert entries of one group, R=1: a single run of sources.
+pub fn one_group_asserts(count: usize) -> Vec<u8> {
+    let mut rng = Rng::new(4);
+    let mut list = List::of(count, 16);
+    while !list.is_full() {
+        list.put(&[0xE801_0101, source(&mut rng), R | 110, 20]);
+    }
+    list.octets
+}
+
+/// Pair entries, no source 0.
+pub fn pairs(count: usize) -> Vec<u8> {
+    let mut rng = Rng::new(5);
+    let mut list = List::of(count, 8);
+    while !list.is_full() {
+        list.put(&[group(&mut rng), source(&mut rng)]);
+    }
+    list.octets
+}
+
+/// Octets with a checksum field of 0.
+pub fn unsealed(length: usize) -> Vec<u8> {
+    let mut octets = vec![0; length];
+    Rng::new(6).fill(&mut octets);
+    octets[2..4].fill(0);
+    octets
+}
+
+/// A table with all its rows in use.
+pub fn table() -> Table {
+    let mut table = Table::empty();
+    for (i, row) in table.rows.iter_mut().enumerate() {
+        let n = i as u32;
+        *row = Neighbour {
+            address: 0x0A00_0001 + n,
+            priority: n % 2 * (n + 1),
+            has_priority: n % 2 == 1,
+            packs: n < 12,
+            holdtime: 105,
+        };
+    }
+    table.count = ROWS;
+    table
+}
+
+/// Attributes back to back, each with all eight options: 24 octets.
+pub fn attributes(count: usize) -> Vec<u8> {
+    let mut rng = Rng::new(7);
+    let mut octets = Vec::new();
+    for _ in 0..count {
+        octets.extend_from_slice(&[3, 22, 0x05, 0xDC, 0, 0x13, 0xFF, 0]);
+        octets.extend_from_slice(&(rng.next_u32() >> 12).to_be_bytes());
+        octets.extend_from_slice(&(rng.next_u32() >> 12).to_be_bytes());
+        octets.extend_from_slice(&speed(&mut rng).to_be_bytes());
+        octets.extend_from_slice(&speed(&mut rng).to_be_bytes());
+        octets.extend_from_slice(&[1, rng.below(12) as u8, rng.below(30) as u8, 0]);
+    }
+    octets
+}
+
+/// A link speed with an exponent from 1 to 6.
+fn speed(rng: &mut Rng) -> u16 {
+    (1 + rng.below(6) as u16) << 10 | (1 + rng.below(1023) as u16)
+}
+
+/// A Hello with holdtime, priority, a generation identifier and the packed assert capability.
+pub const HELLO: [u8; 30] = [
+    0x20, 0x00, 0x8D, 0xA8, 0x00, 0x01, 0x00, 0x02, 0x00, 0x69, 0x00, 0x13, 0x00, 0x04, 0x00, 0x00, 0x00,
+    0x05, 0x00, 0x14, 0x00, 0x04, 0x12, 0x34, 0x3F, 0x5B, 0x00, 0x28, 0x00, 0x00,
+];

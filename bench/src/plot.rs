@@ -1,0 +1,133 @@
+//! The ratios as a dot plot, written as SVG by hand.
+
+use crate::rows::Row;
+use std::fmt::Write;
+
+const LABELS: f64 = 330.0;
+/// Beside the plot, for the number of a dot at its edge.
+const MARGIN: f64 = 40.0;
+const PLOT: f64 = 430.0;
+const TOP: f64 = 64.0;
+const STEP: f64 = 15.0;
+const BOTTOM: f64 = 34.0;
+
+/// A scale in powers of two, from a whole one to a whole one.
+struct Scale {
+    low: i32,
+    high: i32,
+}
+
+impl Scale {
+    /// Holds all ratios and 1/2 to 2.
+    fn of(rows: &[Row]) -> Scale {
+        let mut scale = Scale { low: -1, high: 1 };
+        for row in rows {
+            let power = row.times.ratio().log2();
+            scale.low = scale.low.min(power.floor() as i32);
+            scale.high = scale.high.max(power.ceil() as i32);
+        }
+        scale
+    }
+
+    fn x(&self, ratio: f64) -> f64 {
+        let part = (ratio.log2() - f64::from(self.low)) / f64::from(self.high - self.low);
+        LABELS + MARGIN + PLOT * part
+    }
+}
+
+pub fn svg(rows: &[Row]) -> String {
+    let scale = Scale::of(rows);
+    let width = LABELS + MARGIN + PLOT + MARGIN;
+    let height = TOP + STEP * rows.len() as f64 + BOTTOM;
+    let mut svg = head(width, height);
+    bands(&mut svg, rows, width);
+    axis(&mut svg, &scale, height);
+    for (i, row) in rows.iter().enumerate() {
+        dot(&mut svg, &scale, row, TOP + STEP * (i as f64 + 0.5));
+    }
+    svg.push_str("</svg>\n");
+    svg
+}
+
+fn head(width: f64, height: f64) -> String {
+    format!(
+        "<svg xmlns=\"http://www.w3.org/2000/svg\" viewBox=\"0 0 {width} {height}\" width=\"{width}\" \
+         height=\"{height}\" font-family=\"sans-serif\" font-size=\"11\" role=\"img\">\n\
+         <title>Time of the second program divided by time of the archive</title>\n\
+         <rect width=\"{width}\" height=\"{height}\" fill=\"#ffffff\"/>\n\
+         <text x=\"12\" y=\"20\" font-size=\"14\" fill=\"#222222\">Time of the second program divided by time of the \
+         archive</text>\n\
+         <text x=\"12\" y=\"37\" fill=\"#555555\">To the right of 1 the archive is faster. The scale is \
+         logarithmic.</text>\n"
+    )
+}
+
+/// A grey band behind every other family, so that its rows are seen together.
+fn bands(svg: &mut String, rows: &[Row], width: f64) {
+    let mut y = TOP;
+    for (i, family) in rows.chunk_by(|a, b| a.family == b.family).enumerate() {
+        let height = STEP * family.len() as f64;
+        if i % 2 == 0 {
+            put(
+                svg,
+                format!("<rect x=\"0\" y=\"{y}\" width=\"{width}\" height=\"{height}\" fill=\"#f3f4f6\"/>"),
+            );
+        }
+        y += height;
+    }
+}
+
+/// A line for each power of two, the one at 1 darker, with its number above and below.
+fn axis(svg: &mut String, scale: &Scale, height: f64) {
+    for power in scale.low..=scale.high {
+        let ratio = 2f64.powi(power);
+        let x = scale.x(ratio);
+        let (colour, width) = if power == 0 { ("#333333", 1.5) } else { ("#dddddd", 1.0) };
+        let bottom = height - BOTTOM;
+        put(
+            svg,
+            format!(
+                "<line x1=\"{x:.1}\" y1=\"{TOP}\" x2=\"{x:.1}\" y2=\"{bottom}\" stroke=\"{colour}\" \
+                 stroke-width=\"{width}\"/>"
+            ),
+        );
+        for y in [TOP - 6.0, bottom + 15.0] {
+            put(
+                svg,
+                format!(
+                    "<text x=\"{x:.1}\" y=\"{y}\" text-anchor=\"middle\" fill=\"#333333\">{ratio}</text>"
+                ),
+            );
+        }
+    }
+}
+
+/// The row's name, a line from 1 to its ratio, a dot and the number.
+fn dot(svg: &mut String, scale: &Scale, row: &Row, y: f64) {
+    let ratio = row.times.ratio();
+    let (one, x) = (scale.x(1.0), scale.x(ratio));
+    let colour = if ratio < 1.0 { "#c2410c" } else { "#1d4ed8" };
+    let (anchor, side) = if ratio < 1.0 { ("end", -8.0) } else { ("start", 8.0) };
+    let base = y + 4.0;
+    put(
+        svg,
+        format!(
+            "<text x=\"{}\" y=\"{base}\" text-anchor=\"end\" fill=\"#222222\">{}</text>",
+            LABELS,
+            row.name()
+        ),
+    );
+    put(
+        svg,
+        format!(
+            "<line x1=\"{one:.1}\" y1=\"{y}\" x2=\"{x:.1}\" y2=\"{y}\" stroke=\"{colour}\" stroke-width=\"2\"/>\
+             <circle cx=\"{x:.1}\" cy=\"{y}\" r=\"4\" fill=\"{colour}\"/>\
+             <text x=\"{:.1}\" y=\"{base}\" text-anchor=\"{anchor}\" fill=\"{colour}\">{ratio:.2}</text>",
+            x + side
+        ),
+    );
+}
+
+fn put(svg: &mut String, line: String) {
+    writeln!(svg, "{line}").expect("a string takes every line");
+}

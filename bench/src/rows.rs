@@ -1,0 +1,468 @@
+//! The rows: each checks that both sides give the same, and times them.
+
+use crate::archive::{self, PackAnswer, ReadAnswer};
+use crate::input;
+use crate::measure::{compare, side, Times};
+use second::{checksum, hello, pack, popcount, read, sheet, Answer, Kind};
+use std::hint::black_box;
+
+/// The usual limit, and the largest.
+const LIMITS: [usize; 2] = [1_480, 65_515];
+const TRAIN_LIMITS: [usize; 3] = [576, 1_480, 65_515];
+const TRAIN_ENTRIES: [usize; 2] = [1_024, 8_192];
+/// More entries than any message holds.
+const MANY: usize = 12_000;
+
+/// A measured row. Rows of one family differ only in size.
+pub struct Row {
+    pub family: String,
+    pub size: String,
+    pub octets: usize,
+    pub records: usize,
+    /// The entries that the calls of a train look at, by the rule on refusal 7.
+    pub looked_at: Option<usize>,
+    pub times: Times,
+}
+
+impl Row {
+    pub fn name(&self) -> String {
+        format!("{}, {}", self.family, self.size)
+    }
+}
+
+pub struct Measured {
+    pub rows: Vec<Row>,
+    /// The archive's checksum against the second program's deferred sum, which folds all carries in at the end.
+    pub deferred: Vec<Row>,
+}
+
+/// All rows, in the order of the report.
+pub fn measure() -> Measured {
+    let mut measured = Measured { rows: Vec::new(), deferred: Vec::new() };
+    reading(&mut measured.rows);
+    trains(&mut measured.rows);
+    checksums(&mut measured);
+    sheets(&mut measured.rows);
+    measured.rows.push(merge());
+    measured.rows.push(read_hello());
+    measured
+}
+
+/// 1,480 for 1480.
+pub fn thousands(n: usize) -> String {
+    if n < 1_000 {
+        return n.to_string();
+    }
+    format!("{},{:03}", thousands(n / 1_000), n % 1_000)
+}
+
+// ---- reading
+
+type SecondPack = fn(&[u8], usize, usize, &mut [u8]) -> Answer<(usize, usize)>;
+
+fn reading(rows: &mut Vec<Row>) {
+    let aggregated = pack::pack_aggregated;
+    read_asserts(rows, "read simple", &input::lone_asserts(MANY), pack::pack_simple);
+    read_asserts(rows, "read aggregated", &input::mixed_asserts(MANY), aggregated);
+    read_asserts(rows, "read aggregated, one source", &input::one_source_asserts(MANY), aggregated);
+    read_asserts(rows, "read aggregated, one group", &input::one_group_asserts(MANY), aggregated);
+    read_pairs(rows, "read null-register", pack::pack_null_register);
+    read_pairs(rows, "read register-stop", pack::pack_register_stop);
+}
+
+/// The fullest message within the limit.
+fn message(list: &[u8], limit: usize, pack: SecondPack) -> Vec<u8> {
+    let mut message = vec![0; limit];
+    let (length, _) = pack(list, 0, limit, &mut message).expect("the list is good");
+    message.truncate(length);
+    message
+}
+
+fn read_asserts(rows: &mut Vec<Row>, family: &str, list: &[u8], pack: SecondPack) {
+    for limit in LIMITS {
+        let message = message(list, limit, pack);
+        rows.push(read_row(family, limit, &message, 16, archive::read_asserts, read::read_asserts));
+    }
+}
+
+fn read_pairs(rows: &mut Vec<Row>, family: &str, pack: SecondPack) {
+    let list = input::pairs(MANY);
+    for limit in LIMITS {
+        let message = message(&list, limit, pack);
+        rows.push(read_row(family, limit, &message, 8, archive::read_pairs, read::read_pairs));
+    }
+}
+
+fn read_row(
+    family: &str,
+    limit: usize,
+    message: &[u8],
+    entry: usize,
+    ours: impl Fn(&[u8], &mut [u8]) -> ReadAnswer,
+    theirs: impl Fn(&[u8], &mut [u8]) -> Answer<(Kind, usize)>,
+) -> Row {
+    let mut a = vec![0; entry * MANY];
+    let mut s = vec![0; entry * MANY];
+    let answer = ours(message, &mut a);
+    let (kind, count) = theirs(message, &mut s).expect("the message is good");
+    assert_eq!((answer.refusal.number, answer.kind, answer.count), (0, kind.number(), count), "{family}");
+    assert!(a == s, "{family}: the entries differ");
+    let times = compare(
+        &mut side(|| {
+            black_box(ours(black_box(message), black_box(&mut a)));
+        }),
+        &mut side(|| {
+            black_box(theirs(black_box(message), black_box(&mut s))).ok();
+        }),
+    );
+    Row {
+        family: family.to_string(),
+        size: format!("limit {}", thousands(limit)),
+        octets: message.len(),
+        records: count,
+        looked_at: None,
+        times,
+    }
+}
+
+// ---- whole trains
+
+fn trains(rows: &mut Vec<Row>) {
+    for limit in TRAIN_LIMITS {
+        train_rows(rows, "simple", 16, input::lone_asserts, limit, archive::pack_simple, pack::pack_simple);
+    }
+    for limit in TRAIN_LIMITS {
+        let (ours, theirs) = (archive::pack_aggregated, pack::pack_aggregated);
+        train_rows(rows, "aggregated", 16, input::mixed_asserts, limit, ours, theirs);
+    }
+    for limit in TRAIN_LIMITS {
+        let (ours, theirs) = (archive::pack_null_register, pack::pack_null_register);
+        train_rows(rows, "null-register", 8, input::pairs, limit, ours, theirs);
+    }
+    for limit in TRAIN_LIMITS {
+        let (ours, theirs) = (archive::pack_register_stop, pack::pack_register_stop);
+        train_rows(rows, "register-stop", 8, input::pairs, limit, ours, theirs);
+    }
+}
+
+/// Length and taken of the next message, in the buffer.
+trait Packing: Fn(&[u8], usize, usize, &mut [u8]) -> (usize, usize) {}
+impl<F: Fn(&[u8], usize, usize, &mut [u8]) -> (usize, usize)> Packing for F {}
+
+fn train_rows(
+    rows: &mut Vec<Row>,
+    kind: &str,
+    entry: usize,
+    list: impl Fn(usize) -> Vec<u8>,
+    limit: usize,
+    ours: impl Fn(&[u8], usize, usize, &mut [u8]) -> PackAnswer,
+    theirs: impl Fn(&[u8], usize, usize, &mut [u8]) -> Answer<(usize, usize)>,
+) {
+    let ours = |list: &[u8], start: usize, limit: usize, buffer: &mut [u8]| {
+        let answer = ours(list, start, limit, buffer);
+        assert_eq!(answer.refusal.number, 0, "the archive refuses to pack");
+        (answer.length, answer.taken)
+    };
+    let theirs = |list: &[u8], start: usize, limit: usize, buffer: &mut [u8]| {
+        theirs(list, start, limit, buffer).expect("the second program packs")
+    };
+    for entries in TRAIN_ENTRIES {
+        let row = train_row(kind, entry, &list(entries), limit, &ours, &theirs);
+        rows.push(row);
+    }
+}
+
+fn train_row(
+    kind: &str,
+    entry: usize,
+    list: &[u8],
+    limit: usize,
+    ours: &impl Packing,
+    theirs: &impl Packing,
+) -> Row {
+    let train = whole_train(list, limit, theirs);
+    assert!(train == whole_train(list, limit, ours), "{kind}: the trains differ at limit {limit}");
+    let mut a = vec![0; limit];
+    let mut s = vec![0; limit];
+    let times = compare(
+        &mut side(|| {
+            black_box(pack_all(black_box(list), black_box(limit), black_box(&mut a), ours));
+        }),
+        &mut side(|| {
+            black_box(pack_all(black_box(list), black_box(limit), black_box(&mut s), theirs));
+        }),
+    );
+    let entries = list.len() / entry;
+    Row {
+        family: format!("pack {kind}, limit {}", thousands(limit)),
+        size: format!("{} entries", thousands(entries)),
+        octets: train.iter().map(|(message, _)| message.len()).sum(),
+        records: entries,
+        looked_at: Some(looked_at(entries, &train)),
+        times,
+    }
+}
+
+/// Each message, and the entries it took.
+fn whole_train(list: &[u8], limit: usize, pack: &impl Packing) -> Vec<(Vec<u8>, usize)> {
+    let mut train = Vec::new();
+    let mut buffer = vec![0; limit];
+    let mut start = 0;
+    loop {
+        let (length, taken) = pack(list, start, limit, &mut buffer);
+        if length == 0 {
+            return train;
+        }
+        train.push((buffer[..length].to_vec(), taken));
+        start += taken;
+    }
+}
+
+/// The train again, each message over the one before: what is timed.
+#[inline(always)]
+fn pack_all(list: &[u8], limit: usize, buffer: &mut [u8], pack: &impl Packing) -> usize {
+    let mut start = 0;
+    loop {
+        let (length, taken) = pack(list, start, limit, buffer);
+        if length == 0 {
+            return start;
+        }
+        start += taken;
+    }
+}
+
+/// Every call looks at all entries from its start on.
+fn looked_at(entries: usize, train: &[(Vec<u8>, usize)]) -> usize {
+    let mut left = entries;
+    let mut sum = 0;
+    for (_, taken) in train {
+        sum += left;
+        left -= taken;
+    }
+    sum
+}
+
+// ---- the checksum
+
+fn checksums(measured: &mut Measured) {
+    for octets in LIMITS {
+        measured.rows.push(checksum_row("checksum made", octets, checksum::checksum));
+    }
+    for octets in LIMITS {
+        measured.rows.push(checksum_holds_row(octets));
+    }
+    for octets in LIMITS {
+        measured.deferred.push(checksum_row("checksum", octets, checksum::checksum_deferred));
+    }
+}
+
+/// The field of a message, its field being 0.
+fn checksum_row(family: &str, octets: usize, theirs: impl Fn(&[u8]) -> u16) -> Row {
+    let message = input::unsealed(octets);
+    assert_eq!(archive::checksum(&message), theirs(&message), "{family}");
+    let times = compare(
+        &mut side(|| {
+            black_box(archive::checksum(black_box(&message)));
+        }),
+        &mut side(|| {
+            black_box(theirs(black_box(&message)));
+        }),
+    );
+    octets_row(family, octets, times)
+}
+
+/// Whether a message's checksum holds.
+fn checksum_holds_row(octets: usize) -> Row {
+    let mut message = input::unsealed(octets);
+    let sum = checksum::checksum(&message);
+    message[2..4].copy_from_slice(&sum.to_be_bytes());
+    assert!(archive::checksum_holds(&message) && checksum::checksum(&message) == 0);
+    let times = compare(
+        &mut side(|| {
+            black_box(archive::checksum_holds(black_box(&message)));
+        }),
+        &mut side(|| {
+            black_box(checksum::checksum(black_box(&message)) == 0);
+        }),
+    );
+    octets_row("checksum checked", octets, times)
+}
+
+/// A row that has no records.
+fn octets_row(family: &str, octets: usize, times: Times) -> Row {
+    Row {
+        family: family.to_string(),
+        size: format!("{} octets", thousands(octets)),
+        octets,
+        records: 0,
+        looked_at: None,
+        times,
+    }
+}
+
+// ---- the sheet
+
+const SHEET_ENTRIES: usize = 1_024;
+
+/// The three lists of a full sheet, and the sheet.
+struct Full {
+    asserts: Vec<u8>,
+    pairs: Vec<u8>,
+    theirs: second::neighbours::Table,
+    ours: archive::Table,
+    sheet: Vec<u8>,
+}
+
+impl Full {
+    fn sheet() -> Full {
+        let asserts = input::mixed_asserts(SHEET_ENTRIES);
+        let pairs = input::pairs(SHEET_ENTRIES);
+        let theirs = input::table();
+        let mut sheet = vec![0; 24_780];
+        let length = sheet::write_sheet(&asserts, &pairs, &theirs, &mut sheet);
+        assert_eq!(length, Ok(sheet.len()));
+        Full { asserts, pairs, theirs, ours: archive_table(&theirs), sheet }
+    }
+
+    fn row(&self, family: &str, times: Times) -> Row {
+        Row {
+            family: family.to_string(),
+            size: "full".to_string(),
+            octets: self.sheet.len(),
+            records: 2 * SHEET_ENTRIES + self.ours.count,
+            looked_at: None,
+            times,
+        }
+    }
+}
+
+/// The same table in the archive's form.
+fn archive_table(table: &second::neighbours::Table) -> archive::Table {
+    let rows = table.rows.map(|row| archive::Neighbour {
+        address: row.address,
+        priority: row.priority,
+        has_priority: row.has_priority,
+        packs: row.packs,
+        holdtime: row.holdtime,
+    });
+    archive::Table { rows, count: table.count }
+}
+
+fn sheets(rows: &mut Vec<Row>) {
+    let full = Full::sheet();
+    rows.push(read_sheet(&full));
+    rows.push(write_sheet(&full));
+    rows.push(check_sheet(&full));
+}
+
+fn read_sheet(full: &Full) -> Row {
+    let mut a = (vec![0; full.asserts.len()], vec![0; full.pairs.len()]);
+    let mut s = a.clone();
+    let answer = archive::read_sheet(&full.sheet, &mut a.0, &mut a.1);
+    assert_eq!(answer.refusal.number, 0, "the archive refuses the sheet");
+    assert!(a.0 == full.asserts && a.1 == full.pairs && answer.table == full.ours, "read sheet");
+    let times = compare(
+        &mut side(|| {
+            black_box(archive::read_sheet(black_box(&full.sheet), black_box(&mut a.0), black_box(&mut a.1)));
+        }),
+        &mut side(|| {
+            let answer = sheet::read_sheet(black_box(&full.sheet), black_box(&mut s.0), black_box(&mut s.1));
+            black_box(answer).ok();
+        }),
+    );
+    assert!(s == a, "read sheet");
+    full.row("read sheet", times)
+}
+
+fn write_sheet(full: &Full) -> Row {
+    let mut a = vec![0; full.sheet.len()];
+    let mut s = a.clone();
+    let times = compare(
+        &mut side(|| {
+            let table = *black_box(&full.ours);
+            let (asserts, pairs) = (black_box(&full.asserts), black_box(&full.pairs));
+            black_box(archive::write_sheet(asserts, pairs, table, black_box(&mut a)));
+        }),
+        &mut side(|| {
+            let table = black_box(&full.theirs);
+            let (asserts, pairs) = (black_box(&full.asserts), black_box(&full.pairs));
+            black_box(sheet::write_sheet(asserts, pairs, table, black_box(&mut s))).ok();
+        }),
+    );
+    assert!(a == full.sheet && s == full.sheet, "write sheet");
+    full.row("write sheet", times)
+}
+
+fn check_sheet(full: &Full) -> Row {
+    let answer = archive::check_sheet(&full.sheet);
+    assert_eq!((answer.refusal.number, answer.counts.asserts), (0, SHEET_ENTRIES), "check sheet");
+    let times = compare(
+        &mut side(|| {
+            black_box(archive::check_sheet(black_box(&full.sheet)));
+        }),
+        &mut side(|| {
+            black_box(sheet::check_sheet(black_box(&full.sheet))).ok();
+        }),
+    );
+    full.row("check sheet", times)
+}
+
+// ---- single calls
+
+const ATTRIBUTES: usize = 20;
+
+fn merge() -> Row {
+    let contributors = input::attributes(ATTRIBUTES);
+    let (a_own, s_own) = own_values();
+    let mut a = [0; 22];
+    let mut s = [0; 22];
+    let answer = archive::merge(a_own, true, &contributors, &mut a);
+    let length = popcount::merge(s_own, &contributors, true, &mut s).expect("the attributes are good");
+    assert_eq!((answer.refusal.number, answer.length, a), (0, length, s), "merge");
+    let times = compare(
+        &mut side(|| {
+            black_box(archive::merge(black_box(a_own), true, black_box(&contributors), black_box(&mut a)));
+        }),
+        &mut side(|| {
+            let answer = popcount::merge(black_box(s_own), black_box(&contributors), true, black_box(&mut s));
+            black_box(answer).ok();
+        }),
+    );
+    Row {
+        family: "merge Pop-Count".to_string(),
+        size: format!("{ATTRIBUTES} attributes"),
+        octets: contributors.len(),
+        records: ATTRIBUTES,
+        looked_at: None,
+        times,
+    }
+}
+
+/// Our own values for each side.
+fn own_values() -> (archive::Own, popcount::Own) {
+    let (mtu, flags, transit, stub, least, greatest) = (1_500, 0x13, 3, 7, 0x0864, 0x1064);
+    (
+        archive::Own { mtu, flags, transit, stub, minimum_speed: least, maximum_speed: greatest },
+        popcount::Own { mtu, flags, transit, stub, least_speed: least, greatest_speed: greatest },
+    )
+}
+
+fn read_hello() -> Row {
+    let message = input::HELLO;
+    let answer = archive::read_hello(&message);
+    let said = hello::read_hello(&message).expect("the Hello is good");
+    assert_eq!(answer.refusal.number, 0, "the archive refuses the Hello");
+    assert_eq!(
+        (answer.hello.holdtime, answer.hello.has_priority, answer.hello.priority, answer.hello.packing),
+        (said.holdtime, said.priority.is_some(), said.priority.unwrap_or(0), said.packing)
+    );
+    let times = compare(
+        &mut side(|| {
+            black_box(archive::read_hello(black_box(&message)));
+        }),
+        &mut side(|| {
+            black_box(hello::read_hello(black_box(&message))).ok();
+        }),
+    );
+    octets_row("read Hello", message.len(), times)
+}

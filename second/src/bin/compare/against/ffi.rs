@@ -1,0 +1,279 @@
+//! The C interface of the first implementation, as `pim.h` declares it.
+//! A truth value is an octet here, so that one other than 0 and 1 is seen.
+
+macro_rules! records {
+    ($($(#[$note:meta])* $name:ident { $($field:ident: $form:ty,)* })*) => {$(
+        $(#[$note])*
+        #[repr(C)]
+        #[derive(Clone, Copy, Debug, Default, PartialEq, Eq)]
+        pub struct $name {
+            $(pub $field: $form,)*
+        }
+    )*};
+}
+
+records! {
+    Refusal {
+        number: u8,
+        place: usize,
+    }
+
+    HeaderAnswer {
+        refusal: Refusal,
+        kind: u8,
+    }
+
+    RecordAnswer {
+        refusal: Refusal,
+        next: usize,
+        group: u32,
+        source: u32,
+        r_preference: u32,
+        metric: u32,
+        is_pair: u8,
+    }
+
+    ReadAnswer {
+        refusal: Refusal,
+        count: usize,
+        kind: u8,
+    }
+
+    Hello {
+        holdtime: u16,
+        has_priority: u8,
+        priority: u32,
+        packing: u8,
+    }
+
+    HelloAnswer {
+        refusal: Refusal,
+        hello: Hello,
+    }
+
+    PackAnswer {
+        refusal: Refusal,
+        length: usize,
+        taken: usize,
+    }
+
+    ChoiceAnswer {
+        refusal: Refusal,
+        length: usize,
+        taken: usize,
+        aggregated: u8,
+    }
+
+    Neighbour {
+        address: u32,
+        priority: u32,
+        has_priority: u8,
+        packs: u8,
+        holdtime: u16,
+    }
+
+    Table {
+        rows: [Neighbour; 16],
+        count: usize,
+    }
+
+    TableAnswer {
+        refusal: Refusal,
+        table: Table,
+        done: u8,
+    }
+
+    AllowedAnswer {
+        refusal: Refusal,
+        allowed: u8,
+    }
+
+    ElectAnswer {
+        refusal: Refusal,
+        address: u32,
+    }
+
+    Totals {
+        messages: u64,
+        records: u64,
+    }
+
+    ByKind {
+        hello: Totals,
+        assert: Totals,
+        simple: Totals,
+        aggregated: Totals,
+        null_register: Totals,
+        register_stop: Totals,
+    }
+
+    Counters {
+        sent: ByKind,
+        received: ByKind,
+    }
+
+    CountAnswer {
+        refusal: Refusal,
+        counters: Counters,
+    }
+
+    Values {
+        transit: u32,
+        stub: u32,
+        minimum_speed: u16,
+        maximum_speed: u16,
+        domain: u8,
+        node: u8,
+        diameter: u8,
+        time_zone: u8,
+    }
+
+    Attribute {
+        e: u8,
+        mtu: u16,
+        flags: u16,
+        options: u16,
+        values: Values,
+    }
+
+    AttributeAnswer {
+        refusal: Refusal,
+        next: usize,
+        attribute: Attribute,
+    }
+
+    Own {
+        mtu: u16,
+        flags: u16,
+        transit: u32,
+        stub: u32,
+        minimum_speed: u16,
+        maximum_speed: u16,
+    }
+
+    LengthAnswer {
+        refusal: Refusal,
+        length: usize,
+    }
+
+    Counts {
+        asserts: usize,
+        pairs: usize,
+        neighbours: usize,
+    }
+
+    CheckAnswer {
+        refusal: Refusal,
+        counts: Counts,
+    }
+
+    SheetAnswer {
+        refusal: Refusal,
+        counts: Counts,
+        table: Table,
+    }
+}
+
+#[link(name = "pim", kind = "static")]
+extern "C" {
+    pub fn pim_header(m: *const u8, n: usize) -> HeaderAnswer;
+    pub fn pim_body(m: *const u8, n: usize) -> usize;
+    pub fn pim_read_record(kind: u8, o: *const u8, n: usize, at: usize) -> RecordAnswer;
+    pub fn pim_read_asserts(m: *const u8, n: usize, entries: *mut u8, room: usize) -> ReadAnswer;
+    pub fn pim_read_pairs(m: *const u8, n: usize, entries: *mut u8, room: usize) -> ReadAnswer;
+    pub fn pim_read_hello(m: *const u8, n: usize) -> HelloAnswer;
+
+    pub fn pim_pack_assert(
+        entries: *const u8,
+        size: usize,
+        start: usize,
+        limit: usize,
+        buffer: *mut u8,
+        room: usize,
+    ) -> PackAnswer;
+    pub fn pim_pack_simple(
+        entries: *const u8,
+        size: usize,
+        start: usize,
+        limit: usize,
+        buffer: *mut u8,
+        room: usize,
+    ) -> PackAnswer;
+    pub fn pim_pack_aggregated(
+        entries: *const u8,
+        size: usize,
+        start: usize,
+        limit: usize,
+        buffer: *mut u8,
+        room: usize,
+    ) -> PackAnswer;
+    pub fn pim_pack_null_register(
+        entries: *const u8,
+        size: usize,
+        start: usize,
+        limit: usize,
+        buffer: *mut u8,
+        room: usize,
+    ) -> PackAnswer;
+    pub fn pim_pack_register_stop(
+        entries: *const u8,
+        size: usize,
+        start: usize,
+        limit: usize,
+        buffer: *mut u8,
+        room: usize,
+    ) -> PackAnswer;
+    pub fn pim_pack_both(
+        entries: *const u8,
+        size: usize,
+        start: usize,
+        limit: usize,
+        simple: *mut u8,
+        simple_room: usize,
+        aggregated: *mut u8,
+        aggregated_room: usize,
+    ) -> ChoiceAnswer;
+
+    pub fn pim_table_empty() -> Table;
+    pub fn pim_hear(table: Table, address: u32, said: Hello) -> TableAnswer;
+    pub fn pim_forget(table: Table, address: u32) -> TableAnswer;
+    pub fn pim_packing_allowed(table: Table) -> AllowedAnswer;
+    pub fn pim_elect(table: Table, address: u32, priority: u32) -> ElectAnswer;
+    pub fn pim_elect_rows(table: Table) -> ElectAnswer;
+
+    pub fn pim_counters_none() -> Counters;
+    pub fn pim_count(counters: Counters, received: bool, kind: u8, records: u64) -> CountAnswer;
+
+    pub fn pim_read_attribute(o: *const u8, n: usize, at: usize) -> AttributeAnswer;
+    pub fn pim_compare_speeds(a: u16, b: u16) -> u8;
+    pub fn pim_merge(
+        own: Own,
+        e: bool,
+        contributors: *const u8,
+        n: usize,
+        buffer: *mut u8,
+        room: usize,
+    ) -> LengthAnswer;
+
+    pub fn pim_check_sheet(o: *const u8, n: usize) -> CheckAnswer;
+    pub fn pim_read_sheet(
+        o: *const u8,
+        n: usize,
+        asserts: *mut u8,
+        assert_room: usize,
+        pairs: *mut u8,
+        pair_room: usize,
+    ) -> SheetAnswer;
+    pub fn pim_write_sheet(
+        asserts: *const u8,
+        assert_size: usize,
+        pairs: *const u8,
+        pair_size: usize,
+        table: Table,
+        buffer: *mut u8,
+        room: usize,
+    ) -> LengthAnswer;
+
+    pub fn pim_checksum(m: *const u8, n: usize) -> u16;
+    pub fn pim_checksum_holds(m: *const u8, n: usize) -> u8;
+}

@@ -1,0 +1,515 @@
+//! What the calls are given: messages, lists, tables, counters, attributes and
+//! sheets, good and damaged.
+
+use second::checksum::checksum;
+use second::counters::{Count, Counters};
+use second::neighbours::{Neighbour, Table, ROWS};
+use second::popcount::Own;
+use second::rng::Rng;
+use second::sheet::write_sheet;
+
+pub const R: u32 = 0x8000_0000;
+
+// Small alphabets, so that neighbouring entries often join.
+const GROUPS: [u32; 3] = [0xE801_0101, 0xE801_0102, 0xEFFF_FFFF];
+const SOURCES: [u32; 3] = [0, 0x0A00_0001, 0xFFFF_FFFF];
+const PREFERENCES: [u32; 2] = [110, 0x7FFF_FFFF];
+const METRICS: [u32; 2] = [20, 0xFFFF_FFFF];
+const NO_GROUPS: [u32; 4] = [0, 0x0A00_0001, 0xDFFF_FFFF, 0xF000_0000];
+
+pub fn pick<T: Copy>(rng: &mut Rng, list: &[T]) -> T {
+    list[rng.below(list.len())]
+}
+
+pub fn words(numbers: &[u32]) -> Vec<u8> {
+    numbers.iter().flat_map(|word| word.to_be_bytes()).collect()
+}
+
+/// Random octets, about half of them small.
+pub fn octets(rng: &mut Rng, count: usize) -> Vec<u8> {
+    (0..count).map(|_| rng.next_u32() as u8 & pick(rng, &[0xFF, 0x03])).collect()
+}
+
+// ---- entry lists
+
+/// An entry with R=0 has a source.
+fn well_formed([group, source, r_preference, metric]: [u32; 4]) -> [u32; 4] {
+    if r_preference & R == 0 && source == 0 {
+        return [group, SOURCES[1], r_preference, metric];
+    }
+    [group, source, r_preference, metric]
+}
+
+fn fresh_entry(rng: &mut Rng) -> [u32; 4] {
+    let r_preference = pick(rng, &[0, R]) | pick(rng, &PREFERENCES);
+    well_formed([pick(rng, &GROUPS), pick(rng, &SOURCES), r_preference, pick(rng, &METRICS)])
+}
+
+/// The entry after one: the same, with another group or source, or any.
+fn next_entry(rng: &mut Rng, before: [u32; 4]) -> [u32; 4] {
+    let [group, source, r_preference, metric] = before;
+    match rng.below(8) {
+        0 => before,
+        1..=3 => [pick(rng, &GROUPS), source, r_preference, metric],
+        4..=6 => well_formed([group, pick(rng, &SOURCES), r_preference, metric]),
+        _ => fresh_entry(rng),
+    }
+}
+
+/// Good assert entries.
+pub fn asserts(rng: &mut Rng, count: usize) -> Vec<u8> {
+    let mut entry = fresh_entry(rng);
+    let mut list = Vec::with_capacity(16 * count);
+    for _ in 0..count {
+        list.extend(words(&entry));
+        entry = next_entry(rng, entry);
+    }
+    list
+}
+
+/// Assert entries that all go into one record.
+pub fn one_run(r: u32, count: usize) -> Vec<u8> {
+    (0..count as u32)
+        .flat_map(|i| match r {
+            0 => words(&[0xE800_0000 + i, SOURCES[1], PREFERENCES[0], METRICS[0]]),
+            _ => words(&[GROUPS[0], i, R | PREFERENCES[0], METRICS[0]]),
+        })
+        .collect()
+}
+
+/// Good pairs; `zero` allows source 0.
+pub fn pairs(rng: &mut Rng, count: usize, zero: bool) -> Vec<u8> {
+    let sources = if zero { &SOURCES[..] } else { &SOURCES[1..] };
+    (0..count).flat_map(|_| words(&[pick(rng, &GROUPS), pick(rng, sources)])).collect()
+}
+
+/// Spoils one entry of a list: its group, or its source and R.
+pub fn spoil_entry(rng: &mut Rng, list: &mut [u8], size: usize) {
+    let count = list.len() / size;
+    if count == 0 {
+        return;
+    }
+    let entry = &mut list[size * rng.below(count)..][..size];
+    if rng.one_in(2) {
+        entry[..4].copy_from_slice(&pick(rng, &NO_GROUPS).to_be_bytes());
+    } else {
+        entry[4..8].fill(0);
+        if size == 16 {
+            entry[8] &= 0x7F;
+        }
+    }
+}
+
+/// All assert entries of a small alphabet, for lists that are all tried.
+pub fn alphabet() -> Vec<[u32; 4]> {
+    let (group, other) = (GROUPS[0], GROUPS[1]);
+    let (source, rp) = (SOURCES[1], R | PREFERENCES[0]);
+    let metric = METRICS[0];
+    vec![
+        [group, source, PREFERENCES[0], metric],
+        [other, source, PREFERENCES[0], metric],
+        [group, SOURCES[2], PREFERENCES[0], metric],
+        [group, 0, rp, metric],
+        [group, source, rp, metric],
+        [other, 0, rp, metric],
+        [other, source, rp, metric],
+        [group, 0, rp, METRICS[1]],
+    ]
+}
+
+// ---- messages
+
+/// Sets the checksum of a message that has one.
+pub fn seal(m: &mut [u8]) {
+    if m.len() < 4 {
+        return;
+    }
+    m[2..4].fill(0);
+    let sum = checksum(m);
+    m[2..4].copy_from_slice(&sum.to_be_bytes());
+}
+
+pub fn sealed(m: &[u8]) -> Vec<u8> {
+    let mut m = m.to_vec();
+    seal(&mut m);
+    m
+}
+
+pub fn message(first: u8, second: u8, body: &[u8]) -> Vec<u8> {
+    sealed(&[&[first, second, 0, 0], body].concat())
+}
+
+fn group(flags: u8, address: u32) -> Vec<u8> {
+    [&[1, 0, flags, 32][..], &address.to_be_bytes()].concat()
+}
+
+fn source(address: u32) -> Vec<u8> {
+    [&[1, 0][..], &address.to_be_bytes()].concat()
+}
+
+/// A number of fields and two reserved octets.
+fn number(count: u16, reserved: u16) -> Vec<u8> {
+    [count.to_be_bytes(), reserved.to_be_bytes()].concat()
+}
+
+/// One record of a plain or simple assert.
+fn assert_record(entry: [u32; 4]) -> Vec<u8> {
+    [group(0, entry[0]), source(entry[1]), words(&entry[2..])].concat()
+}
+
+fn pair_record(address: u32, from: u32) -> Vec<u8> {
+    [group(0, address), source(from)].concat()
+}
+
+fn source_aggregated(from: u32, groups: &[u32]) -> Vec<u8> {
+    let mut octets = words(&[PREFERENCES[0], METRICS[0]]);
+    octets.extend([source(from), number(groups.len() as u16, 0)].concat());
+    octets.extend(groups.iter().flat_map(|address| group(0, *address)));
+    octets
+}
+
+fn group_record(address: u32, sources: &[u32]) -> Vec<u8> {
+    let mut octets = [group(0, address), number(sources.len() as u16, 0)].concat();
+    octets.extend(sources.iter().flat_map(|address| source(*address)));
+    octets
+}
+
+fn rp_aggregated(count: usize, group_records: &[u8]) -> Vec<u8> {
+    let head = [words(&[R | PREFERENCES[0], METRICS[0]]), number(count as u16, 0)].concat();
+    [&head, group_records].concat()
+}
+
+/// Small good messages of all kinds.
+pub fn small_messages() -> Vec<Vec<u8>> {
+    let mut list = small_hellos();
+    list.extend(small_asserts());
+    list.extend(small_aggregated());
+    list.extend(small_pairs());
+    list
+}
+
+fn small_hellos() -> Vec<Vec<u8>> {
+    let holdtime = [0, 1, 0, 2, 0, 210];
+    let priority = [0, 19, 0, 4, 0x80, 0, 0, 1];
+    let packing = [0, 40, 0, 0];
+    let unknown = [0, 20, 0, 3, 7, 8, 9];
+    vec![
+        message(0x20, 0, &[]),
+        message(0x20, 0xFF, &[&holdtime[..], &priority, &packing].concat()),
+        message(0x20, 0, &[&unknown[..], &packing, &unknown, &holdtime].concat()),
+    ]
+}
+
+fn small_asserts() -> Vec<Vec<u8>> {
+    let plain = assert_record([GROUPS[0], SOURCES[1], 110, 20]);
+    let rp = assert_record([GROUPS[1], 0, R | 110, 20]);
+    vec![
+        message(0x25, 0, &plain),
+        message(0x25, 0xFE, &rp),
+        message(0x25, 1, &[&[0; 4][..], &plain].concat()),
+        message(0x25, 0xF1, &[&[0, 9, 9, 9][..], &rp, &plain].concat()),
+    ]
+}
+
+fn small_aggregated() -> Vec<Vec<u8>> {
+    let from_source = source_aggregated(SOURCES[1], &GROUPS);
+    let one_group = source_aggregated(SOURCES[2], &GROUPS[..1]);
+    let none = group_record(GROUPS[0], &[]);
+    let zero = group_record(GROUPS[0], &[0]);
+    let two = group_record(GROUPS[1], &[0, 0]);
+    let bodies = [
+        from_source.clone(),
+        rp_aggregated(1, &none),
+        rp_aggregated(2, &[&zero[..], &two].concat()),
+        [&one_group[..], &rp_aggregated(1, &two), &one_group].concat(),
+        [rp_aggregated(1, &none), rp_aggregated(1, &none), from_source].concat(),
+    ];
+    bodies.iter().map(|body| message(0x25, 3, &[&[0; 4], &body[..]].concat())).collect()
+}
+
+fn small_pairs() -> Vec<Vec<u8>> {
+    let pair = pair_record(GROUPS[0], SOURCES[1]);
+    let zero = pair_record(GROUPS[1], 0);
+    vec![
+        message(0x2D, 0, &pair),
+        message(0x2D, 0x0F, &[&pair[..], &pair].concat()),
+        message(0x2D, 0x10, &[&pair[..], &zero].concat()),
+        message(0x2D, 0x1F, &zero),
+    ]
+}
+
+/// Other values for an octet.
+pub fn other_values(rng: &mut Rng, old: u8) -> [u8; 9] {
+    let random = rng.next_u32() as u8;
+    [0, 1, 0x20, 0x7F, 0xFF, old ^ 1, old ^ 0x80, old.wrapping_add(2), random]
+}
+
+/// First octets of messages, mostly of the kinds that are read.
+fn first_octets(rng: &mut Rng) -> [u8; 2] {
+    let random = rng.next_u32().to_be_bytes();
+    let first = pick(rng, &[0x20, 0x25, 0x25, 0x25, 0x2D, 0x2D, 0x21, 0x35, random[0]]);
+    let second = pick(rng, &[0, 1, 3, 3, 0x10, 0x20, random[1]]);
+    [first, second]
+}
+
+/// Random octets behind plausible first ones.
+pub fn random_message(rng: &mut Rng) -> Vec<u8> {
+    let [first, second] = first_octets(rng);
+    let length = rng.below(90);
+    let body = octets(rng, length);
+    message(first, second, &body)
+}
+
+/// Fields of messages in any order, so that faults stand deep in a record.
+pub fn random_fields(rng: &mut Rng) -> Vec<u8> {
+    let [first, second] = first_octets(rng);
+    let mut body = if first == 0x25 && second & 1 == 1 { vec![0; 4] } else { Vec::new() };
+    for _ in 0..rng.below(9) {
+        body.extend(random_field(rng));
+    }
+    body.truncate(body.len() - rng.below(4).min(body.len()));
+    message(first, second, &body)
+}
+
+fn random_field(rng: &mut Rng) -> Vec<u8> {
+    let small = rng.below(3) as u16;
+    match rng.below(10) {
+        0..=2 => group(rng.next_u32() as u8, pick(rng, &GROUPS)),
+        3..=4 => source(pick(rng, &SOURCES)),
+        5..=6 => words(&[pick(rng, &[0, R]) | 110, 20]),
+        7 => number(small, 0),
+        8 => [source(SOURCES[1]), number(small, 7)].concat(),
+        _ => octets(rng, 4),
+    }
+}
+
+/// An aggregated message of records of any form, joined or not.
+pub fn random_aggregated(rng: &mut Rng) -> Vec<u8> {
+    let mut body = vec![0, rng.next_u32() as u8, 0, 1];
+    for _ in 0..=rng.below(3) {
+        body.extend(random_aggregated_record(rng));
+    }
+    message(0x25, 3, &body)
+}
+
+fn random_aggregated_record(rng: &mut Rng) -> Vec<u8> {
+    let count = rng.below(4);
+    if rng.one_in(2) {
+        let groups: Vec<u32> = (0..=count).map(|_| pick(rng, &GROUPS)).collect();
+        return source_aggregated(pick(rng, &SOURCES[1..]), &groups);
+    }
+    let records: Vec<u8> = (0..=count).flat_map(|_| random_group_record(rng)).collect();
+    rp_aggregated(count + 1, &records)
+}
+
+fn random_group_record(rng: &mut Rng) -> Vec<u8> {
+    let sources: Vec<u32> = (0..rng.below(4)).map(|_| pick(rng, &SOURCES)).collect();
+    group_record(pick(rng, &GROUPS), &sources)
+}
+
+/// A Hello of known and unknown options, right or wrong, cut or not.
+pub fn random_hello(rng: &mut Rng) -> Vec<u8> {
+    let mut body = Vec::new();
+    for _ in 0..rng.below(5) {
+        body.extend(random_option(rng));
+    }
+    if rng.one_in(4) {
+        body.truncate(rng.below(body.len() + 1));
+    }
+    message(0x20, rng.next_u32() as u8, &body)
+}
+
+fn random_option(rng: &mut Rng) -> Vec<u8> {
+    let (option, right) = pick(rng, &[(1u16, 2u16), (19, 4), (40, 0), (2, 4), (20, 4), (0xFFFF, 1)]);
+    let length = if rng.one_in(9) { rng.below(6) as u16 } else { right };
+    let value = octets(rng, usize::from(length));
+    [&option.to_be_bytes()[..], &length.to_be_bytes(), &value].concat()
+}
+
+/// Messages as long as they may be, or nearly.
+pub fn large_messages(rng: &mut Rng) -> Vec<Vec<u8>> {
+    let records: Vec<u8> = (0..2977).flat_map(|_| assert_record(fresh_entry(rng))).collect();
+    let register: Vec<u8> = (0..4679).flat_map(|i| pair_record(GROUPS[0], i + 1)).collect();
+    let groups: Vec<u32> = (0..8186).map(|i| GROUPS[0] + i).collect();
+    let sources: Vec<u32> = (0..10_912).collect();
+    let lone: Vec<u8> = groups.iter().take(5_457).flat_map(|group| group_record(*group, &[])).collect();
+    let option = [&[0x77, 0x77, 0xFF, 0xE3][..], &octets(rng, 65_507)].concat();
+    vec![
+        message(0x20, 0, &option),
+        message(0x25, 1, &[&[0; 4], &records[..]].concat()),
+        message(0x25, 3, &[&[0; 4][..], &source_aggregated(SOURCES[1], &groups)].concat()),
+        message(0x25, 3, &[&[0; 4][..], &rp_aggregated(1, &group_record(GROUPS[0], &sources))].concat()),
+        message(0x25, 3, &[&[0; 4][..], &rp_aggregated(5_457, &lone)].concat()),
+        message(0x2D, 0x00, &register),
+        message(0x2D, 0x10, &register),
+    ]
+}
+
+// ---- neighbours and counters
+
+pub fn address(rng: &mut Rng) -> u32 {
+    1 + rng.below(20) as u32 * pick(rng, &[1, 1, 0x0A00_0001])
+}
+
+fn row(rng: &mut Rng, address: u32) -> Neighbour {
+    let has_priority = !rng.one_in(12);
+    let priority = if has_priority { pick(rng, &[0, 1, 5, u32::MAX]) } else { 0 };
+    let holdtime = 1 + rng.below(0xFFFF) as u16;
+    Neighbour { address, priority, has_priority, packs: !rng.one_in(12), holdtime }
+}
+
+/// A good table.
+pub fn table(rng: &mut Rng) -> Table {
+    let count = rng.below(ROWS + 1);
+    table_of(rng, count)
+}
+
+pub fn table_of(rng: &mut Rng, count: usize) -> Table {
+    let mut table = Table::empty();
+    while table.count < count {
+        let address = address(rng);
+        if table.rows[..table.count].iter().all(|row| row.address != address) {
+            table.rows[table.count] = row(rng, address);
+            table.count += 1;
+        }
+    }
+    table
+}
+
+/// A table with one fault or more.
+pub fn spoiled_table(rng: &mut Rng) -> Table {
+    let mut table = table(rng);
+    for _ in 0..=rng.below(2) {
+        spoil_table(rng, &mut table);
+    }
+    table
+}
+
+fn spoil_table(rng: &mut Rng, table: &mut Table) {
+    let one = rng.below(ROWS);
+    let other = rng.below(ROWS);
+    match rng.below(9) {
+        0 => table.count = pick(rng, &[17, 18, 32, 1 << 16, 1 << 32, usize::MAX]),
+        1 => table.count = rng.below(ROWS + 1),
+        2 => table.rows[one].address = table.rows[other].address,
+        3 => table.rows[one].address = 0,
+        4 => table.rows[one].has_priority = !table.rows[one].has_priority,
+        5 => table.rows[one].holdtime = 0,
+        6 => table.rows[one].priority = 7,
+        7 => table.rows[one].packs = true,
+        _ => table.rows[ROWS - 1].holdtime = 1,
+    }
+}
+
+/// A number that is small, any, or near its maximum.
+pub fn total(rng: &mut Rng) -> u64 {
+    match rng.below(4) {
+        0 => rng.below(3) as u64,
+        1 => rng.next_u64(),
+        2 => u64::MAX,
+        _ => u64::MAX - rng.below(4) as u64,
+    }
+}
+
+pub fn counters(rng: &mut Rng) -> Counters {
+    let mut counters = Counters::default();
+    for count in counters.sent.iter_mut().chain(&mut counters.received) {
+        *count = Count { messages: total(rng), records: total(rng) };
+    }
+    counters
+}
+
+// ---- Pop-Count
+
+/// Speeds of few sizes, each in several encodings.
+pub fn speed(rng: &mut Rng) -> u16 {
+    let speeds = [(0, 1000), (1, 100), (2, 10), (3, 1), (0, 0), (63, 0), (1, 1000), (4, 1), (63, 1023)];
+    let (exponent, significand): (u16, u16) = pick(rng, &speeds);
+    if rng.one_in(5) {
+        return rng.next_u32() as u16;
+    }
+    exponent << 10 | significand
+}
+
+/// A count that is small, any, or at its maximum.
+fn value(rng: &mut Rng, size: usize) -> Vec<u8> {
+    match rng.below(3) {
+        0 => (rng.below(200) as u32).to_be_bytes()[4 - size..].to_vec(),
+        1 => vec![0xFF; size],
+        _ => rng.next_u32().to_be_bytes()[..size].to_vec(),
+    }
+}
+
+fn option_value(rng: &mut Rng, bit: u16, size: usize) -> Vec<u8> {
+    if bit & 0x3000 != 0 {
+        return speed(rng).to_be_bytes().to_vec();
+    }
+    value(rng, size)
+}
+
+/// A good attribute with given options. With unallocated ones there may be
+/// octets beyond the known values.
+pub fn attribute_of(rng: &mut Rng, options: u16) -> Vec<u8> {
+    let mut values = Vec::new();
+    for (i, size) in [4, 4, 2, 2, 1, 1, 1, 1].into_iter().enumerate() {
+        let bit = 0x8000 >> i;
+        if options & bit != 0 {
+            values.extend(option_value(rng, bit, size));
+        }
+    }
+    if options & 0xFF != 0 {
+        let most = pick(rng, &[1, 5, 250 - values.len()]);
+        let more = rng.below(most);
+        values.extend(octets(rng, more));
+    }
+    let head = [3 | pick(rng, &[0, 0x40]), 6 + values.len() as u8];
+    let (mtu, flags) = (rng.next_u32() as u16, rng.next_u32() as u16);
+    let numbers = [mtu.to_be_bytes(), flags.to_be_bytes(), options.to_be_bytes()].concat();
+    [&head[..], &numbers, &values].concat()
+}
+
+/// A good attribute; most have all options that are merged.
+pub fn attribute(rng: &mut Rng) -> Vec<u8> {
+    let known = rng.next_u32() as u16 & 0xFF00 | pick(rng, &[0xF600, 0xF600, 0xFF00, 0]);
+    let options = known | if rng.one_in(4) { rng.below(256) as u16 } else { 0 };
+    attribute_of(rng, options)
+}
+
+pub fn own(rng: &mut Rng) -> Own {
+    let count = |rng: &mut Rng| pick(rng, &[0, 1, u32::MAX - 5, u32::MAX]);
+    Own {
+        mtu: rng.next_u32() as u16,
+        flags: rng.next_u32() as u16,
+        transit: count(rng),
+        stub: count(rng),
+        least_speed: speed(rng),
+        greatest_speed: speed(rng),
+    }
+}
+
+// ---- sheets
+
+/// A good sheet of so many asserts, pairs and neighbours.
+pub fn sheet(rng: &mut Rng, counts: [usize; 3]) -> Vec<u8> {
+    let (asserts, pairs) = (asserts(rng, counts[0]), pairs(rng, counts[1], true));
+    let table = table_of(rng, counts[2]);
+    let mut octets = vec![0; 12 + 16 * counts[0] + 8 * counts[1] + 12 * counts[2]];
+    let length = write_sheet(&asserts, &pairs, &table, &mut octets);
+    assert_eq!(length, Ok(octets.len()), "the sheet is good");
+    octets
+}
+
+/// A sheet's header with its counts and the offsets they ask for, whatever
+/// the counts are, and octets to the end it says.
+pub fn loose_sheet(rng: &mut Rng, counts: [usize; 3]) -> Vec<u8> {
+    let pairs = 12 + 16 * counts[0];
+    let neighbours = pairs + 8 * counts[1];
+    let header = [counts[0], 12, counts[1], pairs, counts[2], neighbours];
+    let mut octets: Vec<u8> = header.iter().flat_map(|number| (*number as u16).to_be_bytes()).collect();
+    octets.extend(asserts(rng, counts[0]));
+    octets.extend(self::pairs(rng, counts[1], true));
+    for i in 0..counts[2] {
+        octets.extend(words(&[i as u32 + 1, 5, 0x0100_0069]));
+    }
+    octets
+}

@@ -1,0 +1,64 @@
+//! The comparison itself: each call of the C interface on many inputs.
+
+mod calls;
+mod checksum;
+mod counters;
+mod expect;
+mod ffi;
+mod least;
+mod lent;
+mod make;
+mod neighbours;
+mod pack;
+mod popcount;
+mod read;
+mod sheet;
+mod tally;
+mod trains;
+
+use crate::options::Options;
+use lent::Lent;
+use second::rng::Rng;
+use std::process::ExitCode;
+use tally::Tally;
+
+/// A run: the random numbers, what was counted, and how often random parts
+/// are run.
+pub struct Run {
+    rng: Rng,
+    tally: Tally,
+    rounds: usize,
+}
+
+impl Run {
+    fn input(&mut self, name: &'static str, octets: &[u8]) -> Lent {
+        Lent::input(&mut self.rng, name, octets)
+    }
+
+    fn room(&mut self, name: &'static str, room: usize) -> Lent {
+        Lent::room(&mut self.rng, name, room)
+    }
+
+    fn below(&mut self, bound: usize) -> usize {
+        self.rng.below(bound)
+    }
+}
+
+/// All comparisons, then the tables.
+pub fn all(options: Options) -> ExitCode {
+    let mut run = Run { rng: Rng::new(options.seed), tally: Tally::new(options), rounds: options.rounds };
+    for subject in [
+        checksum::compare,
+        read::compare,
+        pack::compare,
+        trains::compare,
+        least::compare,
+        neighbours::compare,
+        counters::compare,
+        popcount::compare,
+        sheet::compare,
+    ] {
+        subject(&mut run);
+    }
+    run.tally.report()
+}

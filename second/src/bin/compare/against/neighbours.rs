@@ -1,0 +1,129 @@
+//! The neighbour table and the election.
+
+use super::ffi;
+use super::{calls, expect, make, Run};
+use second::neighbours::*;
+
+pub fn compare(run: &mut Run) {
+    run.tally.call(
+        "pim_table_empty",
+        format_args!("nothing"),
+        &[],
+        &calls::table_empty(),
+        &expect::table_form(&Table::empty()),
+    );
+    for _ in 0..300 * run.rounds {
+        history(run);
+    }
+    for _ in 0..20_000 * run.rounds {
+        let table = make::table(&mut run.rng);
+        every_call(run, &table);
+        let table = make::spoiled_table(&mut run.rng);
+        every_call(run, &table);
+    }
+    each_fault(run);
+}
+
+/// Neighbours that come and go, from an empty table on.
+fn history(run: &mut Run) {
+    let mut table = Table::empty();
+    for _ in 0..80 {
+        let address = any_address(run, &table);
+        if run.rng.one_in(5) {
+            forget_one(run, &table, address);
+            table = forget(table, address).unwrap_or(table);
+        } else {
+            let said = said(run);
+            hear_one(run, &table, address, said);
+            table = hear(table, address, expect::said(said)).unwrap_or(table);
+        }
+        questions(run, &table, address);
+    }
+}
+
+/// An address of the table, another one, or 0.
+fn any_address(run: &mut Run, table: &Table) -> u32 {
+    match run.below(12) {
+        0 => 0,
+        1..=3 => table.rows[run.below(ROWS)].address,
+        4 => make::pick(&mut run.rng, &[0x7FFF_FFFF, 0x8000_0000, u32::MAX]),
+        _ => make::address(&mut run.rng),
+    }
+}
+
+/// A Hello; a priority may stand beside a flag of 0.
+fn said(run: &mut Run) -> ffi::Hello {
+    ffi::Hello {
+        holdtime: make::pick(&mut run.rng, &[0, 1, 105, 105, 105, 0xFFFF]),
+        has_priority: make::pick(&mut run.rng, &[0, 1, 1]),
+        priority: make::pick(&mut run.rng, &[0, 1, 5, u32::MAX]),
+        packing: make::pick(&mut run.rng, &[0, 1, 1]),
+    }
+}
+
+fn every_call(run: &mut Run, table: &Table) {
+    let address = any_address(run, table);
+    let said = said(run);
+    hear_one(run, table, address, said);
+    forget_one(run, table, address);
+    questions(run, table, address);
+}
+
+/// A full table with each row at fault in turn, and one with unused rows.
+fn each_fault(run: &mut Run) {
+    for count in [16, 9] {
+        let table = make::table_of(&mut run.rng, count);
+        for row in 0..ROWS {
+            for fault in 0..6 {
+                let mut table = table;
+                spoil(&mut table, row, fault);
+                every_call(run, &table);
+            }
+        }
+        for count in (0..20).chain([1 << 31, 1 << 32, usize::MAX]) {
+            every_call(run, &Table { count, ..table });
+        }
+    }
+}
+
+fn spoil(table: &mut Table, row: usize, fault: usize) {
+    let other = table.rows[(row + 1) % ROWS].address;
+    let row = &mut table.rows[row];
+    match fault {
+        0 => row.address = 0,
+        1 => row.address = other,
+        2 => (row.has_priority, row.priority) = (false, 1),
+        3 => row.holdtime = 0,
+        4 => row.packs = !row.packs,
+        _ => row.has_priority = true,
+    }
+}
+
+fn hear_one(run: &mut Run, table: &Table, address: u32, said: ffi::Hello) {
+    let first = calls::hear(expect::table_form(table), address, said);
+    let second = expect::table(table, hear(*table, address, expect::said(said)));
+    run.tally.call("pim_hear", format_args!("address {address}, {said:?}, {table:?}"), &[], &first, &second);
+}
+
+fn forget_one(run: &mut Run, table: &Table, address: u32) {
+    let first = calls::forget(expect::table_form(table), address);
+    let second = expect::table(table, forget(*table, address));
+    run.tally.call("pim_forget", format_args!("address {address}, {table:?}"), &[], &first, &second);
+}
+
+/// The calls that only look at a table.
+fn questions(run: &mut Run, table: &Table, address: u32) {
+    let form = expect::table_form(table);
+    let (first, second) = (calls::packing_allowed(form), expect::allowed(packing_allowed(table)));
+    run.tally.call("pim_packing_allowed", format_args!("{table:?}"), &[], &first, &second);
+
+    let priority = make::pick(&mut run.rng, &[0, 1, 5, u32::MAX]);
+    let first = calls::elect(form, address, priority);
+    let second = expect::elected(elect(table, address, priority));
+    let numbers = format_args!("address {address}, priority {priority}, {table:?}");
+    run.tally.call("pim_elect", numbers, &[], &first, &second);
+
+    let first = calls::elect_rows(form);
+    let second = expect::elected(elect_among(&table.rows[..table.count.min(ROWS)]));
+    run.tally.call("pim_elect_rows", format_args!("{table:?}"), &[], &first, &second);
+}

@@ -1,0 +1,189 @@
+//! Messages, their records and Hellos read.
+
+use super::{calls, checksum, expect, make, Run};
+use second::hello::read_hello;
+use second::read;
+use second::{Answer, Kind, Refusal};
+
+/// Kinds to read a record of, and numbers that are none.
+const KINDS: [u8; 9] = [0, 1, 2, 3, 4, 5, 6, 7, 255];
+
+pub fn compare(run: &mut Run) {
+    let small = make::small_messages();
+    for m in &small {
+        changed(run, m);
+        cut(run, m);
+        records(run, m);
+    }
+    lengths(run);
+    for _ in 0..20_000 * run.rounds {
+        random(run, &small);
+    }
+    for _ in 0..run.rounds {
+        large(run);
+    }
+}
+
+/// Each octet changed in turn, as it is and with a right checksum.
+fn changed(run: &mut Run, m: &[u8]) {
+    message(run, m);
+    for at in 0..m.len() {
+        for octet in make::other_values(&mut run.rng, m[at]) {
+            let mut changed = m.to_vec();
+            changed[at] = octet;
+            message(run, &changed);
+            message(run, &make::sealed(&changed));
+        }
+    }
+}
+
+/// Cut at each octet, and with octets more.
+fn cut(run: &mut Run, m: &[u8]) {
+    for length in 0..m.len() {
+        message(run, &m[..length]);
+        message(run, &make::sealed(&m[..length]));
+    }
+    for more in 1..9 {
+        let long = [m, &make::octets(&mut run.rng, more)].concat();
+        message(run, &long);
+        message(run, &make::sealed(&long));
+    }
+}
+
+/// A record of each kind at each place, and at places far past the end.
+fn records(run: &mut Run, m: &[u8]) {
+    let far = [m.len() + 100, 1 << 32, usize::MAX - 22, usize::MAX - 13, usize::MAX - 1, usize::MAX];
+    for at in (0..=m.len() + 2).chain(far) {
+        for kind in KINDS {
+            record(run, kind, m, at);
+        }
+    }
+}
+
+/// Lengths about the least and the greatest.
+fn lengths(run: &mut Run) {
+    for length in (0..9).chain([65_514, 65_515, 65_516, 65_536, 100_000]) {
+        for (first, second) in
+            [(0x20, 0), (0x25, 0), (0x25, 1), (0x25, 3), (0x2D, 0), (0x2D, 0x10), (0x35, 0)]
+        {
+            let mut m = vec![0; length];
+            m.iter_mut().zip([first, second]).for_each(|(octet, value)| *octet = value);
+            message(run, &m);
+            message(run, &make::sealed(&m));
+        }
+    }
+}
+
+fn random(run: &mut Run, small: &[Vec<u8>]) {
+    let kinds = [make::random_message, make::random_fields, make::random_aggregated, make::random_hello];
+    for make in kinds {
+        let m = make(&mut run.rng);
+        message(run, &m);
+        let damaged = damage(run, &m);
+        message(run, &damaged);
+        let (kind, at) = (make::pick(&mut run.rng, &KINDS), run.below(m.len() + 2));
+        record(run, kind, &m, at);
+    }
+    let joined = [&small[run.below(small.len())][..], &small[run.below(small.len())][4..]].concat();
+    message(run, &make::sealed(&joined));
+}
+
+/// Cut, or one octet changed; mostly with a right checksum.
+fn damage(run: &mut Run, m: &[u8]) -> Vec<u8> {
+    let mut m = m.to_vec();
+    if run.rng.one_in(2) {
+        m.truncate(run.below(m.len() + 1));
+    } else {
+        let at = run.below(m.len());
+        m[at] = make::pick(&mut run.rng, &[0, 1, 2, 0x20, 0xE0, 0xFF]);
+    }
+    if !run.rng.one_in(4) {
+        make::seal(&mut m);
+    }
+    m
+}
+
+fn large(run: &mut Run) {
+    for m in make::large_messages(&mut run.rng) {
+        message(run, &m);
+        message(run, &make::sealed(&[&m[..], &[0; 14]].concat()));
+        for _ in 0..60 {
+            let damaged = damage(run, &m);
+            message(run, &damaged);
+        }
+    }
+}
+
+/// Every call that reads a message.
+pub fn message(run: &mut Run, m: &[u8]) {
+    checksum::both(run, m);
+    header(run, m);
+    hello(run, m);
+    for kind in [1, 2, 4, 5] {
+        let at = make::pick(&mut run.rng, &[4, 8]);
+        record(run, kind, m, at);
+    }
+    for room in rooms(run, 16, &read::read_asserts(m, &mut vec![0; 3 * m.len()])) {
+        asserts(run, m, room);
+    }
+    for room in rooms(run, 8, &read::read_pairs(m, &mut vec![0; m.len()])) {
+        pairs(run, m, room);
+    }
+}
+
+/// Rooms to try for a message: less, exactly enough and more.
+fn rooms(run: &mut Run, size: usize, answer: &Answer<(Kind, usize)>) -> Vec<usize> {
+    match answer {
+        Ok((_, count)) => {
+            let exact = size * count;
+            vec![exact, exact - 1, exact + 1 + run.below(40), run.below(exact)]
+        }
+        Err(Refusal { .. }) => vec![run.below(100)],
+    }
+}
+
+fn header(run: &mut Run, m: &[u8]) {
+    let lent = run.input("message", m);
+    let (first, second) = (calls::header(lent.first()), expect::header(read::header(m)));
+    run.tally.call("pim_header", format_args!("a message"), &[&lent], &first, &second);
+    let (first, second) = (calls::body(lent.first()), read::body(m).len());
+    run.tally.call("pim_body", format_args!("a message"), &[&lent], &first, &second);
+}
+
+fn hello(run: &mut Run, m: &[u8]) {
+    let lent = run.input("message", m);
+    let (first, second) = (calls::read_hello(lent.first()), expect::hello(read_hello(m)));
+    run.tally.call("pim_read_hello", format_args!("a message"), &[&lent], &first, &second);
+}
+
+fn record(run: &mut Run, kind: u8, octets: &[u8], at: usize) {
+    let lent = run.input("octets", octets);
+    let first = calls::read_record(kind, lent.first(), at);
+    let second = match Kind::from_number(kind) {
+        Some(kind) => read::read_record(octets, at, kind),
+        None => Err(Refusal { number: 4, place: 0 }),
+    };
+    let numbers = format_args!("kind {kind}, at {at}");
+    run.tally.call("pim_read_record", numbers, &[&lent], &first, &expect::record(second));
+}
+
+/// The entries that both read.
+pub fn asserts(run: &mut Run, m: &[u8], room: usize) -> Vec<u8> {
+    let lent = run.input("message", m);
+    let mut entries = run.room("entries", room);
+    let first = calls::read_asserts(lent.first(), entries.first_mut());
+    let second = expect::read(read::read_asserts(m, entries.second_mut()));
+    let numbers = format_args!("room {room}");
+    run.tally.call("pim_read_asserts", numbers, &[&lent, &entries], &first, &second);
+    entries.first()[..16 * first.count].to_vec()
+}
+
+pub fn pairs(run: &mut Run, m: &[u8], room: usize) -> Vec<u8> {
+    let lent = run.input("message", m);
+    let mut entries = run.room("entries", room);
+    let first = calls::read_pairs(lent.first(), entries.first_mut());
+    let second = expect::read(read::read_pairs(m, entries.second_mut()));
+    let numbers = format_args!("room {room}");
+    run.tally.call("pim_read_pairs", numbers, &[&lent, &entries], &first, &second);
+    entries.first()[..8 * first.count].to_vec()
+}

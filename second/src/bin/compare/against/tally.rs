@@ -1,0 +1,179 @@
+//! Counts comparisons and refusals, and stops at the first difference.
+
+use super::expect::Answered;
+use super::lent::{Lent, GUARD};
+use crate::options::Options;
+use std::fmt::{Arguments, Debug};
+use std::process::{exit, ExitCode};
+
+/// The calls of `pim.h`, in its order.
+const CALLS: [&str; 28] = [
+    "pim_header",
+    "pim_body",
+    "pim_read_record",
+    "pim_read_asserts",
+    "pim_read_pairs",
+    "pim_read_hello",
+    "pim_pack_assert",
+    "pim_pack_simple",
+    "pim_pack_aggregated",
+    "pim_pack_null_register",
+    "pim_pack_register_stop",
+    "pim_pack_both",
+    "pim_table_empty",
+    "pim_hear",
+    "pim_forget",
+    "pim_packing_allowed",
+    "pim_elect",
+    "pim_elect_rows",
+    "pim_counters_none",
+    "pim_count",
+    "pim_read_attribute",
+    "pim_compare_speeds",
+    "pim_merge",
+    "pim_check_sheet",
+    "pim_read_sheet",
+    "pim_write_sheet",
+    "pim_checksum",
+    "pim_checksum_holds",
+];
+
+/// Whole trains of the first implementation, beside the single calls.
+pub const UNPACKED: &str = "train unpacks to its list";
+pub const LEAST: &str = "train is the least (brute force)";
+pub const LARGER_LIMIT: &str = "larger limit, no longer train";
+
+const TRAINS: [&str; 3] = [UNPACKED, LEAST, LARGER_LIMIT];
+
+const NUMBERS: usize = 14;
+const COMPARISONS_LEAST: u64 = 200_000;
+
+pub struct Tally {
+    options: Options,
+    calls: [u64; CALLS.len()],
+    trains: [u64; TRAINS.len()],
+    /// Accepted at 0, then by number of refusal.
+    numbers: [u64; NUMBERS + 1],
+}
+
+impl Tally {
+    pub fn new(options: Options) -> Tally {
+        Tally { options, calls: [0; CALLS.len()], trains: [0; TRAINS.len()], numbers: [0; NUMBERS + 1] }
+    }
+
+    /// One call: both answers, and all memory lent to it.
+    pub fn call<A: Answered>(
+        &mut self,
+        call: &'static str,
+        numbers: Arguments,
+        lent: &[&Lent],
+        first: &A,
+        second: &A,
+    ) {
+        if first != second || !lent.iter().all(|lent| lent.same()) {
+            self.differ(call, numbers, lent, first, second);
+        }
+        *slot(&CALLS, &mut self.calls, call) += 1;
+        if let Some(number) = first.number() {
+            self.numbers[usize::from(number)] += 1;
+        }
+    }
+
+    /// One claim about a whole train.
+    pub fn train(&mut self, claim: &'static str, numbers: Arguments, list: &Lent, holds: bool) {
+        if !holds {
+            self.differ(claim, numbers, &[list], &"does not hold", &"holds");
+        }
+        *slot(&TRAINS, &mut self.trains, claim) += 1;
+    }
+
+    /// Says what differs and ends the program.
+    fn differ(
+        &self,
+        what: &str,
+        numbers: Arguments,
+        lent: &[&Lent],
+        first: &dyn Debug,
+        second: &dyn Debug,
+    ) -> ! {
+        println!("difference: {what}");
+        println!("input: {numbers}");
+        for lent in lent {
+            describe(lent);
+        }
+        println!("first answers:  {first:?}");
+        println!("second answers: {second:?}");
+        let Options { seed, rounds } = self.options;
+        println!("repeat it with: compare --seed {seed} --rounds {rounds}");
+        exit(1)
+    }
+
+    fn comparisons(&self) -> u64 {
+        self.calls.iter().chain(&self.trains).sum()
+    }
+
+    /// Prints the tables; a failure if something was not compared.
+    pub fn report(&self) -> ExitCode {
+        print_rows(&CALLS, &self.calls);
+        print_rows(&TRAINS, &self.trains);
+        println!("{:<34}{:>10}", "accepted", self.numbers[0]);
+        for number in 1..=NUMBERS {
+            println!("{:<34}{:>10}", format!("refusal {number}"), self.numbers[number]);
+        }
+        println!("{} comparisons, 0 differences", self.comparisons());
+        let gaps = self.gaps();
+        for gap in &gaps {
+            println!("failed: {gap}");
+        }
+        if gaps.is_empty() {
+            ExitCode::SUCCESS
+        } else {
+            ExitCode::FAILURE
+        }
+    }
+
+    /// What should have been compared and was not.
+    fn gaps(&self) -> Vec<String> {
+        let calls = CALLS.iter().zip(&self.calls).chain(TRAINS.iter().zip(&self.trains));
+        let mut gaps: Vec<String> = calls
+            .filter(|(_, count)| **count == 0)
+            .map(|(call, _)| format!("{call} was never compared"))
+            .collect();
+        for number in (1..=NUMBERS).filter(|number| self.numbers[*number] == 0) {
+            gaps.push(format!("refusal {number} never occurred"));
+        }
+        if self.comparisons() < COMPARISONS_LEAST {
+            gaps.push(format!("fewer than {COMPARISONS_LEAST} comparisons"));
+        }
+        gaps
+    }
+}
+
+fn slot<'a>(names: &[&str], counts: &'a mut [u64], name: &str) -> &'a mut u64 {
+    let at = names.iter().position(|known| *known == name).expect("a name of the table");
+    &mut counts[at]
+}
+
+fn print_rows(names: &[&str], counts: &[u64]) {
+    for (name, count) in names.iter().zip(counts) {
+        println!("{name:<34}{count:>10}");
+    }
+}
+
+fn describe(lent: &Lent) {
+    let (name, room) = (lent.name, lent.second().len());
+    if !lent.written {
+        println!("{name} ({room} octets): {}", hex(lent.second()));
+    }
+    if lent.same() {
+        return;
+    }
+    println!("{name} ({room} octets) afterwards, with {GUARD} octets around on each side:");
+    let (first, second) = lent.all();
+    println!("  first:  {}", hex(first));
+    println!("  second: {}", hex(second));
+}
+
+fn hex(octets: &[u8]) -> String {
+    octets.iter().map(|octet| format!("{octet:02x}")).collect()
+}

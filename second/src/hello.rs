@@ -1,0 +1,74 @@
+//! Reading of Hello messages.
+
+use crate::read::header;
+use crate::{refuse, Answer, Kind};
+
+/// What a Hello says. A priority not announced is `None`.
+#[derive(Clone, Copy, Debug, PartialEq, Eq)]
+pub struct Hello {
+    pub holdtime: u16,
+    pub priority: Option<u32>,
+    pub packing: bool,
+}
+
+/// The holdtime of a Hello without that option, in seconds.
+pub const DEFAULT_HOLDTIME: u16 = 105;
+
+const HOLDTIME: u16 = 1;
+const PRIORITY: u16 = 19;
+const PACKED_ASSERT: u16 = 40;
+
+/// The known options seen so far.
+#[derive(Default)]
+struct Seen {
+    holdtime: Option<u16>,
+    priority: Option<u32>,
+    packing: bool,
+}
+
+pub fn read_hello(m: &[u8]) -> Answer<Hello> {
+    if header(m)? != Kind::Hello {
+        return refuse(4, 0);
+    }
+    let mut seen = Seen::default();
+    let mut rest = &m[4..];
+    while !rest.is_empty() {
+        match option(rest, &mut seen) {
+            Ok(after) => rest = after,
+            Err(number) => return refuse(number, m.len() - rest.len()),
+        }
+    }
+    Ok(Hello {
+        holdtime: seen.holdtime.unwrap_or(DEFAULT_HOLDTIME),
+        priority: seen.priority,
+        packing: seen.packing,
+    })
+}
+
+/// One option; what follows it, or a refusal's number.
+fn option<'a>(octets: &'a [u8], seen: &mut Seen) -> Result<&'a [u8], u8> {
+    let (head, rest) = octets.split_first_chunk::<4>().ok_or(6)?;
+    let option_type = u16::from_be_bytes([head[0], head[1]]);
+    let length = u16::from_be_bytes([head[2], head[3]]);
+    if !allowed(option_type, length, seen) {
+        return Err(13);
+    }
+    let (value, rest) = rest.split_at_checked(usize::from(length)).ok_or(6)?;
+    match (option_type, value) {
+        (HOLDTIME, &[a, b]) => seen.holdtime = Some(u16::from_be_bytes([a, b])),
+        (PRIORITY, &[a, b, c, d]) => seen.priority = Some(u32::from_be_bytes([a, b, c, d])),
+        (PACKED_ASSERT, _) => seen.packing = true,
+        _ => {}
+    }
+    Ok(rest)
+}
+
+/// A known option has its one length and was not given before.
+fn allowed(option_type: u16, length: u16, seen: &Seen) -> bool {
+    match option_type {
+        HOLDTIME => length == 2 && seen.holdtime.is_none(),
+        PRIORITY => length == 4 && seen.priority.is_none(),
+        PACKED_ASSERT => length == 0 && !seen.packing,
+        _ => true,
+    }
+}

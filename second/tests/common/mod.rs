@@ -1,0 +1,92 @@
+//! What the tests share.
+#![allow(dead_code)]
+
+use second::checksum::checksum;
+use second::rng::Rng;
+use second::{Answer, Refusal};
+
+pub const R: u32 = 0x8000_0000;
+
+pub fn refusal<T>(number: u8, place: usize) -> Answer<T> {
+    Err(Refusal { number, place })
+}
+
+pub fn hex(text: &str) -> Vec<u8> {
+    let digits: Vec<u8> = text.bytes().filter(|c| !c.is_ascii_whitespace()).collect();
+    let digit = |c: u8| (c as char).to_digit(16).unwrap() as u8;
+    digits.chunks(2).map(|two| digit(two[0]) << 4 | digit(two[1])).collect()
+}
+
+pub fn entry(group: u32, source: u32, r_preference: u32, metric: u32) -> Vec<u8> {
+    [group, source, r_preference, metric].iter().flat_map(|word| word.to_be_bytes()).collect()
+}
+
+pub fn pair(group: u32, source: u32) -> Vec<u8> {
+    [group, source].iter().flat_map(|word| word.to_be_bytes()).collect()
+}
+
+/// Sets the checksum of a message of at least 4 octets.
+pub fn seal(message: &mut [u8]) {
+    message[2..4].fill(0);
+    let sum = checksum(message);
+    message[2..4].copy_from_slice(&sum.to_be_bytes());
+}
+
+pub fn message(first: u8, second: u8, body: &[u8]) -> Vec<u8> {
+    let mut m = vec![first, second, 0, 0];
+    m.extend_from_slice(body);
+    seal(&mut m);
+    m
+}
+
+pub fn encoded_group(group: u32) -> Vec<u8> {
+    [&[1, 0, 0, 32][..], &group.to_be_bytes()].concat()
+}
+
+pub fn encoded_source(source: u32) -> Vec<u8> {
+    [&[1, 0][..], &source.to_be_bytes()].concat()
+}
+
+/// An assert record as in a message.
+pub fn assert_record(group: u32, source: u32, r_preference: u32, metric: u32) -> Vec<u8> {
+    let numbers = [r_preference.to_be_bytes(), metric.to_be_bytes()].concat();
+    [encoded_group(group), encoded_source(source), numbers].concat()
+}
+
+pub fn pair_record(group: u32, source: u32) -> Vec<u8> {
+    [encoded_group(group), encoded_source(source)].concat()
+}
+
+pub fn words(numbers: &[u32]) -> Vec<u8> {
+    numbers.iter().flat_map(|word| word.to_be_bytes()).collect()
+}
+
+/// An assert entry from a small alphabet, so that neighbours often join.
+pub fn random_entry(rng: &mut Rng) -> Vec<u8> {
+    let group = 0xE801_0101 + rng.below(2) as u32;
+    let preference = 100 + u32::from(rng.one_in(5));
+    let metric = 20 + u32::from(rng.one_in(5));
+    if rng.one_in(2) {
+        entry(group, 0x0A00_0001 + rng.below(2) as u32, preference, metric)
+    } else {
+        entry(group, rng.below(3) as u32, R | preference, metric)
+    }
+}
+
+pub fn random_entries(rng: &mut Rng, count: usize) -> Vec<u8> {
+    let mut list: Vec<u8> = Vec::new();
+    while list.len() < 16 * count {
+        let next = random_entry(rng);
+        for _ in 0..=rng.below(3) {
+            list.extend_from_slice(&next);
+        }
+    }
+    list.truncate(16 * count);
+    list
+}
+
+pub fn random_pairs(rng: &mut Rng, count: usize, least_source: u32) -> Vec<u8> {
+    (0..count)
+        .flat_map(|_| pair(0xE000_0000 | rng.next_u32() >> 4, least_source + rng.below(9) as u32))
+        .collect()
+}

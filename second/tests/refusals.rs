@@ -1,0 +1,337 @@
+//! Every number of the refusal table, with its place, and the order of the
+//! checks.
+mod common;
+use common::*;
+use second::counters::*;
+use second::hello::*;
+use second::pack::*;
+use second::read::*;
+use second::Kind;
+
+const G: u32 = 0xE801_0101;
+const S: u32 = 0x0A00_0001;
+
+/// Refused, and the entries stay.
+fn asserts_refused(m: &[u8], number: u8, place: usize) {
+    let mut entries = [0x77; 256];
+    assert_eq!(read_asserts(m, &mut entries), refusal(number, place), "{m:02x?}");
+    assert_eq!(entries, [0x77; 256]);
+}
+
+fn pairs_refused(m: &[u8], number: u8, place: usize) {
+    let mut entries = [0x77; 256];
+    assert_eq!(read_pairs(m, &mut entries), refusal(number, place), "{m:02x?}");
+    assert_eq!(entries, [0x77; 256]);
+}
+
+fn simple(records: &[Vec<u8>]) -> Vec<u8> {
+    message(0x25, 1, &[vec![0; 4], records.concat()].concat())
+}
+
+fn aggregated(records: &[Vec<u8>]) -> Vec<u8> {
+    message(0x25, 3, &[vec![0; 4], records.concat()].concat())
+}
+
+/// A source aggregated record that says `n` groups.
+fn source_aggregated(source: u32, n: u8, groups: &[u32]) -> Vec<u8> {
+    let groups: Vec<u8> = groups.iter().flat_map(|g| encoded_group(*g)).collect();
+    [words(&[110, 20]), encoded_source(source), vec![0, n, 9, 9], groups].concat()
+}
+
+fn rp_aggregated(k: u8, group_records: &[Vec<u8>]) -> Vec<u8> {
+    [words(&[R | 110, 20]), vec![0, k, 9, 9], group_records.concat()].concat()
+}
+
+fn group_record(group: u32, p: u8, sources: &[u32]) -> Vec<u8> {
+    let sources: Vec<u8> = sources.iter().flat_map(|s| encoded_source(*s)).collect();
+    [encoded_group(group), vec![0, p, 9, 9], sources].concat()
+}
+
+#[test]
+fn number_1_length() {
+    for length in 0..4 {
+        assert_eq!(header(&[0x10; 4][..length]), refusal(1, 0));
+    }
+    assert_eq!(header(&vec![0x20; 65_516]), refusal(1, 0));
+    let mut longest = vec![0; 65_515];
+    longest[0] = 0x20;
+    seal(&mut longest);
+    assert_eq!(header(&longest), Ok(Kind::Hello));
+}
+
+#[test]
+fn number_2_version() {
+    assert_eq!(header(&[0x30, 0, 0, 0]), refusal(2, 0));
+    asserts_refused(&[0x05, 0, 0, 0], 2, 0);
+}
+
+#[test]
+fn number_3_checksum() {
+    assert_eq!(header(&[0x20, 0, 0, 0]), refusal(3, 0));
+    assert_eq!(header(&[0x2F, 0, 0, 0]), refusal(3, 0));
+    assert_eq!(header(&[0x20, 0, 0xDF, 0xFF]), Ok(Kind::Hello));
+}
+
+#[test]
+fn number_4_kind() {
+    for message_type in 0..16u8 {
+        for second in 0..=255u8 {
+            let m = message(0x20 | message_type, second, &[]);
+            let expected = match (message_type, second) {
+                (0, _) => Ok(Kind::Hello),
+                (5, b) if b & 1 == 0 => Ok(Kind::Assert),
+                (5, b) if b & 2 == 0 => Ok(Kind::Simple),
+                (5, _) => Ok(Kind::Aggregated),
+                (13, b) if b < 16 => Ok(Kind::NullRegister),
+                (13, b) if b < 32 => Ok(Kind::RegisterStop),
+                _ => refusal(4, 0),
+            };
+            assert_eq!(header(&m), expected);
+            assert!(body(&m).is_empty());
+        }
+    }
+    asserts_refused(&message(0x20, 0, &[]), 4, 0);
+    asserts_refused(&message(0x2D, 0, &[]), 4, 0);
+    pairs_refused(&message(0x25, 0, &[]), 4, 0);
+    pairs_refused(&message(0x2D, 0x20, &pair_record(G, S)), 4, 0);
+    assert_eq!(read_hello(&message(0x25, 0, &[])), refusal(4, 0));
+    assert_eq!(read_record(&[], 9, Kind::Hello), refusal(4, 0));
+    assert_eq!(read_record(&[], 9, Kind::Aggregated), refusal(4, 0));
+    let mut counters = Counters::default();
+    assert_eq!(add(&mut counters, Direction::Sent, 6, 1), refusal(4, 0));
+    assert_eq!(add(&mut counters, Direction::Received, 255, 1), refusal(4, 0));
+    assert_eq!(counters, Counters::default());
+}
+
+#[test]
+fn number_5_zero_and_no_record() {
+    for second in [1, 3] {
+        asserts_refused(&message(0x25, second, &[]), 6, 4);
+        for length in 1..4 {
+            asserts_refused(&message(0x25, second, &[1, 0, 0][..length]), 5, 4);
+            asserts_refused(&message(0x25, second, &[0, 1, 1][..length]), 6, 4);
+        }
+        asserts_refused(&message(0x25, second, &[1, 0, 0, 0]), 5, 4);
+        asserts_refused(&message(0x25, second, &[0, 1, 1, 1]), 5, 8);
+    }
+    pairs_refused(&message(0x2D, 0, &[]), 5, 4);
+    pairs_refused(&message(0x2D, 0x10, &[]), 5, 4);
+    // Reserved is ignored.
+    let m = message(0x25, 1, &[vec![0, 1, 2, 3], assert_record(G, S, 1, 2)].concat());
+    assert_eq!(read_asserts(&m, &mut [0; 16]), Ok((Kind::Simple, 1)));
+}
+
+#[test]
+fn number_6_cut_and_more() {
+    let record = assert_record(G, S, 110, 20);
+    for cut in 0..22 {
+        asserts_refused(&message(0x25, 0, &record[..cut]), 6, 4);
+        assert_eq!(read_record(&record[..cut], 0, Kind::Assert), refusal(6, 0));
+    }
+    for cut in 1..22 {
+        asserts_refused(&simple(&[record.clone(), record[..cut].to_vec()]), 6, 30);
+    }
+    asserts_refused(&message(0x25, 0, &[record.clone(), vec![0]].concat()), 6, 26);
+    for cut in 1..14 {
+        pairs_refused(
+            &message(0x2D, 0, &[pair_record(G, S), pair_record(G, S)[..cut].to_vec()].concat()),
+            6,
+            18,
+        );
+    }
+    let whole = source_aggregated(S, 2, &[G, G + 1]);
+    for cut in 1..whole.len() {
+        asserts_refused(&aggregated(&[whole.clone(), whole[..cut].to_vec()]), 6, 8 + whole.len());
+    }
+    let whole = rp_aggregated(2, &[group_record(G, 0, &[]), group_record(G, 2, &[0, S])]);
+    for cut in 1..whole.len() {
+        asserts_refused(&aggregated(&[whole.clone(), whole[..cut].to_vec()]), 6, 8 + whole.len());
+    }
+    asserts_refused(&aggregated(&[source_aggregated(S, 0, &[])]), 6, 8);
+    asserts_refused(&aggregated(&[rp_aggregated(0, &[])]), 6, 8);
+    for at in [0, 1, usize::MAX] {
+        assert_eq!(read_record(&[], at, Kind::Simple), refusal(6, at));
+        assert_eq!(read_record(&[], at, Kind::RegisterStop), refusal(6, at));
+    }
+}
+
+#[test]
+fn number_6_before_7_at_one_field() {
+    // A group bad in form and cut short: 6; whole: 7, whatever follows.
+    let bad = [2, 0, 0, 32, 232, 1, 1, 1];
+    for cut in 0..8 {
+        assert_eq!(read_record(&bad[..cut], 0, Kind::RegisterStop), refusal(6, 0));
+    }
+    assert_eq!(read_record(&bad, 0, Kind::RegisterStop), refusal(7, 0));
+    // A bad group before the end of the octets, with more groups due.
+    asserts_refused(&aggregated(&[source_aggregated(S, 3, &[G, 0x0A01_0101])]), 7, 8);
+    asserts_refused(&aggregated(&[source_aggregated(S, 3, &[G, G])]), 6, 8);
+    // The zero source of an assert record is found at the R word.
+    let record = assert_record(G, 0, 110, 20);
+    assert_eq!(read_record(&record[..17], 0, Kind::Assert), refusal(6, 0));
+    assert_eq!(read_record(&record[..18], 0, Kind::Assert), refusal(7, 0));
+    asserts_refused(&message(0x25, 0, &record[..17]), 6, 4);
+    asserts_refused(&message(0x25, 0, &record[..18]), 7, 4);
+    // That of an aggregated record and of a Null-Register at the source.
+    let record = source_aggregated(0, 1, &[G]);
+    asserts_refused(&aggregated(&[record[..13].to_vec()]), 6, 8);
+    asserts_refused(&aggregated(&[record[..14].to_vec()]), 7, 8);
+    assert_eq!(read_record(&pair_record(G, 0), 0, Kind::NullRegister), refusal(7, 0));
+}
+
+#[test]
+fn number_7_addresses() {
+    let good = assert_record(G, S, 110, 20);
+    for (at, octet) in [(0, 2), (1, 1), (3, 24), (4, 223), (4, 240), (8, 2), (9, 1)] {
+        let mut bad = good.clone();
+        bad[at] = octet;
+        asserts_refused(&message(0x25, 0, &bad), 7, 4);
+        asserts_refused(&simple(&[good.clone(), bad.clone()]), 7, 30);
+        pairs_refused(&message(0x2D, 0, &[&good[..14], &bad[..14]].concat()), 7, 18);
+    }
+    // The flags octet of a group is ignored.
+    let mut flags = good.clone();
+    flags[2] = 0xFF;
+    assert!(read_asserts(&message(0x25, 0, &flags), &mut [0; 16]).is_ok());
+    asserts_refused(&simple(&[good.clone(), assert_record(G, 0, 110, 20)]), 7, 30);
+    assert!(read_asserts(&simple(&[assert_record(G, 0, R, 20)]), &mut [0; 16]).is_ok());
+    pairs_refused(&message(0x2D, 0x00, &pair_record(G, 0)), 7, 4);
+    assert_eq!(
+        read_pairs(&message(0x2D, 0x10, &pair_record(G, 0)), &mut [0; 8]),
+        Ok((Kind::RegisterStop, 1))
+    );
+    let mut record = group_record(G, 1, &[S]);
+    record[12] = 2;
+    let first = source_aggregated(S, 1, &[G]);
+    asserts_refused(&aggregated(&[first.clone(), rp_aggregated(1, &[record])]), 7, 8 + first.len());
+}
+
+#[test]
+fn number_8_buffers() {
+    let m = simple(&[assert_record(G, S, 1, 2), assert_record(G, S, 1, 2)]);
+    let mut entries = [0x77; 31];
+    assert_eq!(read_asserts(&m, &mut entries), refusal(8, 0));
+    assert_eq!(entries, [0x77; 31]);
+    let m = message(0x2D, 0, &pair_record(G, S));
+    assert_eq!(read_pairs(&m, &mut [0; 7]), refusal(8, 0));
+    assert_eq!(read_pairs(&m, &mut [0; 9]), Ok((Kind::NullRegister, 1)));
+    // A later fault goes before the buffer.
+    let m = message(0x2D, 0, &[pair_record(G, S), pair_record(G, 0)].concat());
+    assert_eq!(read_pairs(&m, &mut []), refusal(7, 18));
+    for start in [0, 1, 2] {
+        let mut buffer = [0x77; 1479];
+        assert_eq!(pack_simple(&entry(0, 0, 0, 0), start, 0, &mut buffer), refusal(8, 0));
+        assert_eq!(pack_aggregated(&entry(0, 0, 0, 0), start, 1480, &mut buffer), refusal(8, 0));
+        assert_eq!(buffer, [0x77; 1479]);
+    }
+    let (mut small, mut large) = ([0x77; 37], [0x77; 38]);
+    assert_eq!(pack_both(&entry(G, S, 1, 2), 0, 38, &mut small, &mut large), refusal(8, 0));
+    assert_eq!(pack_both(&entry(G, S, 1, 2), 0, 38, &mut large, &mut small), refusal(8, 0));
+    assert_eq!((small, large), ([0x77; 37], [0x77; 38]));
+}
+
+#[test]
+fn number_9_limits() {
+    let mut buffer = vec![0x77; 70_000];
+    for limit in [1, 37, 65_516, usize::MAX] {
+        assert_eq!(pack_assert(&[1], 9, limit, &mut []), refusal(9, 0));
+        assert_eq!(pack_simple(&[1], 9, limit, &mut buffer), refusal(9, 0));
+        assert_eq!(pack_aggregated(&[1], 9, limit, &mut buffer), refusal(9, 0));
+        assert_eq!(pack_null_register(&[1], 9, limit, &mut buffer), refusal(9, 0));
+        assert_eq!(pack_register_stop(&[1], 9, limit, &mut buffer), refusal(9, 0));
+        assert_eq!(pack_both(&[1], 9, limit, &mut [], &mut buffer), refusal(9, 0));
+    }
+    assert!(buffer.iter().all(|octet| *octet == 0x77));
+}
+
+#[test]
+fn number_10_entry_lists() {
+    let mut buffer = [0x77; 1480];
+    let bad = entry(0, 0, 0, 0);
+    for start in [0, 1, 2, usize::MAX] {
+        assert_eq!(pack_simple(&bad[..15], start, 0, &mut buffer), refusal(10, 0));
+        assert_eq!(pack_null_register(&bad[..7], start, 0, &mut buffer), refusal(10, 0));
+    }
+    assert_eq!(pack_assert(&bad, 2, 0, &mut buffer), refusal(10, 0));
+    assert_eq!(pack_register_stop(&bad, 3, 0, &mut buffer), refusal(10, 0));
+    assert_eq!(pack_register_stop(&bad, 2, 0, &mut buffer), Ok((0, 0)));
+    assert_eq!(buffer, [0x77; 1480]);
+}
+
+#[test]
+fn packing_number_7_looks_to_the_end() {
+    let mut buffer = [0x77; 1480];
+    let good = entry(G, S, 1, 2);
+    let list = [entry(G, 0, 1, 2), good.clone(), good.clone(), entry(0x7FFF_FFFF, S, 1, 2)].concat();
+    for pack in [pack_assert, pack_simple, pack_aggregated] {
+        assert_eq!(pack(&list, 0, 38, &mut buffer), refusal(7, 0));
+        assert_eq!(pack(&list, 1, 38, &mut buffer), refusal(7, 3));
+        assert_eq!(pack(&list, 4, 38, &mut buffer), Ok((0, 0)));
+    }
+    let list = [pair(0, S), pair(G, 0), pair(G, S)].concat();
+    assert_eq!(pack_null_register(&list, 0, 0, &mut buffer), refusal(7, 0));
+    assert_eq!(pack_null_register(&list, 1, 0, &mut buffer), refusal(7, 1));
+    assert_eq!(buffer, [0x77; 1480]);
+    assert_eq!(pack_register_stop(&list, 1, 0, &mut buffer), Ok((32, 2)));
+}
+
+#[test]
+fn number_13_hello_options() {
+    let hello = |body: &[u8]| read_hello(&message(0x20, 0xFF, body));
+    let none = Hello { holdtime: 105, priority: None, packing: false };
+    assert_eq!(hello(&[]), Ok(none));
+    assert_eq!(hello(&hex("0001 0002 0000")), Ok(Hello { holdtime: 0, ..none }));
+    assert_eq!(hello(&hex("0013 0004 80000001")), Ok(Hello { priority: Some(0x8000_0001), ..none }));
+    assert_eq!(hello(&hex("0028 0000")), Ok(Hello { packing: true, ..none }));
+    // Wrong lengths and repetitions, found before the value.
+    assert_eq!(hello(&hex("0028 0000 0001 0003")), refusal(13, 8));
+    assert_eq!(hello(&hex("0013 0003")), refusal(13, 4));
+    assert_eq!(hello(&hex("0028 0001")), refusal(13, 4));
+    assert_eq!(hello(&hex("0001 0002 0012 0001 0002")), refusal(13, 10));
+    assert_eq!(hello(&hex("0013 0004 00000000 0013 0004")), refusal(13, 12));
+    assert_eq!(hello(&hex("0028 0000 0028 0000")), refusal(13, 8));
+    // Cut options, and unknown ones, also repeated.
+    for cut in 1..8 {
+        let option = &hex("0013 0004 00000000")[..cut];
+        assert_eq!(hello(&[&hex("0028 0000"), option].concat()), refusal(6, 8));
+    }
+    assert_eq!(hello(&hex("0014 0001")), refusal(6, 4));
+    assert_eq!(hello(&hex("0014 0001 FF 0014 0000 0001 0002 0007")), Ok(Hello { holdtime: 7, ..none }));
+    assert_eq!(hello(&hex("0014 FFFF 0000")), refusal(6, 4));
+}
+
+#[test]
+fn counters_saturate() {
+    let mut counters = Counters::default();
+    for kind in 0..6u8 {
+        assert_eq!(add(&mut counters, Direction::Received, kind, 3), Ok(()));
+        assert_eq!(counters.received[usize::from(kind)], Count { messages: 1, records: 3 });
+    }
+    assert_eq!(counters.sent, Counters::default().sent);
+    counters.sent[2] = Count { messages: u64::MAX, records: u64::MAX - 1 };
+    assert_eq!(add(&mut counters, Direction::Sent, 2, 2), Ok(()));
+    assert_eq!(counters.sent[2], Count { messages: u64::MAX, records: u64::MAX });
+}
+
+#[test]
+fn aggregated_records_as_read() {
+    let records = [
+        source_aggregated(S, 2, &[G, G + 1]),
+        rp_aggregated(
+            3,
+            &[group_record(G, 0, &[]), group_record(G, 1, &[0]), group_record(G + 1, 2, &[S, 0])],
+        ),
+    ];
+    let mut entries = [0x77; 16 * 6 + 3];
+    assert_eq!(read_asserts(&aggregated(&records), &mut entries), Ok((Kind::Aggregated, 6)));
+    let expected = [
+        entry(G, S, 110, 20),
+        entry(G + 1, S, 110, 20),
+        entry(G, 0, R | 110, 20),
+        entry(G, 0, R | 110, 20),
+        entry(G + 1, S, R | 110, 20),
+        entry(G + 1, 0, R | 110, 20),
+        vec![0x77; 3],
+    ];
+    assert_eq!(entries[..], expected.concat());
+}
