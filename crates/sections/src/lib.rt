@@ -31,13 +31,13 @@ pub const ASSERT_LIMIT: usize = 1024;
 pub const PAIR_LIMIT: usize = 1024;
 
 // The octets of a header, an assert, a pair and a neighbour.
-const HEADER: usize = 12;
+pub const HEADER: usize = 12;
 
-const ASSERT: usize = 16;
+pub const ASSERT: usize = 16;
 
-const PAIR: usize = 8;
+pub const PAIR: usize = 8;
 
-const ROW: usize = 12;
+pub const ROW: usize = 12;
 
 // How many entries each section of a sheet has.
 #[repr(C)]

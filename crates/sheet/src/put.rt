@@ -1,7 +1,11 @@
 // The header of a sheet and its rows, written into a lent buffer. Each function knows that its octets fit.
 use neighbours::Neighbour;
 use neighbours::Table;
+use sections::ASSERT;
 use sections::Counts;
+use sections::HEADER;
+use sections::PAIR;
+use sections::ROW;
 ghost use mathlib.Core.Path.{_≡_};
 ghost use mathlib.Core.Bool.{true, cond};
 ghost use Prim.Native.Nat.{_+_, _*_, _≤_, _<_};
@@ -39,10 +43,10 @@ pub(crate) fn put_header(d: &mut [u8], c: Counts)
     requires { ⌜ (12 ≤ length (now d)) × (countsAllowed base c ≡ true) ⌝ }
     ensures { λ _. ⌜ now (d .exit) ≡ put (now (d .entry)) 0 (headerOctets base ipv4 c) ⌝ }
 {
-    let pairs_from = 12 + 16 * c.asserts;
-    let rows_from = pairs_from + 8 * c.pairs;
+    let pairs_from = HEADER + ASSERT * c.asserts;
+    let rows_from = pairs_from + PAIR * c.pairs;
     put16(d, 0, c.asserts);
-    put16(d, 2, 12);
+    put16(d, 2, HEADER);
     put16(d, 4, c.pairs);
     put16(d, 6, pairs_from);
     put16(d, 8, c.neighbours);
@@ -85,7 +89,7 @@ pub(crate) fn put_rows(d: &mut [u8], at: usize, table: Table)
     let count = table.count;
     let mut i = 0;
     while i < count {
-        put_row(d, at + 12 * i, table.rows[i]);
+        put_row(d, at + ROW * i, table.rows[i]);
         i += 1;
     }
 }

@@ -4,8 +4,12 @@ use crate::SheetRead;
 use crate::copy::copy;
 use format::Refusal;
 use neighbours::Table;
+use sections::ASSERT;
 use sections::Checked;
 use sections::Counts;
+use sections::HEADER;
+use sections::PAIR;
+use sections::ROW;
 use sections::check_sheet;
 use sections::row_at;
 ghost use mathlib.Core.Path.{_≡_};
@@ -39,7 +43,7 @@ fn gather(o: &[u8], at: usize, n: usize) -> Table
     let mut table = Table::empty();
     let mut i = 0;
     while i < n {
-        let row = row_at(o, at + 12 * i);
+        let row = row_at(o, at + ROW * i);
         table.rows[i] = row;
         i += 1;
         table.count = i;
@@ -55,8 +59,8 @@ fn deliver(o: &[u8], c: Counts, asserts: &mut [u8], pairs: &mut [u8]) -> SheetRe
     ensures asserts { λ _. ⌜ now (asserts .exit) ≡ reading base ipv4 (now (o .entry)) (now (asserts .entry)) (now (pairs .entry)) .asserts ⌝ }
     ensures pairs { λ _. ⌜ now (pairs .exit) ≡ reading base ipv4 (now (o .entry)) (now (asserts .entry)) (now (pairs .entry)) .pairs ⌝ }
 {
-    let n = 16 * c.asserts;
-    let m = 8 * c.pairs;
+    let n = ASSERT * c.asserts;
+    let m = PAIR * c.pairs;
     if asserts.len() < n {
         return refused(Refusal {
             number: 8,
@@ -69,10 +73,10 @@ fn deliver(o: &[u8], c: Counts, asserts: &mut [u8], pairs: &mut [u8]) -> SheetRe
             place: 0,
         });
     }
-    copy(o, 12, n, asserts, 0);
-    copy(o, 12 + n, m, pairs, 0);
+    copy(o, HEADER, n, asserts, 0);
+    copy(o, HEADER + n, m, pairs, 0);
     SheetRead {
-        table: gather(o, 12 + n + m, c.neighbours),
+        table: gather(o, HEADER + n + m, c.neighbours),
         found: Found::Entries(c),
     }
 }

@@ -9,7 +9,13 @@ use neighbours::Table;
 use neighbours::is_valid;
 use packing::Listed;
 use packing::entries_allowed;
+use sections::ASSERT;
+use sections::ASSERT_LIMIT;
 use sections::Counts;
+use sections::HEADER;
+use sections::PAIR;
+use sections::PAIR_LIMIT;
+use sections::ROW;
 ghost use mathlib.Core.Path.{_≡_};
 ghost use mathlib.Core.Bool.{_&&_, cond};
 ghost use lib.ListN.{length};
@@ -36,20 +42,20 @@ fn refused(number: u8) -> Stored
 fn are_whole(asserts: &[u8], pairs: &[u8]) -> bool
     ensures { λ r. ⌜ r ≡ whole (assertsIn ipv4) (now (asserts .entry)) && whole (pairsIn ipv4) (now (pairs .entry)) ⌝ }
 {
-    if asserts.len() % 16 != 0 {
+    if asserts.len() % ASSERT != 0 {
         return false;
     }
-    pairs.len() % 8 == 0
+    pairs.len() % PAIR == 0
 }
 
 // Whether no count is over its limit, and the table is one that a sheet may hold.
 fn are_storable(asserts: &[u8], pairs: &[u8], table: Table) -> bool
     ensures { λ r. ⌜ r ≡ countsAllowed base (countsOf ipv4 (contentsOf (now (asserts .entry)) (now (pairs .entry)) table)) && valid table ⌝ }
 {
-    if 1024 < asserts.len() / 16 {
+    if ASSERT_LIMIT < asserts.len() / ASSERT {
         return false;
     }
-    if 1024 < pairs.len() / 8 {
+    if PAIR_LIMIT < pairs.len() / PAIR {
         return false;
     }
     is_valid(table)
@@ -75,7 +81,7 @@ fn due(asserts: &[u8], pairs: &[u8], table: Table, room: usize) -> Stored
     if !are_storable(asserts, pairs, table) {
         return refused(14);
     }
-    let n = 12 + asserts.len() + pairs.len() + 12 * table.count;
+    let n = HEADER + asserts.len() + pairs.len() + ROW * table.count;
     if room < n {
         return refused(8);
     }
@@ -94,13 +100,13 @@ fn fill(asserts: &[u8], pairs: &[u8], table: Table, d: &mut [u8])
     ensures { λ _. ⌜ now (d .exit) ≡ put (now (d .entry)) 0 (sheetOctets base ipv4 (contentsOf (now (asserts .entry)) (now (pairs .entry)) table)) ⌝ }
 {
     let c = Counts {
-        asserts: asserts.len() / 16,
-        pairs: pairs.len() / 8,
+        asserts: asserts.len() / ASSERT,
+        pairs: pairs.len() / PAIR,
         neighbours: table.count,
     };
     put_header(d, c);
-    copy(asserts, 0, asserts.len(), d, 12);
-    let at = 12 + asserts.len();
+    copy(asserts, 0, asserts.len(), d, HEADER);
+    let at = HEADER + asserts.len();
     copy(pairs, 0, pairs.len(), d, at);
     put_rows(d, at + pairs.len(), table);
 }
