@@ -9,7 +9,7 @@
 --     take-put, drop-put, take-put-end, drop-put-end        what stands up to the end of a write and past it: at the start, and at any place
 --     part-put, field-put                                   what was written is read back: octets, and a field
 --     stores-put, lows-be, taken-be, put-number             stores one by one are a write; the octets as code takes them are those of the number
---     number-is, number-short                               a number by its octets, and where fewer are there
+--     number-is, number-short, number-part                  a number by its octets, where fewer are there, and in a part by its place in the whole
 --     field-got, field-short, write-next, write-full        what a reader or a writer answers, by the test that its code made
 --     field-back, field-lt, write-back, length-fitted       what a caller learns from an answer
 -- Assumes nothing.
@@ -24,7 +24,7 @@ use lib.Arith.{digits-lt, digits-div, mod-mul}
 use lib.Dec.{leb, lit<}
 use lib.Pow.{pow-add}
 use lib.ListN.{length, getD, set, take, drop, length-append, length-take, length-drop, take-append-drop, drop-of-length-le}
-use lib.Seq.{sets, sets-eq, take-all, take-at, take-take, take-append-le, drop-at, drop-cons, drop-drop, getD-drop, length-take-le}
+use lib.Seq.{sets, sets-eq, take-add, take-all, take-at, take-take, take-append-le, drop-at, drop-cons, drop-drop, getD-drop, length-take-le}
 use borrow.Author.Tests.{le-leb, lt-leb, leb-true}
 use Rattle.octets.specs.Octets.{Octets, value, numberAt, be, put}
 use Rattle.octets.specs.Field.{fieldAt, writtenAt, fitted}
@@ -266,6 +266,18 @@ number-is k o at h = ap value (sym (from-part o at 0 k (omega arith) ∙ ap (λ 
 pub number-short : (k n : ℕ) (o : List ℕ) (at : ℕ) → n ≡ length o - at → n ≤ k → numberAt k o at ≡ numberAt n o at
 unfolding numberAt
 number-short k n o at e h = ap value (take-all k (drop at o) (simp length-drop (omega arith)) ∙ sym (take-all n (drop at o) (simp length-drop (omega arith))))
+
+pub number-part : (o : List ℕ) (from n : ℕ) → from + n ≤ length o → (k at p : ℕ) → p ≡ from + at → at + k ≤ n → numberAt k (take n (drop from o)) at ≡ numberAt k o p
+unfolding numberAt
+number-part o from n there k at p e h =
+    let split : n ≡ at + (n - at) = omega arith in
+    let long : at ≤ length (drop from o) = simp length-drop (omega arith) in
+    let cut : drop at (take (at + (n - at)) (drop from o)) ≡ take (n - at) (drop at (drop from o)) =
+    rw (take-add, drop-at (take at (drop from o)) (take (n - at) (drop at (drop from o))) at (length-take-le at (drop from o) long)) in
+    ap (λ m. value (take k (drop at (take m (drop from o))))) split
+    ∙ ap (λ l. value (take k l)) cut
+    ∙ ap value (take-take k (n - at) (drop at (drop from o)) (omega arith))
+    ∙ rw (drop-drop, e)
 
 -- ---- the answers, from the tests that the code made
 

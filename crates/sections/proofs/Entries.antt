@@ -1,6 +1,5 @@
 -- The entries of a part of a sheet, and of the sheet from a place on.
---     number-part                   a number in a part, by its place in the whole
---     entry-part                    an entry likewise, for every kind
+--     entry-part                    an entry of a part, by its place in the whole, for every kind
 --     bad-within                    the number of a bad entry
 --     Found, entries-sound, entries-bad, bad-there    what code finds in a part says what the section comes to
 -- Assumes nothing.
@@ -11,8 +10,8 @@ use Prim.Native.Nat.{ℕ, zero, suc, _+_, _-_, _*_, _≤_, _<_}
 use native.Mathlib.Nat.{mul-suc, mul-zero, add-zero, mul-le-mul-left, mul-div-cancel-left}
 use native.Mathlib.Omega.{arith}
 use lib.ListN.{length, take, drop, length-drop}
-use lib.Seq.{take-add, take-take, drop-at, drop-drop, length-take-le}
-use Rattle.octets.specs.Octets.{value, numberAt}
+use lib.Seq.{length-take-le}
+use Rattle.octets.proofs.Laws.{number-part}
 use Rattle.format.specs.Outcome.{Outcome, gives, refuses, refuseIf, _>>_}
 use Rattle.format.specs.Family.{Family}
 use Rattle.format.specs.Entry.{Entries, assertAt, pairAt, count, entriesAt, entriesOf}
@@ -31,34 +30,22 @@ use Rattle.sections.specs.Checking.{fault, checkEntries}
 -- ---- a part
 
 module _ (o : List ℕ) (from n : ℕ) (there : from + n ≤ length o) where
-  pub number-part : (k at p : ℕ) → p ≡ from + at → at + k ≤ n → numberAt k (take n (drop from o)) at ≡ numberAt k o p
-  unfolding numberAt
-  number-part k at p e h =
-      let split : n ≡ at + (n - at) = omega arith in
-      let long : at ≤ length (drop from o) = simp length-drop (omega arith) in
-      let cut : drop at (take (at + (n - at)) (drop from o)) ≡ take (n - at) (drop at (drop from o)) =
-      rw (take-add, drop-at (take at (drop from o)) (take (n - at) (drop at (drop from o))) at (length-take-le at (drop from o) long)) in
-      ap (λ m. value (take k (drop at (take m (drop from o))))) split
-      ∙ ap (λ l. value (take k l)) cut
-      ∙ ap value (take-take k (n - at) (drop at (drop from o)) (omega arith))
-      ∙ rw (drop-drop, e)
-
   assert-part : (f : Family) (at : ℕ) → at + (2 * f .width + 8) ≤ n → assertAt f (take n (drop from o)) at ≡ assertAt f o (from + at)
   unfolding assertAt
   assert-part f at h =
       rw (
-        number-part (f .width) at (from + at) refl (omega arith),
-        number-part (f .width) (at + f .width) (from + at + f .width) (omega arith) (omega arith),
-        number-part 4 (at + 2 * f .width) (from + at + 2 * f .width) (omega arith) (omega arith),
-        number-part 4 (at + 2 * f .width + 4) (from + at + 2 * f .width + 4) (omega arith) (omega arith),
+        number-part o from n there (f .width) at (from + at) refl (omega arith),
+        number-part o from n there (f .width) (at + f .width) (from + at + f .width) (omega arith) (omega arith),
+        number-part o from n there 4 (at + 2 * f .width) (from + at + 2 * f .width) (omega arith) (omega arith),
+        number-part o from n there 4 (at + 2 * f .width + 4) (from + at + 2 * f .width + 4) (omega arith) (omega arith),
       )
 
   pair-part : (f : Family) (at : ℕ) → at + 2 * f .width ≤ n → pairAt f (take n (drop from o)) at ≡ pairAt f o (from + at)
   unfolding pairAt
   pair-part f at h =
       rw (
-        number-part (f .width) at (from + at) refl (omega arith),
-        number-part (f .width) (at + f .width) (from + at + f .width) (omega arith) (omega arith),
+        number-part o from n there (f .width) at (from + at) refl (omega arith),
+        number-part o from n there (f .width) (at + f .width) (from + at + f .width) (omega arith) (omega arith),
       )
 
   pub entry-part : (k : Kind) (at : ℕ) → at + entriesFor k .size ≤ n → entriesFor k .entryAt (take n (drop from o)) at ≡ entriesFor k .entryAt o (from + at)
