@@ -19,11 +19,12 @@ pub enum Run {
     Group,
 }
 
-// Whether two numbers of four octets are equal.
+// Whether two numbers of four octets are equal. Of a part of four octets the compiler knows that none is missing.
 pub(crate) fn same(e: &[u8], a: usize, b: usize) -> bool
+    requires { ⌜ (a + 4 ≤ length (now e)) × (b + 4 ≤ length (now e)) ⌝ }
     ensures { λ r. ⌜ r ≡ eqb (numberAt 4 (now (e .entry)) a) (numberAt 4 (now (e .entry)) b) ⌝ }
 {
-    number32(e, a) == number32(e, b)
+    number32(&e[a..a + 4], 0) == number32(&e[b..b + 4], 0)
 }
 
 // Whether two entries are joined: preference and metric are equal, and with R=0 the source.
@@ -37,7 +38,7 @@ pub(crate) fn together(e: &[u8], a: usize, b: usize) -> bool
     if !same(e, a + 12, b + 12) {
         return false;
     }
-    if r_bit(e, a + 8) {
+    if r_bit(&e[a + 8..a + 12], 0) {
         return true;
     }
     same(e, a + 4, b + 4)

@@ -9,7 +9,8 @@
 --     take-put, drop-put, take-put-end, drop-put-end        what stands up to the end of a write and past it: at the start, and at any place
 --     part-put, field-put                                   what was written is read back: octets, and a field
 --     stores-put, lows-be, taken-be, put-number             stores one by one are a write; the octets as code takes them are those of the number
---     number-is, number-short, number-part                  a number by its octets, where fewer are there, and in a part by its place in the whole
+--     number-is, number-short                               a number by its octets, and where fewer are there
+--     number-part, number-cut                               a number in a part, by its place in the whole; and where the part is that number
 --     field-got, field-short, write-next, write-full        what a reader or a writer answers, by the test that its code made
 --     field-back, field-lt, write-back, length-fitted       what a caller learns from an answer
 -- Assumes nothing.
@@ -278,6 +279,10 @@ number-part o from n there k at p e h =
     ∙ ap (λ l. value (take k l)) cut
     ∙ ap value (take-take k (n - at) (drop at (drop from o)) (omega arith))
     ∙ rw (drop-drop, e)
+
+-- the part from a place to an end, as code cuts it
+pub number-cut : (k : ℕ) (o : List ℕ) (at end : ℕ) → end ≡ at + k → end ≤ length o → numberAt k (take (end - at) (drop at o)) 0 ≡ numberAt k o at
+number-cut k o at end e there = number-part o at (end - at) (omega arith) k 0 at (omega arith) (omega arith)
 
 -- ---- the answers, from the tests that the code made
 

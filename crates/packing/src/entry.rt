@@ -44,14 +44,14 @@ fn allowed(kind: Kind, e: &[u8], at: usize) -> bool
     requires { ⌜ at + entriesFor kind .size ≤ length (now e) ⌝ }
     ensures { λ r. ⌜ r ≡ entriesFor kind .allowed (entriesFor kind .entryAt (now (e .entry)) at) ⌝ }
 {
-    let g = number32(e, at);
+    let g = number32(&e[at..at + 4], 0);
     if g < FIRST_GROUP {
         return false;
     }
     if PAST_GROUPS <= g {
         return false;
     }
-    if number32(e, at + 4) != 0 {
+    if number32(&e[at + 4..at + 8], 0) != 0 {
         return true;
     }
     zero_allowed(kind, e, at)

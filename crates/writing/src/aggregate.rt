@@ -98,7 +98,7 @@ fn number_of_sources(e: &[u8], from: usize, k: usize) -> usize
     if k != 1 {
         return k;
     }
-    if number32(e, from + 4) != 0 {
+    if number32(&e[from + 4..from + 8], 0) != 0 {
         return k;
     }
     0

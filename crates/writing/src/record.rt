@@ -12,15 +12,19 @@ ghost use Rattle.format.specs.Entry.{pairAt, entriesAt};
 ghost use Rattle.format.specs.Record.{each, pairOctets};
 ghost use Rattle.writing.specs.Kinds.{entriesFor, recordOctets, recordSize};
 
-// A number of four octets.
+// A number of four octets. They are read before one is stored: the compiler does not know that the slices are apart.
 fn copy4(e: &[u8], at: usize, d: &mut [u8], out: usize)
     requires { ⌜ (at + 4 ≤ length (now e)) × (out + 4 ≤ length (now d)) ⌝ }
     ensures { λ r. ⌜ now (d .exit) ≡ put (now (d .entry)) out (be 4 (numberAt 4 (now (e .entry)) at)) ⌝ }
 {
-    d[out] = e[at];
-    d[out + 1] = e[at + 1];
-    d[out + 2] = e[at + 2];
-    d[out + 3] = e[at + 3];
+    let a = e[at];
+    let b = e[at + 1];
+    let c = e[at + 2];
+    let f = e[at + 3];
+    d[out] = a;
+    d[out + 1] = b;
+    d[out + 2] = c;
+    d[out + 3] = f;
 }
 
 // A group: 01, 00, flags 0, mask length 32, address.

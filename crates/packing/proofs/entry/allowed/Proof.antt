@@ -1,39 +1,91 @@
 -- `packing::entry::allowed` meets its contract: the tests are those of the definition, by `allowed-is`.
 -- Assumes nothing.
+use Prim.Native.Nat.{_+_, _≤_}
+use mathlib.Core.Path.{_≡_, refl, _∙_}
 use native.Mathlib.Omega.{arith}
+use lib.ListN.{length}
 use denote.Ref.{now}
 use borrow.Author.Tests.{le-leb, lt-leb, lt-ltb, le-ltb, eq-eqb, ne-eqb}
 use borrow.Author.Needs.{needs}
+use Rattle.octets.specs.Octets.{numberAt}
+use Rattle.octets.proofs.Laws.{number-cut}
 use Rattle.format.specs.Family.{mayBeSource}
 use Rattle.writing.proofs.ByKind.{size-range}
 use Rattle.packing.proofs.ByKind.{allowed-is, zero-may}
 use Rattle.packing.proofs.entry.allowed.Statement.{statement}
 use Rattle.packing.proofs.entry.allowed.Tie as tie
 
+-- group and source are there, in an entry of either size
+there : (s : tie.Start) → s .args .at + 8 ≤ length (now (s .args .e))
+there s = omega (arith, s .pre, size-range (s .args .kind))
+
+abbrev start : tie.After-number32 → tie.Start
+start c = c .before .before .before
+
+group-is : (c : tie.After-number32) → c .number32 .result ≡ numberAt 4 (now (start c .args .e)) (start c .args .at)
+group-is c =
+    let a = start c .args in
+    c .number32 .ensures ∙ number-cut 4 (now (a .e)) (a .at) (a .at + 4) refl (omega (arith, there (start c)))
+
+abbrev first : tie.After-number322 → tie.After-number32
+first c = c .before .before .before .before
+
+source-is : (c : tie.After-number322) → c .number322 .result ≡ numberAt 4 (now (start (first c) .args .e)) (start (first c) .args .at + 4)
+source-is c =
+    let a = start (first c) .args in
+    c .number322 .ensures ∙ number-cut 4 (now (a .e)) (a .at + 4) (a .at + 8) (omega arith) (there (start (first c)))
+
+add-number32 : tie.Need-add-number32
+add-number32 c = omega (arith, there (c .before))
+
+sub-number32 : tie.Need-sub-number32
+sub-number32 c = search needs
+
+part-number32-start : tie.Need-part-number32-start
+part-number32-start c = search needs
+
+part-number32-end : tie.Need-part-number32-end
+part-number32-end c = omega (arith, there (c .before))
+
 number32-requires : tie.Need-number32-requires
-number32-requires c κs = omega (arith, size-range (c .before .args .kind))
+number32-requires c κs = search needs
 
 returns : tie.Need-returns
 returns c =
-    let a = c .before .before .before .args in
-    rw (allowed-is (a .kind) (now (a .e)) (a .at), ← c .before .number32 .ensures, lt-leb _ _ (c .if1 .taken))
+    let a = start (c .before) .args in
+    rw (allowed-is (a .kind) (now (a .e)) (a .at), ← group-is (c .before), lt-leb _ _ (c .if1 .taken))
 
 returns-2 : tie.Need-returns-2
 returns-2 c =
-    let a = c .before .before .before .before .args in
-    rw (allowed-is (a .kind) (now (a .e)) (a .at), ← c .before .before .number32 .ensures, le-leb _ _ (c .before .if1 .left), le-ltb _ _ (c .if2 .taken))
+    let n = c .before .before in
+    let a = start n .args in
+    rw (allowed-is (a .kind) (now (a .e)) (a .at), ← group-is n, le-leb _ _ (c .before .if1 .left), le-ltb _ _ (c .if2 .taken))
 
-add-number32 : tie.Need-add-number32
-add-number32 c = search needs
+add-number32-2 : tie.Need-add-number32-2
+add-number32-2 c = omega (arith, there (start (c .before .before)))
+
+add-number32-3 : tie.Need-add-number32-3
+add-number32-3 c = omega (arith, there (start (c .before .before)))
+
+sub-number32-2 : tie.Need-sub-number32-2
+sub-number32-2 c = search needs
+
+part-number32-start-2 : tie.Need-part-number32-start-2
+part-number32-start-2 c = search needs
+
+part-number32-end-2 : tie.Need-part-number32-end-2
+part-number32-end-2 c = omega (arith, there (start (c .before .before)))
 
 number32-requires-2 : tie.Need-number32-requires-2
-number32-requires-2 c κs = omega (arith, size-range (c .before .before .before .before .args .kind))
+number32-requires-2 c κs = search needs
 
 returns-3 : tie.Need-returns-3
 unfolding mayBeSource
 returns-3 c =
-    let a = c .before .before .before .before .before .before .args in
-    rw (allowed-is (a .kind) (now (a .e)) (a .at), ← c .before .before .before .before .number32 .ensures, ← c .before .number322 .ensures, le-leb _ _ (c .before .before .before .if1 .left), lt-ltb _ _ (c .before .before .if2 .left), ne-eqb _ _ (c .if3 .taken))
+    let m = c .before in
+    let n = m .before .before .before .before in
+    let a = start n .args in
+    rw (allowed-is (a .kind) (now (a .e)) (a .at), ← group-is n, ← source-is m, le-leb _ _ (m .before .before .before .if1 .left), lt-ltb _ _ (m .before .before .if2 .left), ne-eqb _ _ (c .if3 .taken))
 
 zero-allowed-requires : tie.Need-zero-allowed-requires
 zero-allowed-requires c κs = search needs
@@ -41,18 +93,28 @@ zero-allowed-requires c κs = search needs
 returns-4 : tie.Need-returns-4
 unfolding mayBeSource
 returns-4 c =
-    let a = c .before .before .before .before .before .before .before .args in
-    rw (allowed-is (a .kind) (now (a .e)) (a .at), ← c .before .before .before .before .before .number32 .ensures, ← c .before .before .number322 .ensures, le-leb _ _ (c .before .before .before .before .if1 .left), lt-ltb _ _ (c .before .before .before .if2 .left), eq-eqb _ _ (c .before .if3 .left), ← c .zero-allowed .ensures)
+    let m = c .before .before in
+    let n = m .before .before .before .before in
+    let a = start n .args in
+    rw (allowed-is (a .kind) (now (a .e)) (a .at), ← group-is n, ← source-is m, le-leb _ _ (m .before .before .before .if1 .left), lt-ltb _ _ (m .before .before .if2 .left), eq-eqb _ _ (c .before .if3 .left), ← c .zero-allowed .ensures)
     (zero-may (c .zero-allowed .result))
 
 pub allowed-spec : {M : Type 1} → statement M
 allowed-spec =
     tie.close
     (tie.spec
+    add-number32
+    sub-number32
+    part-number32-start
+    part-number32-end
     number32-requires
     returns
     returns-2
-    add-number32
+    add-number32-2
+    add-number32-3
+    sub-number32-2
+    part-number32-start-2
+    part-number32-end-2
     number32-requires-2
     returns-3
     zero-allowed-requires

@@ -8,8 +8,26 @@ use Rattle.writing.proofs.Writing.{copied}
 use Rattle.writing.proofs.record.copy4.Statement.{statement}
 use Rattle.writing.proofs.record.copy4.Tie as tie
 
-shared-slice-read-d : tie.Need-shared-slice-read-d
-shared-slice-read-d c = search needs
+shared-slice-read-a : tie.Need-shared-slice-read-a
+shared-slice-read-a c = search needs
+
+add-b : tie.Need-add-b
+add-b c = search needs
+
+shared-slice-read-b : tie.Need-shared-slice-read-b
+shared-slice-read-b c = search needs
+
+add-c : tie.Need-add-c
+add-c c = search needs
+
+shared-slice-read-c : tie.Need-shared-slice-read-c
+shared-slice-read-c c = search needs
+
+add-f : tie.Need-add-f
+add-f c = search needs
+
+shared-slice-read-f : tie.Need-shared-slice-read-f
+shared-slice-read-f c = search needs
 
 slice-write-d : tie.Need-slice-write-d
 slice-write-d c = search needs
@@ -17,35 +35,17 @@ slice-write-d c = search needs
 add-d : tie.Need-add-d
 add-d c = search needs
 
-shared-slice-read-d-2 : tie.Need-shared-slice-read-d-2
-shared-slice-read-d-2 c = search needs
+slice-write-d-2 : tie.Need-slice-write-d-2
+slice-write-d-2 c = simp length-set (omega arith)
 
 add-d-2 : tie.Need-add-d-2
 add-d-2 c = search needs
 
-slice-write-d-2 : tie.Need-slice-write-d-2
-slice-write-d-2 c = simp length-set (omega arith)
-
-add-d-3 : tie.Need-add-d-3
-add-d-3 c = search needs
-
-shared-slice-read-d-3 : tie.Need-shared-slice-read-d-3
-shared-slice-read-d-3 c = search needs
-
-add-d-4 : tie.Need-add-d-4
-add-d-4 c = search needs
-
 slice-write-d-3 : tie.Need-slice-write-d-3
 slice-write-d-3 c = simp length-set (omega arith)
 
-add-d-5 : tie.Need-add-d-5
-add-d-5 c = search needs
-
-shared-slice-read-d-4 : tie.Need-shared-slice-read-d-4
-shared-slice-read-d-4 c = search needs
-
-add-d-6 : tie.Need-add-d-6
-add-d-6 c = search needs
+add-d-3 : tie.Need-add-d-3
+add-d-3 c = search needs
 
 slice-write-d-4 : tie.Need-slice-write-d-4
 slice-write-d-4 c = simp length-set (omega arith)
@@ -63,19 +63,19 @@ pub copy4-spec : {M : Type 1} → statement M
 copy4-spec =
     tie.close
     (tie.spec
-    shared-slice-read-d
+    shared-slice-read-a
+    add-b
+    shared-slice-read-b
+    add-c
+    shared-slice-read-c
+    add-f
+    shared-slice-read-f
     slice-write-d
     add-d
-    shared-slice-read-d-2
-    add-d-2
     slice-write-d-2
-    add-d-3
-    shared-slice-read-d-3
-    add-d-4
+    add-d-2
     slice-write-d-3
-    add-d-5
-    shared-slice-read-d-4
-    add-d-6
+    add-d-3
     slice-write-d-4
     same-length
     returns)
