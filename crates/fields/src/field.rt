@@ -75,7 +75,7 @@ pub fn source_check(m: &[u8], at: usize, zero_allowed: bool) -> Checked
     if zero_allowed {
         return Checked::Next(next);
     }
-    if number32(m, at + 2) == 0 {
+    if number32(&m[at + 2..at + 6], 0) == 0 {
         return bad(7, at);
     }
     Checked::Next(next)

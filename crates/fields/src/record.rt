@@ -34,7 +34,7 @@ fn assert_fields(m: &[u8], at: usize) -> Checked
     };
     // R=0 with source 0 is found here.
     if m[word_at] < 128 {
-        if number32(m, source_at + 2) == 0 {
+        if number32(&m[source_at + 2..source_at + 6], 0) == 0 {
             return bad(7, source_at);
         }
     }

@@ -1,12 +1,10 @@
 -- Octets copied and numbers stored, as the code does it.
---     copied-eight                      eight octets read one by one, then stored one by one
 --     Copying                           where a loop that copies stands: copying-start, copying-there, copying-next, copying-end
 --     flags-put                         flags and a zero octet, stored one by one
 --     row-put                           a row, written in four steps
 --     Rowing                            where a loop that writes rows stands: rowing-start, rowing-there, rowing-next, rowing-end
 -- Assumes nothing.
-use Prim.Native.Nat.{ℕ, zero, suc, _+_, _*_, _%_, _≤_, _<_}
-use native.Mathlib.Nat.{add-zero, add-suc}
+use Prim.Native.Nat.{ℕ, suc, _+_, _*_, _≤_, _<_}
 use native.Mathlib.Omega.{arith}
 use mathlib.Core.Path.{_≡_, refl, sym, ap, _∙_}
 use mathlib.Core.Bool.{cond}
@@ -15,7 +13,7 @@ use lib.Dec.{lit<}
 use lib.ListN.{length, getD, set, take, drop, length-drop, length-append}
 use lib.Seq.{take-add, take-all, take-suc, drop-drop, drop-cons, getD-take, length-take-le}
 use Rattle.octets.specs.Octets.{put, be}
-use Rattle.octets.proofs.Laws.{place, octetsFrom, stores, stores-put, taken-be, put-nil, put-next, length-put, length-be}
+use Rattle.octets.proofs.Laws.{stores-put, taken-be, put-nil, put-next, length-put, length-be}
 use Rattle.format.specs.Family.{ipv4}
 use Rattle.format.specs.Record.{each}
 use Rattle.format.proofs.Lengths.{each-append}
@@ -29,59 +27,37 @@ use Rattle.sheet.proofs.Rows.{length-row, length-rows}
 
 -- ---- octets copied
 
-from-part : (o : List ℕ) (at j k : ℕ) → at + j + k ≤ length o → octetsFrom o at j k ≡ take k (drop (at + j) o)
-from-part o at j zero h = refl
-from-part o at j (suc k) h =
-    let here : at + j < length o = omega arith in
-    let is : place at j ≡ at + j = go j in
-    rw (is, drop-cons o (at + j) 0 here, ← add-suc, from-part o at (suc j) k (omega arith))
-  where
-    go : (j : ℕ) → place at j ≡ at + j
-    go zero = sym (add-zero at)
-    go (suc j) = refl
-
-eight : (s : List ℕ) (from : ℕ) → from + 8 ≤ length s → octetsFrom s from 0 8 ≡ take 8 (drop from s)
-eight s from h = from-part s from 0 8 (omega arith) ∙ ap (λ x. take 8 (drop x s)) (add-zero from)
-
-pub copied-eight : (s : List ℕ) (from : ℕ) (d : List ℕ) (at : ℕ) → from + 8 ≤ length s → at + 8 ≤ length d
-    → stores d at 0 (octetsFrom s from 0 8) ≡ put d at (take 8 (drop from s))
-copied-eight s from d at h g = stores-put d at (octetsFrom s from 0 8) g ∙ ap (put d at) (eight s from h)
-
 -- after i of n octets
 pub record Copying (s : List ℕ) (from n : ℕ) (d₀ : List ℕ) (at : ℕ) (d : List ℕ) (i : ℕ) : Type 0 where
   pub there : from + n ≤ length s
   pub room : at + n ≤ length d₀
-  pub eights : n % 8 ≡ 0
-  pub turns : i % 8 ≡ 0
   pub within : i ≤ n
   pub same : length d ≡ length d₀
   pub gives : d ≡ put d₀ at (take i (drop from s))
 
-pub copying-start : {s : List ℕ} {from n : ℕ} {d : List ℕ} {at : ℕ} → from + n ≤ length s → at + n ≤ length d → n % 8 ≡ 0
-    → Copying s from n d at d 0
-copying-start {d = d} {at} there room eights =
-    record { there = there; room = room; eights = eights; turns = refl; within = omega arith; same = refl; gives = sym (put-nil d at) }
+pub copying-start : {s : List ℕ} {from n : ℕ} {d : List ℕ} {at : ℕ} → from + n ≤ length s → at + n ≤ length d → Copying s from n d at d 0
+copying-start {d = d} {at} there room =
+    record { there = there; room = room; within = omega arith; same = refl; gives = sym (put-nil d at) }
 
 module _ {s : List ℕ} {from n : ℕ} {d₀ : List ℕ} {at : ℕ} {d : List ℕ} {i : ℕ} (c : Copying s from n d₀ at d i) where
-  pub copying-there : i < n → (from + i + 8 ≤ length s) × (at + i + 8 ≤ length d)
-  copying-there h = (omega (arith, c .there, c .eights, c .turns), omega (arith, c .room, c .eights, c .turns, c .same))
+  pub copying-there : i < n → (from + i < length s) × (at + i < length d)
+  copying-there h = (omega (arith, c .there), omega (arith, c .room, c .same))
 
-  pub copying-next : {d′ : List ℕ} {i′ : ℕ} → i < n → d′ ≡ put d (at + i) (take 8 (drop (from + i) s)) → i′ ≡ i + 8 → Copying s from n d₀ at d′ i′
+  pub copying-next : {d′ : List ℕ} {i′ : ℕ} → i < n → d′ ≡ set d (at + i) (getD s (from + i) 0) → i′ ≡ i + 1 → Copying s from n d₀ at d′ i′
   copying-next {d′} {i′} h p q =
       let front : List ℕ = take i (drop from s) in
-      let next : List ℕ = take 8 (drop (from + i) s) in
+      let next : List ℕ = getD s (from + i) 0 ∷ [] in
       let fits = copying-there h in
       let long : length front ≡ i = length-take-le i (drop from s) (simp length-drop (omega (arith, fits .0))) in
-      let short : length next ≡ 8 = length-take-le 8 (drop (from + i) s) (simp length-drop (omega (arith, fits .0))) in
-      let joined : front ++ next ≡ take i′ (drop from s) = rw (q, take-add i 8 (drop from s), drop-drop i from s) in
+      let stored : d′ ≡ put d (at + i) next = p ∙ stores-put d (at + i) next (omega (arith, fits .1)) in
+      let one : take 1 (drop (from + i) s) ≡ next = rw (drop-cons s (from + i) 0 (fits .0)) in
+      let joined : front ++ next ≡ take i′ (drop from s) = rw (q, take-add i 1 (drop from s), drop-drop i from s, one) in
       record {
         there = c .there;
         room = c .room;
-        eights = c .eights;
-        turns = omega (arith, c .turns);
-        within = omega (arith, c .eights, c .turns, c .within);
-        same = ap length p ∙ (length-put d (at + i) next (omega (arith, short, fits .1)) ∙ c .same);
-        gives = put-next d₀ at front next (c .gives) p (omega (arith, long)) ∙ ap (put d₀ at) joined;
+        within = omega arith;
+        same = ap length stored ∙ (length-put d (at + i) next (omega (arith, fits .1)) ∙ c .same);
+        gives = put-next d₀ at front next (c .gives) stored (omega (arith, long)) ∙ ap (put d₀ at) joined;
       }
 
   pub copying-end : n ≤ i → d ≡ put d₀ at (take n (drop from s))

@@ -1,11 +1,14 @@
 -- `fields::field::source_check` meets its contract: a test that it made is one of `sourceTest`, so `source-is` says what the field comes to.
 -- Assumes nothing.
 use Prim.Native.Nat.{_+_, _≤_}
+use mathlib.Core.Path.{_≡_, _∙_}
 use native.Mathlib.Omega.{arith}
 use borrow.Author.Tests.{eq-eqb, ne-eqb}
 use borrow.Author.Needs.{needs}
 use denote.Ref.{now}
 use lib.ListN.{length}
+use Rattle.octets.specs.Octets.{numberAt}
+use Rattle.octets.proofs.Laws.{number-cut}
 use Rattle.fields.proofs.Fields.{octets-room, form-no, form-yes, SourceIs, source-short, source-is}
 use Rattle.fields.proofs.field.source_check.Statement.{statement}
 use Rattle.fields.proofs.field.source_check.Tie as tie
@@ -74,6 +77,27 @@ returns-4 c =
 add-number32 : tie.Need-add-number32
 add-number32 c = omega (arith, found (c .before .before .before .before .before))
 
+add-number32-2 : tie.Need-add-number32-2
+add-number32-2 c = omega (arith, found (c .before .before .before .before .before))
+
+sub-number32 : tie.Need-sub-number32
+sub-number32 c = search needs
+
+part-number32-start : tie.Need-part-number32-start
+part-number32-start c = search needs
+
+part-number32-end : tie.Need-part-number32-end
+part-number32-end c = omega (arith, found (c .before .before .before .before .before))
+
+abbrev checked-at : tie.After-number32 → tie.After-known-told
+checked-at c = c .before .before .before .before .before .before .before
+
+-- the address
+address-is : (c : tie.After-number32) → c .number32 .result ≡ numberAt 4 (now (start (checked-at c) .args .m)) (start (checked-at c) .args .at + 2)
+address-is c =
+    let a = start (checked-at c) .args in
+    c .number32 .ensures ∙ number-cut 4 (now (a .m)) (a .at + 2) (a .at + 6) (omega arith) (found (checked-at c))
+
 number32-requires : tie.Need-number32-requires
 number32-requires c κs = search needs
 
@@ -82,17 +106,17 @@ bad-requires-3 c κs = search needs
 
 returns-5 : tie.Need-returns-5
 returns-5 c =
-    let d = c .before .before .before in
+    let d = c .before .before .before .before in
     form-no (is (d .before .before .before .before .before)) (c .bad3 .ensures)
-    (rw (eq-eqb _ _ (d .before .before .before .if1 .left), eq-eqb _ _ (d .before .if2 .left), d .if3 .left, ← c .before .before .number32 .ensures, eq-eqb _ _ (c .before .if4 .taken)))
+    (rw (eq-eqb _ _ (d .before .before .before .if1 .left), eq-eqb _ _ (d .before .if2 .left), d .if3 .left, ← address-is (c .before .before), eq-eqb _ _ (c .before .if4 .taken)))
 
 returns-6 : tie.Need-returns-6
 returns-6 c =
-    let d = c .before .before in
+    let d = c .before .before .before in
     let e = d .before .before .before .before .before in
     let a = start e .args in
     form-yes (is e) (octets-room 6 (now (a .m)) (a .at) (e .before .f .given .1) (e .before .before .before .octets-check .ensures) .1)
-    (rw (eq-eqb _ _ (d .before .before .before .if1 .left), eq-eqb _ _ (d .before .if2 .left), d .if3 .left, ← c .before .number32 .ensures, ne-eqb _ _ (c .if4 .left)))
+    (rw (eq-eqb _ _ (d .before .before .before .if1 .left), eq-eqb _ _ (d .before .if2 .left), d .if3 .left, ← address-is (c .before), ne-eqb _ _ (c .if4 .left)))
 
 pub source-check-spec : {M : Type 1} → statement M
 source-check-spec =
@@ -111,6 +135,10 @@ source-check-spec =
     returns-3
     returns-4
     add-number32
+    add-number32-2
+    sub-number32
+    part-number32-start
+    part-number32-end
     number32-requires
     bad-requires-3
     returns-5

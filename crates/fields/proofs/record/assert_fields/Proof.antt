@@ -1,11 +1,15 @@
 -- `fields::record::assert_fields` meets its contract: each field by its own check, and the R word by its first octet.
 -- Assumes nothing.
+use Prim.Native.Nat.{ℕ, _+_, _-_}
+use mathlib.Core.Path.{_≡_, _∙_}
 use native.Mathlib.Omega.{arith}
+use lib.ListN.{take, drop}
 use mathlib.Core.Logic.{⊎-elim}
 use borrow.Author.Tests.{eq-eqb, ne-eqb, le-leb, lt-leb}
 use borrow.Author.Needs.{needs}
 use denote.Ref.{now}
-use Rattle.octets.specs.Octets.{Octets}
+use Rattle.octets.specs.Octets.{Octets, numberAt}
+use Rattle.octets.proofs.Laws.{number-cut}
 use Rattle.fields.proofs.Asserts.{assert-no-group, assert-no-source, assert-no-word, Head, head, head-room, assert-zero, assert-last}
 use Rattle.fields.proofs.record.assert_fields.Statement.{statement}
 use Rattle.fields.proofs.record.assert_fields.Tie as tie
@@ -92,6 +96,26 @@ shared-slice-read-if1 c = omega (arith, head-room (found (c .before)))
 add-number32 : tie.Need-add-number32
 add-number32 c = omega (arith, head-room (found (c .before .before)))
 
+add-number32-2 : tie.Need-add-number32-2
+add-number32-2 c = omega (arith, head-room (found (c .before .before)))
+
+sub-number32 : tie.Need-sub-number32
+sub-number32 c = search needs
+
+part-number32-start : tie.Need-part-number32-start
+part-number32-start c = search needs
+
+part-number32-end : tie.Need-part-number32-end
+part-number32-end c = omega (arith, head-room (found (c .before .before)))
+
+-- the source that code has read is the one that is tested
+address-is : (c : tie.After-known-told3) {r : ℕ}
+    → r ≡ numberAt 4 (take (grouped (sourced c) .before .g .given .0 .0 + 6 - (grouped (sourced c) .before .g .given .0 .0 + 2)) (drop (grouped (sourced c) .before .g .given .0 .0 + 2) (now (start (grouped (sourced c)) .args .m)))) 0
+    → r ≡ numberAt 4 (now (start (grouped (sourced c)) .args .m)) (grouped (sourced c) .before .g .given .0 .0 + 2)
+address-is c e =
+    let at = grouped (sourced c) .before .g .given .0 .0 in
+    e ∙ number-cut 4 (now (start (grouped (sourced c)) .args .m)) (at + 2) (at + 6) (omega arith) (omega (arith, head-room (found c)))
+
 number32-requires : tie.Need-number32-requires
 number32-requires c κs = search needs
 
@@ -100,9 +124,9 @@ bad-requires c κs = search needs
 
 returns-4 : tie.Need-returns-4
 returns-4 c =
-    let d = c .before .before .before .before .before in
+    let d = c .before .before .before .before .before .before in
     assert-zero (found d) (octet d)
-    (rw (lt-leb _ _ (c .before .before .before .if1 .taken), ← c .before .before .number32 .ensures, eq-eqb _ _ (c .before .if2 .taken)))
+    (rw (lt-leb _ _ (c .before .before .before .before .if1 .taken), ← address-is d (c .before .before .number32 .ensures), eq-eqb _ _ (c .before .if2 .taken)))
     (c .bad .ensures)
 
 octets-check-requires-2 : tie.Need-octets-check-requires-2
@@ -112,7 +136,7 @@ returns-5 : tie.Need-returns-5
 returns-5 c =
     let d = c .before .before .before in
     ⊎-elim
-    (λ w. assert-last (found d) (octet d) (rw (lt-leb _ _ (w .0 .taken), ← w .1 .ensures, ne-eqb _ _ (w .2 .left))) (c .octets-check2 .ensures))
+    (λ w. assert-last (found d) (octet d) (rw (lt-leb _ _ (w .0 .taken), ← address-is d (w .2 .ensures), ne-eqb _ _ (w .3 .left))) (c .octets-check2 .ensures))
     (λ w. assert-last (found d) (octet d) (rw (le-leb _ _ (w .left))) (c .octets-check2 .ensures))
     (c .before .if1 .came)
 
@@ -134,6 +158,10 @@ assert-fields-spec =
     returns-3
     shared-slice-read-if1
     add-number32
+    add-number32-2
+    sub-number32
+    part-number32-start
+    part-number32-end
     number32-requires
     bad-requires
     returns-4

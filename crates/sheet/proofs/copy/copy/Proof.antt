@@ -15,25 +15,28 @@ abbrev μ-loop : tie.MeasureT-loop
 μ-loop s from n d₀ at i₀ d i = n - i
 
 loop-holds : tie.Need-loop-holds Inv-loop μ-loop
-loop-holds c = let p = c .before .before .pre in copying-start (p .1) (p .2) (p .0)
+loop-holds c = let p = c .pre in copying-start (p .0) (p .1)
 
-add-copy8 : tie.Need-add-copy8 Inv-loop μ-loop
-add-copy8 c = let t = copying-there (c .before .loop .inv) (c .loop-test .taken) in search needs
+add-d : tie.Need-add-d Inv-loop μ-loop
+add-d c = let t = copying-there (c .before .loop .inv) (c .loop-test .taken) in search needs
 
-add-copy8-2 : tie.Need-add-copy8-2 Inv-loop μ-loop
-add-copy8-2 c = let t = copying-there (c .before .before .loop .inv) (c .before .loop-test .taken) in search needs
+shared-slice-read-d : tie.Need-shared-slice-read-d Inv-loop μ-loop
+shared-slice-read-d c = let t = copying-there (c .before .before .loop .inv) (c .before .loop-test .taken) in search needs
 
-copy8-requires : tie.Need-copy8-requires Inv-loop μ-loop
-copy8-requires c κs = copying-there (c .before .before .loop .inv) (c .before .loop-test .taken)
+add-d-2 : tie.Need-add-d-2 Inv-loop μ-loop
+add-d-2 c = let t = copying-there (c .before .before .loop .inv) (c .before .loop-test .taken) in search needs
+
+slice-write-d : tie.Need-slice-write-d Inv-loop μ-loop
+slice-write-d c = let t = copying-there (c .before .before .loop .inv) (c .before .loop-test .taken) in search needs
 
 add-i : tie.Need-add-i Inv-loop μ-loop
-add-i c = let t = copying-there (c .before .before .before .before .before .loop .inv) (c .before .before .before .before .loop-test .taken) in search needs
+add-i c = let t = copying-there (c .before .before .loop .inv) (c .before .loop-test .taken) in search needs
 
 loop-less : tie.Need-loop-less Inv-loop μ-loop
-loop-less c = omega (arith, c .before .before .before .before .loop-test .taken)
+loop-less c = omega (arith, c .before .loop-test .taken)
 
 loop-again : tie.Need-loop-again Inv-loop μ-loop
-loop-again c = copying-next (c .before .before .before .before .before .loop .inv) (c .before .before .before .before .loop-test .taken) (c .before .before .copy8 .ensures) refl
+loop-again c = copying-next (c .before .before .loop .inv) (c .before .loop-test .taken) refl refl
 
 same-length : tie.Need-same-length Inv-loop μ-loop
 same-length c = c .before .loop .inv .same
@@ -48,9 +51,10 @@ copy-spec =
     Inv-loop
     μ-loop
     loop-holds
-    add-copy8
-    add-copy8-2
-    copy8-requires
+    add-d
+    shared-slice-read-d
+    add-d-2
+    slice-write-d
     add-i
     loop-less
     loop-again
