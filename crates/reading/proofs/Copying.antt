@@ -1,4 +1,6 @@
 -- Entries written one after another into a lent buffer, from things that stand one after another in a message.
+--     copied                            the octets of a number stored as they stand
+--     count-part                        a count, read in a part of two octets
 --     put-number-next                   what is written past a number
 --     put-one                           one entry, as a list of entries
 --     Left                              what is still to be written gives the whole: left-room, left-step, left-end
@@ -11,16 +13,15 @@
 --     group-none, group-some, source-record-is, rp-record-is, size-least     a group record and an aggregated record, by what code tests
 --     ToEnd                             the loop over aggregated records: to-end-start, record-there, record-next, to-end-end
 -- Assumes nothing.
-use Prim.Native.Nat.{ℕ, zero, suc, _+_, _*_, _^_, _≤_, _<_}
+use Prim.Native.Nat.{ℕ, zero, suc, _+_, _-_, _*_, _≤_, _<_}
 use native.Mathlib.Nat.{mul-add, mul-suc, mul-zero}
 use native.Mathlib.Omega.{arith}
 use mathlib.Core.Path.{_≡_, refl, sym, ap, _∙_}
-use mathlib.Core.List.{List, [], _∷_, _++_, map, append-assoc, append-nil}
-use mathlib.Core.Bool.{true, false}
-use lib.ListN.{length, length-append, length-map}
+use mathlib.Core.List.{List, [], _∷_, _++_, map, append-nil}
+use lib.ListN.{length, getD, take, drop, length-append, length-map}
 use borrow.Author.Tests.{le-leb, lt-leb}
-use Rattle.octets.specs.Octets.{numberAt, put, be}
-use Rattle.octets.proofs.Laws.{put-nil, put-put, put-next, length-put, length-be}
+use Rattle.octets.specs.Octets.{Octets, value, numberAt, put, be}
+use Rattle.octets.proofs.Laws.{octetsFrom, stores, stores-put, be-value, octets-nil, octets-cons, number-is, number-part, put-nil, put-put, put-next, length-put, length-be}
 use Rattle.records.specs.Records.{AssertRecord, assert, PairRecord, ofGroup, AggregatedRecord, ofSource, ofRp, groupEntries, allGroupEntries, entries, allEntries}
 use Rattle.records.specs.Sizes.{groupRecordSize, groupRecordsSize, aggregatedSize, allSize}
 use Rattle.format.specs.Family.{ipv4}
@@ -28,10 +29,21 @@ use Rattle.format.specs.Entry.{assertEntryOctets, pairEntryOctets}
 use Rattle.format.specs.Record.{each}
 use Rattle.format.proofs.Lengths.{each-append, length-each}
 use Rattle.fields.specs.Answers.{plainAssert, plainPair}
-use Rattle.reading.specs.Copied.{likeButFor}
 use Rattle.reading.specs.Plain.{plainAsserts, plainPairs, plainAddresses, plainGroupRecord, plainGroupRecords, plainAggregated, plainRecords}
 
 -- ---- a number
+
+pub copied : (o d : List ℕ) (at out : ℕ) → Octets o → at + 4 ≤ length o → out + 4 ≤ length d
+    → stores d out 0 (octetsFrom o at 0 4) ≡ put d out (be 4 (numberAt 4 o at))
+copied o d at out octet there room =
+    let four : Octets (octetsFrom o at 0 4) =
+    octets-cons (getD o at 0) (octetsFrom o at 1 3) (octet at) (octets-cons (getD o (at + 1) 0) (octetsFrom o at 2 2) (octet (at + 1))
+    (octets-cons (getD o (at + 2) 0) (octetsFrom o at 3 1) (octet (at + 2)) (octets-cons (getD o (at + 3) 0) [] (octet (at + 3)) octets-nil))) in
+    stores-put d out (octetsFrom o at 0 4) room
+    ∙ ap (put d out) (sym (be-value (octetsFrom o at 0 4) four) ∙ ap (be 4) (sym (number-is 4 o at there)))
+
+pub count-part : (o : List ℕ) (from to : ℕ) → to ≡ from + 2 → to ≤ length o → numberAt 2 (take (to - from) (drop from o)) 0 ≡ numberAt 2 o from
+count-part o from to e h = number-part o from (to - from) (omega arith) 2 0 from (omega arith) (omega arith)
 
 -- what is written past a number
 pub put-number-next : (k : ℕ) (d : List ℕ) (at n : ℕ) (f : List ℕ) {d′ d″ : List ℕ} {at′ : ℕ} → d′ ≡ put d at (be k n) → d″ ≡ put d′ at′ f → at′ ≡ at + k
@@ -197,17 +209,17 @@ unfolding plainGroupRecords plainGroupRecord allGroupEntries groupRecordsSize
 groups-series o v m = record { none = λ at. refl; more = λ at n. refl; nothing = λ at. refl; further = λ at n. rw length-addresses }
 
 -- a group record with no source, and with some: p sources
-module _ (o : List ℕ) (at v m : ℕ) {g p : ℕ} (group : g ≡ numberAt 4 o (at + 4)) (sources : p ≡ numberAt 2 o (at + 8)) where
-  pub group-none : p ≡ 0 → groupEntries v m (plainGroupRecord o at) ≡ assert g 0 v m ∷ []
+module _ (o : List ℕ) (at v m : ℕ) {p : ℕ} (sources : p ≡ numberAt 2 o (at + 8)) where
+  pub group-none : p ≡ 0 → groupEntries v m (plainGroupRecord o at) ≡ assert (numberAt 4 o (at + 4)) 0 v m ∷ []
   unfolding plainGroupRecord plainAddresses groupEntries
-  group-none h = rw (group, ← sources, h)
+  group-none h = rw (← sources, h)
 
-  pub group-some : (p ≡ 0 → ⊥) → groupEntries v m (plainGroupRecord o at) ≡ map (likeButFor false (assert g 0 v m)) (plainAddresses 2 o (at + 12) p)
-  unfolding plainGroupRecord plainAddresses groupEntries likeButFor
-  group-some h = rw (← group, ← sources) (go p h)
+  pub group-some : (p ≡ 0 → ⊥) → groupEntries v m (plainGroupRecord o at) ≡ map (λ s. assert (numberAt 4 o (at + 4)) s v m) (plainAddresses 2 o (at + 12) p)
+  unfolding plainGroupRecord plainAddresses groupEntries
+  group-some h = rw (← sources) (go p h)
     where
       go : (n : ℕ) → (n ≡ 0 → ⊥)
-          → groupEntries v m (ofGroup g (plainAddresses 2 o (at + 12) n)) ≡ map (likeButFor false (assert g 0 v m)) (plainAddresses 2 o (at + 12) n)
+          → groupEntries v m (ofGroup (numberAt 4 o (at + 4)) (plainAddresses 2 o (at + 12) n)) ≡ map (λ s. assert (numberAt 4 o (at + 4)) s v m) (plainAddresses 2 o (at + 12) n)
       go zero h = absurd (h refl)
       go (suc n) h = refl
 
@@ -215,18 +227,27 @@ module _ (o : List ℕ) (at v m : ℕ) {g p : ℕ} (group : g ≡ numberAt 4 o (
 pub length-like : (skip : ℕ) (o : List ℕ) (f : ℕ → AssertRecord) (at n : ℕ) → length (map f (plainAddresses skip o at n)) ≡ n
 length-like skip o f at n = rw (length-map, length-addresses)
 
--- an aggregated record, by its R bit: its octets, and its entries
-module _ (o : List ℕ) (at : ℕ) {v m : ℕ} (word : v ≡ numberAt 4 o at) (metric : m ≡ numberAt 4 o (at + 4)) where
-  pub source-record-is : {s n : ℕ} → v < 2147483648 → s ≡ numberAt 4 o (at + 10) → n ≡ numberAt 2 o (at + 14)
-      → (aggregatedSize 4 (plainAggregated o at) ≡ 18 + 8 * n) × (entries (plainAggregated o at) ≡ map (likeButFor true (assert 0 s v m)) (plainAddresses 4 o (at + 18) n))
-  unfolding plainAggregated aggregatedSize entries likeButFor
-  source-record-is h source groups = rw (← word, ← metric, ← source, ← groups, lt-leb 2147483648 v h, length-addresses) (refl, refl)
+-- an aggregated record, by the first octet of its word: its octets, and its entries
+module _ (o : List ℕ) (at : ℕ) (there : at + 4 ≤ length o) where
+  word-is : numberAt 4 o at ≡ getD o at 0 * 16777216 + getD o (at + 1) 0 * 65536 + getD o (at + 2) 0 * 256 + getD o (at + 3) 0
+  unfolding value
+  word-is = number-is 4 o at there ∙ omega arith
 
-  pub rp-record-is : {n : ℕ} → 2147483648 ≤ v → n ≡ numberAt 2 o (at + 8)
-      → (aggregatedSize 4 (plainAggregated o at) ≡ 12 + groupRecordsSize 4 (plainGroupRecords o (at + 12) n))
-      × (entries (plainAggregated o at) ≡ allGroupEntries v m (plainGroupRecords o (at + 12) n))
+  pub source-record-is : Octets o → getD o at 0 < 128 → {n : ℕ} → n ≡ numberAt 2 o (at + 14)
+      → (aggregatedSize 4 (plainAggregated o at) ≡ 18 + 8 * n)
+      × (entries (plainAggregated o at) ≡ map (λ g. assert g (numberAt 4 o (at + 10)) (numberAt 4 o at) (numberAt 4 o (at + 4))) (plainAddresses 4 o (at + 18) n))
   unfolding plainAggregated aggregatedSize entries
-  rp-record-is h records = rw (← word, ← metric, ← records, le-leb 2147483648 v h) (refl, refl)
+  source-record-is octet h groups =
+      let r : numberAt 4 o at < 2147483648 = omega (arith, word-is, octet (at + 1), octet (at + 2), octet (at + 3)) in
+      rw (← groups, lt-leb 2147483648 (numberAt 4 o at) r, length-addresses) (refl, refl)
+
+  pub rp-record-is : 128 ≤ getD o at 0 → {n : ℕ} → n ≡ numberAt 2 o (at + 8)
+      → (aggregatedSize 4 (plainAggregated o at) ≡ 12 + groupRecordsSize 4 (plainGroupRecords o (at + 12) n))
+      × (entries (plainAggregated o at) ≡ allGroupEntries (numberAt 4 o at) (numberAt 4 o (at + 4)) (plainGroupRecords o (at + 12) n))
+  unfolding plainAggregated aggregatedSize entries
+  rp-record-is h records =
+      let r : 2147483648 ≤ numberAt 4 o at = omega (arith, word-is) in
+      rw (← records, le-leb 2147483648 (numberAt 4 o at) r) (refl, refl)
 
 pub size-least : (r : AggregatedRecord) → 12 ≤ aggregatedSize 4 r
 unfolding aggregatedSize

@@ -1,24 +1,18 @@
 -- What a function asks and promises that copies the entries of one thing or of several: the thing is so many octets of a message from a place
 -- on, and its entries go to a place of the lent buffer.
---     likeButFor     an entry like another but for its group, or its source
 --     Fit            the octets are there, and there is room for the entries
 --     Copied         the places past both, and the buffer with the entries written
 -- Assumes nothing: these are definitions.
 use Prim.Native.Nat.{ℕ, _+_, _*_, _≤_}
-use mathlib.Core.Bool.{Bool, cond}
 use mathlib.Core.List.{List}
 use mathlib.Core.Path.{_≡_}
 use lib.ListN.{length}
 use Rattle.octets.specs.Octets.{put}
-use Rattle.records.specs.Records.{AssertRecord, assert}
+use Rattle.records.specs.Records.{AssertRecord}
 use Rattle.format.specs.Family.{ipv4}
 use Rattle.format.specs.Record.{each}
 use Rattle.format.specs.Entry.{assertEntryOctets}
 use Rattle.reading.specs.declared.copy.Places.{Places}
-
-unfoldable pub likeButFor : Bool → AssertRecord → ℕ → AssertRecord
-likeButFor isGroup e a =
-    cond isGroup (assert a (e .source) (e .rPreference) (e .metric)) (assert (e .group) a (e .rPreference) (e .metric))
 
 pub record Fit (o : List ℕ) (at size : ℕ) (d : List ℕ) (out : ℕ) (es : List AssertRecord) : Type 0 where
   pub there : at + size ≤ length o

@@ -1,74 +1,68 @@
 // The second pass of a reading call: the entries of octets that were checked, written one after another.
+// Octets are copied as they stand; no number is read but the counts.
 // Nothing is refused here: each function knows that its octets are there and that the entries fit.
-use fields::assert_at;
-use fields::pair_at;
-use format::AssertFields;
-use format::PairFields;
 use octets::number16;
-use octets::number32;
 ghost use mathlib.Core.Path.{_≡_};
 ghost use mathlib.Core.List.{map};
 ghost use Prim.Native.Nat.{_+_, _≤_, _*_};
 ghost use lib.ListN.{length};
 ghost use Rattle.octets.specs.Octets.{numberAt, put, be};
 ghost use Rattle.records.specs.Sizes.{groupRecordSize, groupRecordsSize, aggregatedSize, allSize};
-ghost use Rattle.records.specs.Records.{groupEntries, allGroupEntries, entries, allEntries};
+ghost use Rattle.records.specs.Records.{assert, groupEntries, allGroupEntries, entries, allEntries};
 ghost use Rattle.format.specs.Family.{ipv4};
 ghost use Rattle.format.specs.Record.{each};
 ghost use Rattle.format.specs.Entry.{assertEntryOctets, pairEntryOctets};
-ghost use Rattle.format.specs.Values.{assertOf, pairOf};
 ghost use Rattle.reading.specs.Plain.{plainAsserts, plainPairs, plainAddresses, plainGroupRecord, plainGroupRecords, plainAggregated, plainRecords};
-ghost use Rattle.reading.specs.Copied.{likeButFor, Fit, Copied};
+ghost use Rattle.reading.specs.Copied.{Fit, Copied};
 
-// Four octets of a number.
-fn put32(d: &mut [u8], at: usize, n: u32)
-    requires { ⌜ at + 4 ≤ length (now d) ⌝ }
-    ensures { λ r. ⌜ now (d .exit) ≡ put (now (d .entry)) at (be 4 n) ⌝ }
+// Four octets, as they stand. They are read before the first is stored: the compiler does not know that the two
+// slices are apart.
+fn copy4(m: &[u8], at: usize, d: &mut [u8], out: usize)
+    requires { ⌜ (at + 4 ≤ length (now m)) × (out + 4 ≤ length (now d)) ⌝ }
+    ensures { λ r. ⌜ now (d .exit) ≡ put (now (d .entry)) out (be 4 (numberAt 4 (now (m .entry)) at)) ⌝ }
 {
-    d[at] = (n / 16777216) as u8;
-    d[at + 1] = (n / 65536 % 256) as u8;
-    d[at + 2] = (n / 256 % 256) as u8;
-    d[at + 3] = (n % 256) as u8;
+    let a = m[at];
+    let b = m[at + 1];
+    let c = m[at + 2];
+    let e = m[at + 3];
+    d[out] = a;
+    d[out + 1] = b;
+    d[out + 2] = c;
+    d[out + 3] = e;
 }
 
-// The 16 octets of an assert entry.
-fn put_assert(d: &mut [u8], at: usize, e: AssertFields)
-    requires { ⌜ at + 16 ≤ length (now d) ⌝ }
-    ensures { λ r. ⌜ now (d .exit) ≡ put (now (d .entry)) at (assertEntryOctets ipv4 (assertOf e)) ⌝ }
+// Four octets 0.
+fn zero4(d: &mut [u8], out: usize)
+    requires { ⌜ out + 4 ≤ length (now d) ⌝ }
+    ensures { λ r. ⌜ now (d .exit) ≡ put (now (d .entry)) out (be 4 0) ⌝ }
 {
-    put32(d, at, e.group);
-    put32(d, at + 4, e.source);
-    put32(d, at + 8, e.r_preference);
-    put32(d, at + 12, e.metric);
+    d[out] = 0;
+    d[out + 1] = 0;
+    d[out + 2] = 0;
+    d[out + 3] = 0;
 }
 
-// The 8 octets of a pair entry.
-fn put_pair(d: &mut [u8], at: usize, e: PairFields)
-    requires { ⌜ at + 8 ≤ length (now d) ⌝ }
-    ensures { λ r. ⌜ now (d .exit) ≡ put (now (d .entry)) at (pairEntryOctets ipv4 (pairOf e)) ⌝ }
+// An assert entry, from the places of its group, its source and its word R with preference; the metric stands after
+// the word.
+fn copy_entry(m: &[u8], group: usize, source: usize, word: usize, d: &mut [u8], out: usize)
+    requires { ⌜ (group + 4 ≤ length (now m)) × (source + 4 ≤ length (now m)) × (word + 8 ≤ length (now m)) × (out + 16 ≤ length (now d)) ⌝ }
+    ensures { λ r. ⌜ now (d .exit) ≡ put (now (d .entry)) out (assertEntryOctets ipv4 (assert (numberAt 4 (now (m .entry)) group) (numberAt 4 (now (m .entry)) source) (numberAt 4 (now (m .entry)) word) (numberAt 4 (now (m .entry)) (word + 4)))) ⌝ }
 {
-    put32(d, at, e.group);
-    put32(d, at + 4, e.source);
+    copy4(m, group, d, out);
+    copy4(m, source, d, out + 4);
+    copy4(m, word, d, out + 8);
+    copy4(m, word + 4, d, out + 12);
 }
 
-// An entry like another but for its group, or its source.
-fn like_but_for(is_group: bool, e: AssertFields, a: u32) -> AssertFields
-    ensures { λ r. ⌜ assertOf r ≡ likeButFor «is_group» (assertOf e) a ⌝ }
+// The same with source 0.
+fn copy_entry_no_source(m: &[u8], group: usize, word: usize, d: &mut [u8], out: usize)
+    requires { ⌜ (group + 4 ≤ length (now m)) × (word + 8 ≤ length (now m)) × (out + 16 ≤ length (now d)) ⌝ }
+    ensures { λ r. ⌜ now (d .exit) ≡ put (now (d .entry)) out (assertEntryOctets ipv4 (assert (numberAt 4 (now (m .entry)) group) 0 (numberAt 4 (now (m .entry)) word) (numberAt 4 (now (m .entry)) (word + 4)))) ⌝ }
 {
-    if is_group {
-        return AssertFields {
-            group: a,
-            source: e.source,
-            r_preference: e.r_preference,
-            metric: e.metric,
-        };
-    }
-    AssertFields {
-        group: e.group,
-        source: a,
-        r_preference: e.r_preference,
-        metric: e.metric,
-    }
+    copy4(m, group, d, out);
+    zero4(d, out + 4);
+    copy4(m, word, d, out + 8);
+    copy4(m, word + 4, d, out + 12);
 }
 
 // n assert records, one after another.
@@ -80,7 +74,7 @@ pub(crate) fn copy_asserts(m: &[u8], from: usize, n: usize, d: &mut [u8])
     let mut at = from;
     let mut out = 0;
     while i < n {
-        put_assert(d, out, assert_at(m, at));
+        copy_entry(m, at + 4, at + 10, at + 14, d, out);
         at += 22;
         out += 16;
         i += 1;
@@ -96,33 +90,57 @@ pub(crate) fn copy_pairs(m: &[u8], from: usize, n: usize, d: &mut [u8])
     let mut at = from;
     let mut out = 0;
     while i < n {
-        put_pair(d, out, pair_at(m, at));
+        copy4(m, at + 4, d, out);
+        copy4(m, at + 10, d, out + 4);
         at += 14;
         out += 8;
         i += 1;
     }
 }
 
-// One entry for each of n addresses, each after `skip` octets of its own: like `e` but for the group, or the source.
-fn copy_addresses(
+// One entry for each of n groups, all with one source and one word.
+fn copy_groups(
     m: &[u8],
     from: usize,
-    skip: usize,
     n: usize,
-    is_group: bool,
+    source: usize,
+    word: usize,
     d: &mut [u8],
     start: usize,
-    e: AssertFields,
 )
-    requires { ⌜ (skip ≤ 4) × (from + (skip + 4) * n ≤ length (now m)) × (start + 16 * n ≤ length (now d)) ⌝ }
-    ensures { λ r. ⌜ now (d .exit) ≡ put (now (d .entry)) start (each (assertEntryOctets ipv4) (map (likeButFor «is_group» (assertOf e)) (plainAddresses skip (now (m .entry)) from n))) ⌝ }
+    requires { ⌜ (from + 8 * n ≤ length (now m)) × (source + 4 ≤ length (now m)) × (word + 8 ≤ length (now m)) × (start + 16 * n ≤ length (now d)) ⌝ }
+    ensures { λ r. ⌜ now (d .exit) ≡ put (now (d .entry)) start (each (assertEntryOctets ipv4) (map (λ g. assert g (numberAt 4 (now (m .entry)) source) (numberAt 4 (now (m .entry)) word) (numberAt 4 (now (m .entry)) (word + 4))) (plainAddresses 4 (now (m .entry)) from n))) ⌝ }
 {
     let mut i = 0;
     let mut at = from;
     let mut out = start;
     while i < n {
-        put_assert(d, out, like_but_for(is_group, e, number32(m, at + skip)));
-        at += skip + 4;
+        copy_entry(m, at + 4, source, word, d, out);
+        at += 8;
+        out += 16;
+        i += 1;
+    }
+}
+
+// One entry for each of n sources, all with one group and one word.
+fn copy_sources(
+    m: &[u8],
+    from: usize,
+    n: usize,
+    group: usize,
+    word: usize,
+    d: &mut [u8],
+    start: usize,
+)
+    requires { ⌜ (from + 6 * n ≤ length (now m)) × (group + 4 ≤ length (now m)) × (word + 8 ≤ length (now m)) × (start + 16 * n ≤ length (now d)) ⌝ }
+    ensures { λ r. ⌜ now (d .exit) ≡ put (now (d .entry)) start (each (assertEntryOctets ipv4) (map (λ s. assert (numberAt 4 (now (m .entry)) group) s (numberAt 4 (now (m .entry)) word) (numberAt 4 (now (m .entry)) (word + 4))) (plainAddresses 2 (now (m .entry)) from n))) ⌝ }
+{
+    let mut i = 0;
+    let mut at = from;
+    let mut out = start;
+    while i < n {
+        copy_entry(m, group, at + 2, word, d, out);
+        at += 6;
         out += 16;
         i += 1;
     }
@@ -135,32 +153,19 @@ struct Places {
 }
 
 // The entries of a group record; with no source one entry with source 0.
-fn copy_group_record(
-    m: &[u8],
-    at: usize,
-    d: &mut [u8],
-    out: usize,
-    word: u32,
-    metric: u32,
-) -> Places
-    requires { ⌜ Fit (now m) at (groupRecordSize 4 (numberAt 2 (now m) (at + 8))) (now d) out (groupEntries word metric (plainGroupRecord (now m) at)) ⌝ }
-    ensures { λ r. ⌜ Copied at (groupRecordSize 4 (numberAt 2 (now (m .entry)) (at + 8))) (now (d .entry)) out (groupEntries word metric (plainGroupRecord (now (m .entry)) at)) (now (d .exit)) r ⌝ }
+fn copy_group_record(m: &[u8], at: usize, d: &mut [u8], out: usize, word: usize) -> Places
+    requires { ⌜ (word + 8 ≤ length (now m)) × Fit (now m) at (groupRecordSize 4 (numberAt 2 (now m) (at + 8))) (now d) out (groupEntries (numberAt 4 (now m) word) (numberAt 4 (now m) (word + 4)) (plainGroupRecord (now m) at)) ⌝ }
+    ensures { λ r. ⌜ Copied at (groupRecordSize 4 (numberAt 2 (now (m .entry)) (at + 8))) (now (d .entry)) out (groupEntries (numberAt 4 (now (m .entry)) word) (numberAt 4 (now (m .entry)) (word + 4)) (plainGroupRecord (now (m .entry)) at)) (now (d .exit)) r ⌝ }
 {
-    let e = AssertFields {
-        group: number32(m, at + 4),
-        source: 0,
-        r_preference: word,
-        metric,
-    };
-    let p = number16(m, at + 8);
+    let p = number16(&m[at + 8..at + 10], 0);
     if p == 0 {
-        put_assert(d, out, e);
+        copy_entry_no_source(m, at + 4, word, d, out);
         return Places {
             at: at + 12,
             out: out + 16,
         };
     }
-    copy_addresses(m, at + 12, 2, p, false, d, out, e);
+    copy_sources(m, at + 12, p, at + 4, word, d, out);
     Places {
         at: at + 12 + 6 * p,
         out: out + 16 * p,
@@ -174,17 +179,16 @@ fn copy_group_records(
     n: usize,
     d: &mut [u8],
     start: usize,
-    word: u32,
-    metric: u32,
+    word: usize,
 ) -> Places
-    requires { ⌜ Fit (now m) from (groupRecordsSize 4 (plainGroupRecords (now m) from n)) (now d) start (allGroupEntries word metric (plainGroupRecords (now m) from n)) ⌝ }
-    ensures { λ r. ⌜ Copied from (groupRecordsSize 4 (plainGroupRecords (now (m .entry)) from n)) (now (d .entry)) start (allGroupEntries word metric (plainGroupRecords (now (m .entry)) from n)) (now (d .exit)) r ⌝ }
+    requires { ⌜ (word + 8 ≤ length (now m)) × Fit (now m) from (groupRecordsSize 4 (plainGroupRecords (now m) from n)) (now d) start (allGroupEntries (numberAt 4 (now m) word) (numberAt 4 (now m) (word + 4)) (plainGroupRecords (now m) from n)) ⌝ }
+    ensures { λ r. ⌜ Copied from (groupRecordsSize 4 (plainGroupRecords (now (m .entry)) from n)) (now (d .entry)) start (allGroupEntries (numberAt 4 (now (m .entry)) word) (numberAt 4 (now (m .entry)) (word + 4)) (plainGroupRecords (now (m .entry)) from n)) (now (d .exit)) r ⌝ }
 {
     let mut i = 0;
     let mut at = from;
     let mut out = start;
     while i < n {
-        let p = copy_group_record(m, at, d, out, word, metric);
+        let p = copy_group_record(m, at, d, out, word);
         at = p.at;
         out = p.out;
         i += 1;
@@ -192,28 +196,21 @@ fn copy_group_records(
     Places { at, out }
 }
 
-// The entries of an aggregated record.
+// The entries of an aggregated record. R, the top bit of its first octet, tells the two forms apart.
 fn copy_record(m: &[u8], at: usize, d: &mut [u8], out: usize) -> Places
     requires { ⌜ Fit (now m) at (aggregatedSize 4 (plainAggregated (now m) at)) (now d) out (entries (plainAggregated (now m) at)) ⌝ }
     ensures { λ r. ⌜ Copied at (aggregatedSize 4 (plainAggregated (now (m .entry)) at)) (now (d .entry)) out (entries (plainAggregated (now (m .entry)) at)) (now (d .exit)) r ⌝ }
 {
-    let word = number32(m, at);
-    let metric = number32(m, at + 4);
-    if word < 2147483648 {
-        let n = number16(m, at + 14);
-        let e = AssertFields {
-            group: 0,
-            source: number32(m, at + 10),
-            r_preference: word,
-            metric,
-        };
-        copy_addresses(m, at + 18, 4, n, true, d, out, e);
+    if m[at] < 128 {
+        let n = number16(&m[at + 14..at + 16], 0);
+        copy_groups(m, at + 18, n, at + 10, at, d, out);
         return Places {
             at: at + 18 + 8 * n,
             out: out + 16 * n,
         };
     }
-    copy_group_records(m, at + 12, number16(m, at + 8), d, out, word, metric)
+    let n = number16(&m[at + 8..at + 10], 0);
+    copy_group_records(m, at + 12, n, d, out, at)
 }
 
 // The entries of the aggregated records up to the end of a message.

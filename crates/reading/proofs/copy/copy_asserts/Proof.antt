@@ -3,11 +3,12 @@
 -- Assumes nothing.
 use Prim.Native.Nat.{_+_, _*_, _-_, _≤_}
 use native.Mathlib.Omega.{arith}
-use mathlib.Core.Path.{refl}
+use mathlib.Core.Path.{_≡_, refl}
 use lib.ListN.{length}
 use denote.Ref.{now}
 use Rattle.format.specs.Entry.{assertEntryOctets}
 use Rattle.format.specs.Family.{ipv4}
+use Rattle.fields.specs.Answers.{plainAssert}
 use Rattle.reading.specs.Plain.{plainAsserts}
 use Rattle.reading.proofs.Copying.{Turns, series-length, turns-start, turn-there, turn-next, turns-end, put-one, asserts-series, length-assert-entry}
 use Rattle.reading.proofs.copy.copy_asserts.Statement.{statement}
@@ -32,17 +33,23 @@ there : (c : tie.In-loop Inv-loop μ-loop)
     → (c .before .loop .at + 22 ≤ length (now (c .before .before .before .before .args .m))) × (c .before .loop .out + 16 ≤ length (c .before .loop .d))
 there c = turn-there (asserts-series (now (c .before .before .before .before .args .m))) (c .before .loop .inv) (c .loop-test .taken)
 
-assert-at-requires : tie.Need-assert-at-requires Inv-loop μ-loop
-assert-at-requires c κs = tt
+add-copy-entry : tie.Need-add-copy-entry Inv-loop μ-loop
+add-copy-entry c = let t = there c in omega arith
 
-put-assert-requires : tie.Need-put-assert-requires Inv-loop μ-loop
-put-assert-requires c κs = there (c .before .before) .1
+add-copy-entry-2 : tie.Need-add-copy-entry-2 Inv-loop μ-loop
+add-copy-entry-2 c = let t = there c in omega arith
+
+add-copy-entry-3 : tie.Need-add-copy-entry-3 Inv-loop μ-loop
+add-copy-entry-3 c = let t = there c in omega arith
+
+copy-entry-requires : tie.Need-copy-entry-requires Inv-loop μ-loop
+copy-entry-requires c κs = let t = there (c .before) in (omega arith, omega arith, omega arith, t .1)
 
 add-at : tie.Need-add-at Inv-loop μ-loop
-add-at c = let t = there (c .before .before .before .before .before) in omega arith
+add-at c = let t = there (c .before .before .before .before) in omega arith
 
 add-out : tie.Need-add-out Inv-loop μ-loop
-add-out c = let t = there (c .before .before .before .before .before) in omega arith
+add-out c = let t = there (c .before .before .before .before) in omega arith
 
 add-i : tie.Need-add-i Inv-loop μ-loop
 add-i c = omega arith
@@ -51,11 +58,14 @@ loop-less : tie.Need-loop-less Inv-loop μ-loop
 loop-less c = omega arith
 
 loop-again : tie.Need-loop-again Inv-loop μ-loop
+unfolding plainAssert
 loop-again c =
     let b = c .before .before in
-    let l = b .before .before .before .before in
-    turn-next (asserts-series (now (l .before .before .before .args .m))) (l .loop .inv) (b .before .before .before .loop-test .taken)
-    (put-one (assertEntryOctets ipv4) (l .loop .d) (l .loop .out) (b .put-assert .ensures) (b .before .assert-at .ensures)) (omega arith) (omega arith) (omega arith)
+    let l = b .before .before .before in
+    let m = now (l .before .before .before .args .m) in
+    let metric : l .loop .at + 14 + 4 ≡ l .loop .at + 18 = omega arith in
+    turn-next (asserts-series m) (l .loop .inv) (b .before .before .loop-test .taken)
+    (put-one (assertEntryOctets ipv4) (l .loop .d) (l .loop .out) (b .copy-entry .ensures) (rw metric)) (omega arith) (omega arith) (omega arith)
 
 same-length : tie.Need-same-length Inv-loop μ-loop
 same-length c = c .before .loop .inv .walk .written .same
@@ -70,8 +80,10 @@ copy-asserts-spec =
     Inv-loop
     μ-loop
     loop-holds
-    assert-at-requires
-    put-assert-requires
+    add-copy-entry
+    add-copy-entry-2
+    add-copy-entry-3
+    copy-entry-requires
     add-at
     add-out
     add-i

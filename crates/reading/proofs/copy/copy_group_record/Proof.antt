@@ -1,97 +1,128 @@
 -- `reading::copy::copy_group_record` meets its contract: the entries of its record are `group-none` where there is no source,
 -- and `group-some` otherwise.
 -- Assumes nothing.
-use Prim.Native.Nat.{_+_, _*_, _≤_}
+use Prim.Native.Nat.{ℕ, _+_, _*_, _≤_}
 use native.Mathlib.Omega.{arith}
-use mathlib.Core.Bool.{false}
 use mathlib.Core.List.{List, [], _∷_, map}
-use mathlib.Core.Path.{_≡_, refl}
+use mathlib.Core.Path.{_≡_, refl, _∙_}
 use lib.ListN.{length}
 use denote.Ref.{now}
-use borrow.Author.Needs.{needs}
+use Rattle.octets.specs.Octets.{numberAt}
 use Rattle.records.specs.Records.{AssertRecord, assert, groupEntries}
 use Rattle.format.specs.Entry.{assertEntryOctets}
 use Rattle.format.specs.Family.{ipv4}
-use Rattle.format.specs.Values.{assertOf}
-use Rattle.reading.specs.Copied.{likeButFor}
 use Rattle.reading.specs.Plain.{plainGroupRecord, plainAddresses}
-use Rattle.reading.proofs.Copying.{put-one, group-none, group-some, length-like}
+use Rattle.reading.proofs.Copying.{count-part, put-one, group-none, group-some, length-like}
+use borrow.Author.Needs.{needs}
 use Rattle.reading.proofs.copy.copy_group_record.Statement.{statement}
 use Rattle.reading.proofs.copy.copy_group_record.Tie as tie
 
+abbrev start : tie.After-number16 → tie.Start
+start c = c .before .before .before .before
+
+abbrev message : tie.Start → List ℕ
+message s = now (s .args .m)
+
+-- R with preference, and metric
+abbrev word : tie.Start → ℕ
+word s = numberAt 4 (message s) (s .args .word)
+
+abbrev metric : tie.Start → ℕ
+metric s = numberAt 4 (message s) (s .args .word + 4)
+
+abbrev group : tie.Start → ℕ
+group s = numberAt 4 (message s) (s .args .at + 4)
+
 -- what is to be written
 abbrev es : tie.Start → List AssertRecord
-es s = let a = s .args in groupEntries (a .word) (a .metric) (plainGroupRecord (now (a .m)) (a .at))
+es s = groupEntries (word s) (metric s) (plainGroupRecord (message s) (s .args .at))
+
+count : (c : tie.After-number16) → c .number16 .result ≡ numberAt 2 (message (start c)) (start c .args .at + 8)
+count c =
+    let at = start c .args .at in
+    c .number16 .ensures ∙ count-part (message (start c)) (at + 8) (at + 10) (omega arith) (omega arith)
 
 -- no source: one entry
-none : (c : tie.Then1) → let s = c .before .before .before .before .before in es s ≡ assert (c .before .before .number32 .result) 0 (s .args .word) (s .args .metric) ∷ []
+none : (c : tie.Then1) → let s = start (c .before) in es s ≡ assert (group s) 0 (word s) (metric s) ∷ []
 none c =
-    let a = c .before .before .before .before .before .args in
-    group-none (now (a .m)) (a .at) (a .word) (a .metric) (c .before .before .number32 .ensures) (c .before .number16 .ensures) (c .if1 .taken)
+    let s = start (c .before) in
+    group-none (message s) (s .args .at) (word s) (metric s) (count (c .before)) (c .if1 .taken)
 
 -- one entry for each source
 some : (c : tie.Else1)
-    → let a = c .before .before .before .before .before .args in
-    es (c .before .before .before .before .before)
-    ≡ map (likeButFor false (assert (c .before .before .number32 .result) 0 (a .word) (a .metric))) (plainAddresses 2 (now (a .m)) (a .at + 12) (c .before .number16 .result))
+    → let s = start (c .before) in
+    es s ≡ map (λ x. assert (group s) x (word s) (metric s)) (plainAddresses 2 (message s) (s .args .at + 12) (c .before .number16 .result))
 some c =
-    let a = c .before .before .before .before .before .args in
-    group-some (now (a .m)) (a .at) (a .word) (a .metric) (c .before .before .number32 .ensures) (c .before .number16 .ensures) (c .if1 .left)
+    let s = start (c .before) in
+    group-some (message s) (s .args .at) (word s) (metric s) (count (c .before)) (c .if1 .left)
 
-room : (c : tie.Else1) → c .before .before .before .before .before .args .out + 16 * c .before .number16 .result ≤ length (now (c .before .before .before .before .before .args .d))
-room c = let e = some c in rw (e, length-like) at (c .before .before .before .before .before .pre .room)
-
-add-number32 : tie.Need-add-number32
-add-number32 c = search needs
-
-number32-requires : tie.Need-number32-requires
-number32-requires c κs = search needs
+room : (c : tie.Else1) → start (c .before) .args .out + 16 * c .before .number16 .result ≤ length (now (start (c .before) .args .d))
+room c = let e = some c in rw (e, length-like) at (start (c .before) .pre .1 .room)
 
 add-number16 : tie.Need-add-number16
 add-number16 c = search needs
 
+add-number16-2 : tie.Need-add-number16-2
+add-number16-2 c = search needs
+
+sub-number16 : tie.Need-sub-number16
+sub-number16 c = search needs
+
+part-number16-start : tie.Need-part-number16-start
+part-number16-start c = search needs
+
+part-number16-end : tie.Need-part-number16-end
+part-number16-end c = search needs
+
 number16-requires : tie.Need-number16-requires
 number16-requires c κs = search needs
 
-put-assert-requires : tie.Need-put-assert-requires
-put-assert-requires c κs = let e = none (c .before) in omega (arith, rw e at (c .before .before .before .before .before .before .pre .room))
+add-copy-entry-no-source : tie.Need-add-copy-entry-no-source
+add-copy-entry-no-source c = search needs
+
+copy-entry-no-source-requires : tie.Need-copy-entry-no-source-requires
+copy-entry-no-source-requires c κs = let e = none (c .before) in (omega arith, omega arith, omega (arith, rw e at (start (c .before .before) .pre .1 .room)))
 
 add-t15 : tie.Need-add-t15
 add-t15 c = search needs
 
-add-t16 : tie.Need-add-t16
-add-t16 c = search needs
+add-t18 : tie.Need-add-t18
+add-t18 c = search needs
 
 same-length : tie.Need-same-length
 same-length c = search needs
 
 returns : tie.Need-returns
-unfolding assertOf
 returns c =
     let b = c .before .before in
-    let a = b .before .before .before .before .before .before .before .args in
-    let e = none (b .before .before) in
+    let t = b .before .before in
+    let s = start (t .before) in
+    let n = count (t .before) in
+    let e = none t in
     rw e
     (record {
       read = omega arith;
       written = omega arith;
-      buffer = put-one (assertEntryOctets ipv4) (now (a .d)) (a .out) (b .put-assert .ensures) refl;
+      buffer = put-one (assertEntryOctets ipv4) (now (s .args .d)) (s .args .out) (b .copy-entry-no-source .ensures) refl;
     })
 
-add-copy-addresses : tie.Need-add-copy-addresses
-add-copy-addresses c = search needs
+add-copy-sources : tie.Need-add-copy-sources
+add-copy-sources c = search needs
 
-copy-addresses-requires : tie.Need-copy-addresses-requires
-copy-addresses-requires c κs = (omega arith, omega arith, room (c .before))
+add-copy-sources-2 : tie.Need-add-copy-sources-2
+add-copy-sources-2 c = search needs
+
+copy-sources-requires : tie.Need-copy-sources-requires
+copy-sources-requires c κs = let n = count (c .before .before) in (omega arith, omega arith, omega arith, room (c .before))
 
 add-t10 : tie.Need-add-t10
 add-t10 c = search needs
 
-mul-t20 : tie.Need-mul-t20
-mul-t20 c = search needs
+mul-t8 : tie.Need-mul-t8
+mul-t8 c = let n = count (c .before .before .before .before .before) in omega arith
 
-add-t21 : tie.Need-add-t21
-add-t21 c = search needs
+add-t7 : tie.Need-add-t7
+add-t7 c = let n = count (c .before .before .before .before .before) in omega arith
 
 mul-t22 : tie.Need-mul-t22
 mul-t22 c = let h = room (c .before .before .before .before) in omega arith
@@ -103,34 +134,38 @@ same-length-2 : tie.Need-same-length-2
 same-length-2 c = search needs
 
 returns-2 : tie.Need-returns-2
-unfolding assertOf
 returns-2 c =
     let b = c .before .before in
+    let n = count (b .before .before .before) in
     let e = some (b .before .before) in
     record {
       read = omega arith;
       written = rw (e, length-like);
-      buffer = rw e (b .copy-addresses .ensures);
+      buffer = rw e (b .copy-sources .ensures);
     }
 
 pub copy-group-record-spec : {M : Type 1} → statement M
 copy-group-record-spec =
     tie.close
     (tie.spec
-    add-number32
-    number32-requires
     add-number16
+    add-number16-2
+    sub-number16
+    part-number16-start
+    part-number16-end
     number16-requires
-    put-assert-requires
+    add-copy-entry-no-source
+    copy-entry-no-source-requires
     add-t15
-    add-t16
+    add-t18
     same-length
     returns
-    add-copy-addresses
-    copy-addresses-requires
+    add-copy-sources
+    add-copy-sources-2
+    copy-sources-requires
     add-t10
-    mul-t20
-    add-t21
+    mul-t8
+    add-t7
     mul-t22
     add-t23
     same-length-2

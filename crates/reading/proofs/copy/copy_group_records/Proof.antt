@@ -1,10 +1,11 @@
 -- `reading::copy::copy_group_records` meets its contract: the loop's invariant is `Turns` over `groups-series`.
 -- The measure is the group records left.
 -- Assumes nothing.
-use Prim.Native.Nat.{_-_}
+use Prim.Native.Nat.{_+_, _-_}
 use native.Mathlib.Omega.{arith}
 use lib.ListN.{length}
 use denote.Ref.{now}
+use Rattle.octets.specs.Octets.{numberAt}
 use Rattle.records.specs.Records.{allGroupEntries}
 use Rattle.records.specs.Sizes.{groupRecordsSize}
 use Rattle.format.specs.Entry.{assertEntryOctets}
@@ -15,21 +16,21 @@ use Rattle.reading.proofs.copy.copy_group_records.Statement.{statement}
 use Rattle.reading.proofs.copy.copy_group_records.Tie as tie
 
 abbrev Inv-loop : tie.InvT-loop
-Inv-loop m from n d₀ start word metric i₀ at₀ out₀ d i at out =
-    Turns (λ p k. allGroupEntries word metric (plainGroupRecords m p k)) (λ p k. groupRecordsSize 4 (plainGroupRecords m p k)) (assertEntryOctets ipv4) 16 (length m) from n d₀ start d i at out
+Inv-loop m from n d₀ start word i₀ at₀ out₀ d i at out =
+    Turns (λ p k. allGroupEntries (numberAt 4 m word) (numberAt 4 m (word + 4)) (plainGroupRecords m p k)) (λ p k. groupRecordsSize 4 (plainGroupRecords m p k)) (assertEntryOctets ipv4) 16 (length m) from n d₀ start d i at out
 
 abbrev μ-loop : tie.MeasureT-loop
-μ-loop m from n d₀ start word metric i₀ at₀ out₀ d i at out = n - i
+μ-loop m from n d₀ start word i₀ at₀ out₀ d i at out = n - i
 
 loop-holds : tie.Need-loop-holds Inv-loop μ-loop
-loop-holds c = turns-start length-assert-entry (c .before .before .pre .there) (c .before .before .pre .room)
+loop-holds c = turns-start length-assert-entry (c .before .before .pre .1 .there) (c .before .before .pre .1 .room)
 
 copy-group-record-requires : tie.Need-copy-group-record-requires Inv-loop μ-loop
 copy-group-record-requires c κs =
     let l = c .before .before in
     let a = l .before .before .before .args in
-    let h = turn-there (groups-series (now (a .m)) (a .word) (a .metric)) (l .loop .inv) (c .before .loop-test .taken) in
-    record { there = h .0; room = h .1 }
+    let h = turn-there (groups-series (now (a .m)) (numberAt 4 (now (a .m)) (a .word)) (numberAt 4 (now (a .m)) (a .word + 4))) (l .loop .inv) (c .before .loop-test .taken) in
+    (l .before .before .before .pre .0, record { there = h .0; room = h .1 })
 
 add-i : tie.Need-add-i Inv-loop μ-loop
 add-i c = omega arith
@@ -43,7 +44,7 @@ loop-again c =
     let l = b .before .before .before in
     let a = l .before .before .before .args in
     let e = b .copy-group-record .ensures in
-    turn-next (groups-series (now (a .m)) (a .word) (a .metric)) (l .loop .inv) (b .before .before .loop-test .taken) (e .buffer) (omega arith) (e .read) (e .written)
+    turn-next (groups-series (now (a .m)) (numberAt 4 (now (a .m)) (a .word)) (numberAt 4 (now (a .m)) (a .word + 4))) (l .loop .inv) (b .before .before .loop-test .taken) (e .buffer) (omega arith) (e .read) (e .written)
 
 same-length : tie.Need-same-length Inv-loop μ-loop
 same-length c = c .before .loop .inv .walk .written .same
@@ -51,7 +52,7 @@ same-length c = c .before .loop .inv .walk .written .same
 returns : tie.Need-returns Inv-loop μ-loop
 returns c =
     let a = c .before .before .before .before .args in
-    let h = turns-end (groups-series (now (a .m)) (a .word) (a .metric)) (c .before .loop .inv) (c .loop-test .left) in
+    let h = turns-end (groups-series (now (a .m)) (numberAt 4 (now (a .m)) (a .word)) (numberAt 4 (now (a .m)) (a .word + 4))) (c .before .loop .inv) (c .loop-test .left) in
     record { read = h .0; written = h .1; buffer = h .2 }
 
 pub copy-group-records-spec : {M : Type 1} → statement M

@@ -6,10 +6,12 @@ use native.Mathlib.Omega.{arith}
 use mathlib.Core.Path.{refl}
 use lib.ListN.{length}
 use denote.Ref.{now}
+use Rattle.octets.specs.Octets.{numberAt}
 use Rattle.format.specs.Entry.{pairEntryOctets}
 use Rattle.format.specs.Family.{ipv4}
+use Rattle.fields.specs.Answers.{plainPair}
 use Rattle.reading.specs.Plain.{plainPairs}
-use Rattle.reading.proofs.Copying.{Turns, series-length, turns-start, turn-there, turn-next, turns-end, put-one, pairs-series, length-pair-entry}
+use Rattle.reading.proofs.Copying.{Turns, series-length, turns-start, turn-there, turn-next, turns-end, put-number-next, put-one, pairs-series, length-pair-entry}
 use Rattle.reading.proofs.copy.copy_pairs.Statement.{statement}
 use Rattle.reading.proofs.copy.copy_pairs.Tie as tie
 
@@ -32,17 +34,26 @@ there : (c : tie.In-loop Inv-loop μ-loop)
     → (c .before .loop .at + 14 ≤ length (now (c .before .before .before .before .args .m))) × (c .before .loop .out + 8 ≤ length (c .before .loop .d))
 there c = turn-there (pairs-series (now (c .before .before .before .before .args .m))) (c .before .loop .inv) (c .loop-test .taken)
 
-pair-at-requires : tie.Need-pair-at-requires Inv-loop μ-loop
-pair-at-requires c κs = tt
+add-copy4 : tie.Need-add-copy4 Inv-loop μ-loop
+add-copy4 c = let t = there c in omega arith
 
-put-pair-requires : tie.Need-put-pair-requires Inv-loop μ-loop
-put-pair-requires c κs = there (c .before .before) .1
+copy4-requires : tie.Need-copy4-requires Inv-loop μ-loop
+copy4-requires c κs = let t = there (c .before) in (omega arith, omega arith)
+
+add-copy4-2 : tie.Need-add-copy4-2 Inv-loop μ-loop
+add-copy4-2 c = let t = there (c .before .before .before .before) in omega arith
+
+add-copy4-3 : tie.Need-add-copy4-3 Inv-loop μ-loop
+add-copy4-3 c = let t = there (c .before .before .before .before .before) in omega arith
+
+copy4-requires-2 : tie.Need-copy4-requires-2 Inv-loop μ-loop
+copy4-requires-2 c κs = let t = there (c .before .before .before .before .before) in (omega arith, omega arith)
 
 add-at : tie.Need-add-at Inv-loop μ-loop
-add-at c = let t = there (c .before .before .before .before .before) in omega arith
+add-at c = let t = there (c .before .before .before .before .before .before .before .before) in omega arith
 
 add-out : tie.Need-add-out Inv-loop μ-loop
-add-out c = let t = there (c .before .before .before .before .before) in omega arith
+add-out c = let t = there (c .before .before .before .before .before .before .before .before) in omega arith
 
 add-i : tie.Need-add-i Inv-loop μ-loop
 add-i c = omega arith
@@ -51,11 +62,16 @@ loop-less : tie.Need-loop-less Inv-loop μ-loop
 loop-less c = omega arith
 
 loop-again : tie.Need-loop-again Inv-loop μ-loop
+unfolding plainPair pairEntryOctets
 loop-again c =
-    let b = c .before .before in
-    let l = b .before .before .before .before in
-    turn-next (pairs-series (now (l .before .before .before .args .m))) (l .loop .inv) (b .before .before .before .loop-test .taken)
-    (put-one (pairEntryOctets ipv4) (l .loop .d) (l .loop .out) (b .put-pair .ensures) (b .before .pair-at .ensures)) (omega arith) (omega arith) (omega arith)
+    let c2 = c .before .before in
+    let c1 = c2 .before .before .before .before in
+    let l = c1 .before .before .before in
+    let m = now (l .before .before .before .args .m) in
+    turn-next (pairs-series m) (l .loop .inv) (c1 .before .before .loop-test .taken)
+    (put-one (pairEntryOctets ipv4) (l .loop .d) (l .loop .out) {x = plainPair m (l .loop .at)}
+    (put-number-next 4 (l .loop .d) (l .loop .out) (numberAt 4 m (l .loop .at + 4)) _ (c1 .copy4 .ensures) (c2 .copy42 .ensures) (omega arith)) refl)
+    (omega arith) (omega arith) (omega arith)
 
 same-length : tie.Need-same-length Inv-loop μ-loop
 same-length c = c .before .loop .inv .walk .written .same
@@ -70,8 +86,11 @@ copy-pairs-spec =
     Inv-loop
     μ-loop
     loop-holds
-    pair-at-requires
-    put-pair-requires
+    add-copy4
+    copy4-requires
+    add-copy4-2
+    add-copy4-3
+    copy4-requires-2
     add-at
     add-out
     add-i

@@ -1,127 +1,157 @@
 -- `reading::copy::copy_record` meets its contract: the octets and the entries of its record are `source-record-is` where R is 0,
 -- and `rp-record-is` otherwise.
 -- Assumes nothing.
-use Prim.Native.Nat.{_+_, _*_, _≤_}
+use Prim.Native.Nat.{ℕ, _+_, _*_, _≤_}
 use native.Mathlib.Omega.{arith}
-use mathlib.Core.Bool.{true}
-use mathlib.Core.List.{map}
-use mathlib.Core.Path.{_≡_, refl}
+use mathlib.Core.List.{List, map}
+use mathlib.Core.Path.{_≡_, refl, _∙_}
 use lib.ListN.{length}
 use denote.Ref.{now}
-use borrow.Author.Needs.{needs}
+use Rattle.octets.specs.Octets.{numberAt}
 use Rattle.records.specs.Records.{AggregatedRecord, assert, entries, allGroupEntries}
 use Rattle.records.specs.Sizes.{aggregatedSize, groupRecordsSize}
-use Rattle.octets.specs.Octets.{numberAt}
-use Rattle.format.specs.Values.{assertOf}
-use Rattle.reading.specs.Copied.{likeButFor}
 use Rattle.reading.specs.Plain.{plainAggregated, plainAddresses, plainGroupRecords}
-use Rattle.reading.proofs.Copying.{source-record-is, rp-record-is, length-like}
+use Rattle.reading.proofs.Copying.{count-part, source-record-is, rp-record-is, size-least, length-like}
+use borrow.Author.Needs.{needs}
 use Rattle.reading.proofs.copy.copy_record.Statement.{statement}
 use Rattle.reading.proofs.copy.copy_record.Tie as tie
 
+abbrev start : tie.After-shared-slice-known2 → tie.Start
+start c = c .before .before .before
+
+abbrev message : tie.Start → List ℕ
+message s = now (s .args .m)
+
+abbrev number : tie.Start → ℕ → ℕ
+number s k = numberAt 4 (message s) (s .args .at + k)
+
 -- what is copied
 abbrev it : tie.Start → AggregatedRecord
-it s = plainAggregated (now (s .args .m)) (s .args .at)
+it s = plainAggregated (message s) (s .args .at)
 
-source-size : (c : tie.Then1) → let s = c .before .before .before .before .before in aggregatedSize 4 (it s) ≡ 18 + 8 * numberAt 2 (now (s .args .m)) (s .args .at + 14)
-source-size c =
-    let a = c .before .before .before .before .before .args in
-    source-record-is (now (a .m)) (a .at) (c .before .before .number32 .ensures) (c .before .number322 .ensures) (c .if1 .taken) refl refl .0
+least : (s : tie.Start) → s .args .at + 12 ≤ length (message s)
+least s = omega (arith, s .pre .there, size-least (it s))
 
--- R is 0: one entry for each group
-source-entries : (c : tie.After-number323)
-    → let a = c .before .before .before .before .before .before .before .args in
-    entries (it (c .before .before .before .before .before .before .before))
-    ≡ map (likeButFor true (assert 0 (c .number323 .result) (c .before .before .before .before .number32 .result) (c .before .before .before .number322 .result))) (plainAddresses 4 (now (a .m)) (a .at + 18) (c .before .number16 .result))
-source-entries c =
-    let a = c .before .before .before .before .before .before .before .args in
-    let b = c .before .before in
-    source-record-is (now (a .m)) (a .at) (b .before .before .number32 .ensures) (b .before .number322 .ensures) (b .if1 .taken) (c .number323 .ensures) (c .before .number16 .ensures) .1
+-- R is 0: one entry for each of n groups
+source : (c : tie.Then1) {n : ℕ}
+    → let s = start (c .before) in
+    n ≡ numberAt 2 (message s) (s .args .at + 14)
+    → (aggregatedSize 4 (it s) ≡ 18 + 8 * n)
+    × (entries (it s) ≡ map (λ g. assert g (number s 10) (numberAt 4 (message s) (s .args .at)) (number s 4)) (plainAddresses 4 (message s) (s .args .at + 18) n))
+source c e =
+    let s = start (c .before) in
+    source-record-is (message s) (s .args .at) (omega (arith, least s)) (λ i. c .before .shared-slice-known2 .given i .fits) (c .if1 .taken) e
 
-source-room : (c : tie.After-number323) → c .before .before .before .before .before .before .before .args .out + 16 * c .before .number16 .result ≤ length (now (c .before .before .before .before .before .before .before .args .d))
-source-room c = let e = source-entries c in rw (e, length-like) at (c .before .before .before .before .before .before .before .pre .room)
+groups : (c : tie.After-number16) → let s = start (c .before .before .before) in c .number16 .result ≡ numberAt 2 (message s) (s .args .at + 14)
+groups c =
+    let s = start (c .before .before .before) in
+    let z = source (c .before .before) refl .0 in
+    c .number16 .ensures ∙ count-part (message s) (s .args .at + 14) (s .args .at + 16) (omega arith) (omega (arith, s .pre .there))
 
--- R is 1: the group records
+source-room : (c : tie.After-number16) → let s = start (c .before .before .before) in s .args .out + 16 * c .number16 .result ≤ length (now (s .args .d))
+source-room c = let e = source (c .before .before) (groups c) .1 in rw (e, length-like) at (start (c .before .before .before) .pre .room)
+
+-- R is 1: n group records
+records : (c : tie.After-number162) → let s = start (c .before .before .before) in c .number162 .result ≡ numberAt 2 (message s) (s .args .at + 8)
+records c =
+    let s = start (c .before .before .before) in
+    c .number162 .ensures ∙ count-part (message s) (s .args .at + 8) (s .args .at + 10) (omega arith) (omega (arith, least s))
+
 rp : (c : tie.After-number162)
-    → let a = c .before .before .before .before .before .before .args in
-    let groups = plainGroupRecords (now (a .m)) (a .at + 12) (c .number162 .result) in
-    (aggregatedSize 4 (it (c .before .before .before .before .before .before)) ≡ 12 + groupRecordsSize 4 groups)
-    × (entries (it (c .before .before .before .before .before .before)) ≡ allGroupEntries (c .before .before .before .number32 .result) (c .before .before .number322 .result) groups)
+    → let s = start (c .before .before .before) in
+    let groups = plainGroupRecords (message s) (s .args .at + 12) (c .number162 .result) in
+    (aggregatedSize 4 (it s) ≡ 12 + groupRecordsSize 4 groups) × (entries (it s) ≡ allGroupEntries (numberAt 4 (message s) (s .args .at)) (number s 4) groups)
 rp c =
-    let a = c .before .before .before .before .before .before .args in
-    let b = c .before in
-    rp-record-is (now (a .m)) (a .at) (b .before .before .number32 .ensures) (b .before .number322 .ensures) (b .if1 .left) (c .number162 .ensures)
+    let s = start (c .before .before .before) in
+    rp-record-is (message s) (s .args .at) (omega (arith, least s)) (c .before .before .if1 .left) (records c)
 
-number32-requires : tie.Need-number32-requires
-number32-requires c κs = search needs
-
-add-number32 : tie.Need-add-number32
-add-number32 c = search needs
-
-number32-requires-2 : tie.Need-number32-requires-2
-number32-requires-2 c κs = search needs
+shared-slice-read-if1 : tie.Need-shared-slice-read-if1
+shared-slice-read-if1 c = omega (arith, least (start c))
 
 add-number16 : tie.Need-add-number16
 add-number16 c = search needs
 
+add-number16-2 : tie.Need-add-number16-2
+add-number16-2 c = search needs
+
+sub-number16 : tie.Need-sub-number16
+sub-number16 c = search needs
+
+part-number16-start : tie.Need-part-number16-start
+part-number16-start c = search needs
+
+part-number16-end : tie.Need-part-number16-end
+part-number16-end c = let z = source c refl .0 in omega arith
+
 number16-requires : tie.Need-number16-requires
 number16-requires c κs = search needs
 
-add-number32-2 : tie.Need-add-number32-2
-add-number32-2 c = search needs
+add-copy-groups : tie.Need-add-copy-groups
+add-copy-groups c = search needs
 
-number32-requires-3 : tie.Need-number32-requires-3
-number32-requires-3 c κs = search needs
+add-copy-groups-2 : tie.Need-add-copy-groups-2
+add-copy-groups-2 c = search needs
 
-add-copy-addresses : tie.Need-add-copy-addresses
-add-copy-addresses c = search needs
-
-copy-addresses-requires : tie.Need-copy-addresses-requires
-copy-addresses-requires c κs = let e = source-size (c .before .before .before) in (omega arith, omega arith, source-room (c .before))
+copy-groups-requires : tie.Need-copy-groups-requires
+copy-groups-requires c κs =
+    let z = source (c .before .before .before) (groups (c .before)) .0 in
+    (omega arith, omega arith, omega arith, source-room (c .before))
 
 add-t11 : tie.Need-add-t11
 add-t11 c = search needs
 
-mul-t16 : tie.Need-mul-t16
-mul-t16 c = let e = source-size (c .before .before .before .before .before .before) in omega arith
+mul-t13 : tie.Need-mul-t13
+mul-t13 c = let z = source (c .before .before .before .before .before .before) (groups (c .before .before .before .before)) .0 in omega arith
 
-add-t17 : tie.Need-add-t17
-add-t17 c = let e = source-size (c .before .before .before .before .before .before) in omega arith
+add-t10 : tie.Need-add-t10
+add-t10 c = let z = source (c .before .before .before .before .before .before) (groups (c .before .before .before .before)) .0 in omega arith
 
-mul-t18 : tie.Need-mul-t18
-mul-t18 c = let e = source-room (c .before .before .before .before) in omega arith
+mul-t19 : tie.Need-mul-t19
+mul-t19 c = let h = source-room (c .before .before .before .before) in omega arith
 
-add-t19 : tie.Need-add-t19
-add-t19 c = let e = source-room (c .before .before .before .before) in omega arith
+add-t20 : tie.Need-add-t20
+add-t20 c = let h = source-room (c .before .before .before .before) in omega arith
 
 same-length : tie.Need-same-length
 same-length c = search needs
 
 returns : tie.Need-returns
-unfolding assertOf
 returns c =
     let b = c .before .before in
-    let z = source-size (b .before .before .before .before) in
-    let e = source-entries (b .before .before) in
+    let g = b .before .before in
+    let z = source (g .before .before) (groups g) in
     record {
       read = omega arith;
-      written = rw (e, length-like);
-      buffer = rw e (b .copy-addresses .ensures);
+      written = rw (z .1, length-like);
+      buffer = rw (z .1) (b .copy-groups .ensures);
     }
 
-add-copy-group-records : tie.Need-add-copy-group-records
-add-copy-group-records c = search needs
+add-number16-3 : tie.Need-add-number16-3
+add-number16-3 c = search needs
 
-add-number16-2 : tie.Need-add-number16-2
-add-number16-2 c = search needs
+add-number16-4 : tie.Need-add-number16-4
+add-number16-4 c = search needs
+
+sub-number16-2 : tie.Need-sub-number16-2
+sub-number16-2 c = search needs
+
+part-number16-start-2 : tie.Need-part-number16-start-2
+part-number16-start-2 c = search needs
+
+part-number16-end-2 : tie.Need-part-number16-end-2
+part-number16-end-2 c = omega (arith, least (start (c .before)))
 
 number16-requires-2 : tie.Need-number16-requires-2
 number16-requires-2 c κs = search needs
 
+add-copy-group-records : tie.Need-add-copy-group-records
+add-copy-group-records c = search needs
+
 copy-group-records-requires : tie.Need-copy-group-records-requires
 copy-group-records-requires c κs =
     let e = rp (c .before) in
-    record { there = omega arith; room = rw (e .1) at (c .before .before .before .before .before .before .before .pre .room) }
+    let s = start (c .before .before .before .before) in
+    (omega (arith, least s), record { there = omega arith; room = rw (e .1) at (s .pre .room) })
 
 same-length-2 : tie.Need-same-length-2
 same-length-2 c = search needs
@@ -141,25 +171,30 @@ pub copy-record-spec : {M : Type 1} → statement M
 copy-record-spec =
     tie.close
     (tie.spec
-    number32-requires
-    add-number32
-    number32-requires-2
+    shared-slice-read-if1
     add-number16
+    add-number16-2
+    sub-number16
+    part-number16-start
+    part-number16-end
     number16-requires
-    add-number32-2
-    number32-requires-3
-    add-copy-addresses
-    copy-addresses-requires
+    add-copy-groups
+    add-copy-groups-2
+    copy-groups-requires
     add-t11
-    mul-t16
-    add-t17
-    mul-t18
-    add-t19
+    mul-t13
+    add-t10
+    mul-t19
+    add-t20
     same-length
     returns
-    add-copy-group-records
-    add-number16-2
+    add-number16-3
+    add-number16-4
+    sub-number16-2
+    part-number16-start-2
+    part-number16-end-2
     number16-requires-2
+    add-copy-group-records
     copy-group-records-requires
     same-length-2
     returns-2)
