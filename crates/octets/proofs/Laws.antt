@@ -11,6 +11,7 @@
 --     stores-put, lows-be, taken-be, put-number             stores one by one are a write; the octets as code takes them are those of the number
 --     number-is, number-short                               a number by its octets, and where fewer are there
 --     number-part, number-cut                               a number in a part, by its place in the whole; and where the part is that number
+--     put-copied                                            the octets of a number stored as they stand
 --     field-got, field-short, write-next, write-full        what a reader or a writer answers, by the test that its code made
 --     field-back, field-lt, write-back, length-fitted       what a caller learns from an answer
 -- Assumes nothing.
@@ -283,6 +284,16 @@ number-part o from n there k at p e h =
 -- the part from a place to an end, as code cuts it
 pub number-cut : (k : ℕ) (o : List ℕ) (at end : ℕ) → end ≡ at + k → end ≤ length o → numberAt k (take (end - at) (drop at o)) 0 ≡ numberAt k o at
 number-cut k o at end e there = number-part o at (end - at) (omega arith) k 0 at (omega arith) (omega arith)
+
+pub put-copied : (k : ℕ) (o d : List ℕ) (at out : ℕ) → Octets o → at + k ≤ length o → out + k ≤ length d
+    → stores d out 0 (octetsFrom o at 0 k) ≡ put d out (be k (numberAt k o at))
+unfolding numberAt
+put-copied k o d at out octet there room =
+    let part : List ℕ = take k (drop at o) in
+    let is : octetsFrom o at 0 k ≡ part = from-part o at 0 k (omega arith) ∙ ap (λ x. take k (drop x o)) (add-zero at) in
+    let long : length part ≡ k = length-take-le k (drop at o) (simp length-drop (omega arith)) in
+    let back : be k (value part) ≡ part = ap (λ n. be n (value part)) (sym long) ∙ be-value part (octets-take k (drop at o) (octets-drop at o octet)) in
+    ap (stores d out 0) is ∙ (stores-put d out part (rw long room) ∙ ap (put d out) (sym back))
 
 -- ---- the answers, from the tests that the code made
 

@@ -1,6 +1,4 @@
 -- Entries written one after another into a lent buffer, from things that stand one after another in a message.
---     copied                            the octets of a number stored as they stand
---     count-part                        a count, read in a part of two octets
 --     put-number-next                   what is written past a number
 --     put-one                           one entry, as a list of entries
 --     Left                              what is still to be written gives the whole: left-room, left-step, left-end
@@ -18,10 +16,10 @@ use native.Mathlib.Nat.{mul-add, mul-suc, mul-zero}
 use native.Mathlib.Omega.{arith}
 use mathlib.Core.Path.{_≡_, refl, sym, ap, _∙_}
 use mathlib.Core.List.{List, [], _∷_, _++_, map, append-nil}
-use lib.ListN.{length, getD, take, drop, length-append, length-map}
+use lib.ListN.{length, getD, length-append, length-map}
 use borrow.Author.Tests.{le-leb, lt-leb}
 use Rattle.octets.specs.Octets.{Octets, value, numberAt, put, be}
-use Rattle.octets.proofs.Laws.{octetsFrom, stores, stores-put, be-value, octets-nil, octets-cons, number-is, number-part, put-nil, put-put, put-next, length-put, length-be}
+use Rattle.octets.proofs.Laws.{number-is, put-nil, put-put, put-next, length-put, length-be}
 use Rattle.records.specs.Records.{AssertRecord, assert, PairRecord, ofGroup, AggregatedRecord, ofSource, ofRp, groupEntries, allGroupEntries, entries, allEntries}
 use Rattle.records.specs.Sizes.{groupRecordSize, groupRecordsSize, aggregatedSize, allSize}
 use Rattle.format.specs.Family.{ipv4}
@@ -32,18 +30,6 @@ use Rattle.fields.specs.Answers.{plainAssert, plainPair}
 use Rattle.reading.specs.Plain.{plainAsserts, plainPairs, plainAddresses, plainGroupRecord, plainGroupRecords, plainAggregated, plainRecords}
 
 -- ---- a number
-
-pub copied : (o d : List ℕ) (at out : ℕ) → Octets o → at + 4 ≤ length o → out + 4 ≤ length d
-    → stores d out 0 (octetsFrom o at 0 4) ≡ put d out (be 4 (numberAt 4 o at))
-copied o d at out octet there room =
-    let four : Octets (octetsFrom o at 0 4) =
-    octets-cons (getD o at 0) (octetsFrom o at 1 3) (octet at) (octets-cons (getD o (at + 1) 0) (octetsFrom o at 2 2) (octet (at + 1))
-    (octets-cons (getD o (at + 2) 0) (octetsFrom o at 3 1) (octet (at + 2)) (octets-cons (getD o (at + 3) 0) [] (octet (at + 3)) octets-nil))) in
-    stores-put d out (octetsFrom o at 0 4) room
-    ∙ ap (put d out) (sym (be-value (octetsFrom o at 0 4) four) ∙ ap (be 4) (sym (number-is 4 o at there)))
-
-pub count-part : (o : List ℕ) (from to : ℕ) → to ≡ from + 2 → to ≤ length o → numberAt 2 (take (to - from) (drop from o)) 0 ≡ numberAt 2 o from
-count-part o from to e h = number-part o from (to - from) (omega arith) 2 0 from (omega arith) (omega arith)
 
 -- what is written past a number
 pub put-number-next : (k : ℕ) (d : List ℕ) (at n : ℕ) (f : List ℕ) {d′ d″ : List ℕ} {at′ : ℕ} → d′ ≡ put d at (be k n) → d″ ≡ put d′ at′ f → at′ ≡ at + k

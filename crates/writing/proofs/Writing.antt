@@ -1,17 +1,16 @@
 -- Octets written into a lent buffer, from entries that stand one after another.
---     copied                     the octets of a number stored as they stand
 --     put-counted                a number of 16 bits stored octet by octet, and two reserved octets
 --     Rows                       where a loop over entries stands: rows-start, rows-there, rows-next, rows-end, rows-out
 --     sealed                     a message whose checksum was 0, with its checksum
 -- Assumes nothing.
-use Prim.Native.Nat.{ℕ, zero, suc, _+_, _*_, _/_, _%_, _^_, _≤_, _<_}
+use Prim.Native.Nat.{ℕ, zero, suc, _+_, _*_, _/_, _%_, _≤_, _<_}
 use native.Mathlib.Nat.{mul-suc, mul-zero}
 use native.Mathlib.Omega.{arith}
 use mathlib.Core.Path.{_≡_, refl, sym, ap, _∙_}
 use mathlib.Core.List.{List, [], _∷_, _++_}
-use lib.ListN.{length, getD, take}
-use Rattle.octets.specs.Octets.{numberAt, Octets, be, put}
-use Rattle.octets.proofs.Laws.{number-is, octetsFrom, stores, stores-put, be-value, octets-nil, octets-cons, put-nil, put-put, length-put, take-put, length-be, lows-be}
+use lib.ListN.{length, take}
+use Rattle.octets.specs.Octets.{be, put}
+use Rattle.octets.proofs.Laws.{stores, stores-put, put-nil, put-put, length-put, take-put, lows-be}
 use Rattle.checksum.specs.Sum.{checksum}
 use Rattle.format.specs.Header.{octet0, octet1, message}
 use Rattle.format.specs.Record.{each}
@@ -19,15 +18,6 @@ use Rattle.format.specs.Entry.{Entries, entriesAt}
 use Rattle.format.specs.declared.Kind.{Kind}
 
 -- ---- a number
-
-pub copied : (o d : List ℕ) (at out : ℕ) → Octets o → at + 4 ≤ length o → out + 4 ≤ length d
-    → stores d out 0 (octetsFrom o at 0 4) ≡ put d out (be 4 (numberAt 4 o at))
-copied o d at out octet there room =
-    let four : Octets (octetsFrom o at 0 4) =
-    octets-cons (getD o at 0) (octetsFrom o at 1 3) (octet at) (octets-cons (getD o (at + 1) 0) (octetsFrom o at 2 2) (octet (at + 1))
-    (octets-cons (getD o (at + 2) 0) (octetsFrom o at 3 1) (octet (at + 2)) (octets-cons (getD o (at + 3) 0) [] (octet (at + 3)) octets-nil))) in
-    stores-put d out (octetsFrom o at 0 4) room
-    ∙ ap (put d out) (sym (be-value (octetsFrom o at 0 4) four) ∙ ap (be 4) (sym (number-is 4 o at there)))
 
 -- a 16-bit number and two reserved octets
 pub put-counted : (d : List ℕ) (at n : ℕ) → at + 4 ≤ length d → stores d at 0 ((n / 256 % 256) ∷ (n % 256) ∷ 0 ∷ 0 ∷ []) ≡ put d at (be 2 n ++ (0 ∷ 0 ∷ []))

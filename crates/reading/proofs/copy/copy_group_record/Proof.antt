@@ -12,7 +12,8 @@ use Rattle.records.specs.Records.{AssertRecord, assert, groupEntries}
 use Rattle.format.specs.Entry.{assertEntryOctets}
 use Rattle.format.specs.Family.{ipv4}
 use Rattle.reading.specs.Plain.{plainGroupRecord, plainAddresses}
-use Rattle.reading.proofs.Copying.{count-part, put-one, group-none, group-some, length-like}
+use Rattle.octets.proofs.Laws.{number-cut}
+use Rattle.reading.proofs.Copying.{put-one, group-none, group-some, length-like}
 use borrow.Author.Needs.{needs}
 use Rattle.reading.proofs.copy.copy_group_record.Statement.{statement}
 use Rattle.reading.proofs.copy.copy_group_record.Tie as tie
@@ -40,7 +41,7 @@ es s = groupEntries (word s) (metric s) (plainGroupRecord (message s) (s .args .
 count : (c : tie.After-number16) → c .number16 .result ≡ numberAt 2 (message (start c)) (start c .args .at + 8)
 count c =
     let at = start c .args .at in
-    c .number16 .ensures ∙ count-part (message (start c)) (at + 8) (at + 10) (omega arith) (omega arith)
+    c .number16 .ensures ∙ number-cut 2 (message (start c)) (at + 8) (at + 10) (omega arith) (omega arith)
 
 -- no source: one entry
 none : (c : tie.Then1) → let s = start (c .before) in es s ≡ assert (group s) 0 (word s) (metric s) ∷ []

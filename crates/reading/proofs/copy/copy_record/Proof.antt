@@ -11,7 +11,8 @@ use Rattle.octets.specs.Octets.{numberAt}
 use Rattle.records.specs.Records.{AggregatedRecord, assert, entries, allGroupEntries}
 use Rattle.records.specs.Sizes.{aggregatedSize, groupRecordsSize}
 use Rattle.reading.specs.Plain.{plainAggregated, plainAddresses, plainGroupRecords}
-use Rattle.reading.proofs.Copying.{count-part, source-record-is, rp-record-is, size-least, length-like}
+use Rattle.octets.proofs.Laws.{number-cut}
+use Rattle.reading.proofs.Copying.{source-record-is, rp-record-is, size-least, length-like}
 use borrow.Author.Needs.{needs}
 use Rattle.reading.proofs.copy.copy_record.Statement.{statement}
 use Rattle.reading.proofs.copy.copy_record.Tie as tie
@@ -46,7 +47,7 @@ groups : (c : tie.After-number16) → let s = start (c .before .before .before) 
 groups c =
     let s = start (c .before .before .before) in
     let z = source (c .before .before) refl .0 in
-    c .number16 .ensures ∙ count-part (message s) (s .args .at + 14) (s .args .at + 16) (omega arith) (omega (arith, s .pre .there))
+    c .number16 .ensures ∙ number-cut 2 (message s) (s .args .at + 14) (s .args .at + 16) (omega arith) (omega (arith, s .pre .there))
 
 source-room : (c : tie.After-number16) → let s = start (c .before .before .before) in s .args .out + 16 * c .number16 .result ≤ length (now (s .args .d))
 source-room c = let e = source (c .before .before) (groups c) .1 in rw (e, length-like) at (start (c .before .before .before) .pre .room)
@@ -55,7 +56,7 @@ source-room c = let e = source (c .before .before) (groups c) .1 in rw (e, lengt
 records : (c : tie.After-number162) → let s = start (c .before .before .before) in c .number162 .result ≡ numberAt 2 (message s) (s .args .at + 8)
 records c =
     let s = start (c .before .before .before) in
-    c .number162 .ensures ∙ count-part (message s) (s .args .at + 8) (s .args .at + 10) (omega arith) (omega (arith, least s))
+    c .number162 .ensures ∙ number-cut 2 (message s) (s .args .at + 8) (s .args .at + 10) (omega arith) (omega (arith, least s))
 
 rp : (c : tie.After-number162)
     → let s = start (c .before .before .before) in

@@ -4,7 +4,7 @@ use native.Mathlib.Omega.{arith}
 use lib.ListN.{length-set}
 use denote.Ref.{now}
 use borrow.Author.Needs.{needs}
-use Rattle.writing.proofs.Writing.{copied}
+use Rattle.octets.proofs.Laws.{put-copied}
 use Rattle.writing.proofs.record.copy4.Statement.{statement}
 use Rattle.writing.proofs.record.copy4.Tie as tie
 
@@ -57,7 +57,7 @@ returns : tie.Need-returns
 returns c =
     let s = c .before .before .before .before in
     let a = s .args in
-    copied (now (a .e)) (now (a .d)) (a .at) (a .out) (λ i. c .shared-slice-known4 .given i .fits) (s .pre .0) (s .pre .1)
+    put-copied 4 (now (a .e)) (now (a .d)) (a .at) (a .out) (λ i. c .shared-slice-known4 .given i .fits) (s .pre .0) (s .pre .1)
 
 pub copy4-spec : {M : Type 1} → statement M
 copy4-spec =
