@@ -2,7 +2,7 @@
 -- Assumes nothing.
 use mathlib.Core.Path.{_≡_, refl, ap, sym, _∙_}
 use mathlib.Core.List.{List}
-use Prim.Native.Nat.{ℕ, suc, _+_, _-_, _*_, _/_, _≤_, _<_}
+use Prim.Native.Nat.{ℕ, suc, _+_, _-_, _*_, _/_, _%_, _≤_, _<_}
 use native.Mathlib.Omega.{arith}
 use lib.ListN.{length, getD, take, drop, length-drop, List·getD-eq-default}
 use lib.Seq.{take-all, getD-drop}
@@ -36,6 +36,10 @@ more {o} {from} {start} {i} {acc} f h =
     let e′ : from + (2 * k + 1) ≡ i + 1 = omega arith in
     let hk : k < length (words (drop from o)) = omega (arith, length-left o from) in
     sumFrom-take-suc (words (drop from o)) start k hk ∙ (rw (word-left o from k, e, e′, ← f .gives))
+
+-- before the end of the whole words there is one more
+pub so-far-there : {o : List ℕ} {from start i acc : ℕ} → SoFar o from start i acc → i < length o - (length o - from) % 2 → i + 1 < length o
+so-far-there f h = omega (arith, f .place)
 
 pub so-far-next : {o : List ℕ} {from start i acc : ℕ} → SoFar o from start i acc → i + 1 < length o → (acc′ : ℕ) → acc′ ≤ 65535
     → acc′ ≡ add acc (getD o i 0 * 256 + getD o (i + 1) 0) → SoFar o from start (i + 2) acc′

@@ -28,9 +28,11 @@ fn sum_from(s: &[u8], from: usize, start: u16) -> u16
     requires { ⌜ from ≤ length (now s) ⌝ }
     ensures { λ r. ⌜ r ≡ sumFrom start (words (drop from (now (s .entry)))) ⌝ }
 {
+    // Past the last whole word. With this end the compiler knows the number of turns, and takes two at a time.
+    let end = s.len() - (s.len() - from) % 2;
     let mut acc = start;
     let mut i = from;
-    while 1 < s.len() - i {
+    while i < end {
         acc = add(acc, word(s[i], s[i + 1]));
         i += 2;
     }

@@ -8,32 +8,35 @@ use Rattle.checksum.specs.Sum.{add}
 use native.Mathlib.Omega.{arith}
 use borrow.Author.Needs.{needs}
 use lib.ListN.{length}
-use Rattle.checksum.proofs.SoFar.{SoFar, so-far-start, so-far-next, so-far-end, so-far-odd}
+use Rattle.checksum.proofs.SoFar.{SoFar, so-far-start, so-far-there, so-far-next, so-far-end, so-far-odd}
 use Rattle.checksum.proofs.sum_from.Statement.{statement}
 use Rattle.checksum.proofs.sum_from.Tie as tie
 
 abbrev Inv-loop : tie.InvT-loop
-Inv-loop s from start acc₀ i₀ acc i = SoFar s from start i acc
+Inv-loop s from start end acc₀ i₀ acc i = SoFar s from start i acc
 
 abbrev μ-loop : tie.MeasureT-loop
-μ-loop s from start acc₀ i₀ acc i = length s - i
+μ-loop s from start end acc₀ i₀ acc i = length s - i
+
+sub-end : tie.Need-sub-end Inv-loop μ-loop
+sub-end c = search needs
+
+sub-end-2 : tie.Need-sub-end-2 Inv-loop μ-loop
+sub-end-2 c = omega arith
 
 loop-holds : tie.Need-loop-holds Inv-loop μ-loop
 loop-holds c =
     let a = c .before .args in
     so-far-start (now (a .s)) (a .from) (a .start) (c .before .pre) (omega arith)
 
-sub-loop : tie.Need-sub-loop Inv-loop μ-loop
-sub-loop c = search needs
-
 shared-slice-read-word : tie.Need-shared-slice-read-word Inv-loop μ-loop
-shared-slice-read-word c = search needs
+shared-slice-read-word c = let t = so-far-there (c .before .before .loop .inv) (c .before .loop-test .taken) in search needs
 
 add-word : tie.Need-add-word Inv-loop μ-loop
-add-word c = search needs
+add-word c = let t = so-far-there (c .before .before .loop .inv) (c .before .loop-test .taken) in search needs
 
 shared-slice-read-word-2 : tie.Need-shared-slice-read-word-2 Inv-loop μ-loop
-shared-slice-read-word-2 c = search needs
+shared-slice-read-word-2 c = let t = so-far-there (c .before .before .before .loop .inv) (c .before .before .loop-test .taken) in search needs
 
 word-requires : tie.Need-word-requires Inv-loop μ-loop
 word-requires c κs = search needs
@@ -42,14 +45,15 @@ add-requires : tie.Need-add-requires Inv-loop μ-loop
 add-requires c κs = search needs
 
 add-i : tie.Need-add-i Inv-loop μ-loop
-add-i c = search needs
+add-i c = let t = so-far-there (c .before .before .before .before .before .loop .inv) (c .before .before .before .before .loop-test .taken) in search needs
 
 loop-less : tie.Need-loop-less Inv-loop μ-loop
-loop-less c = search needs
+loop-less c = let t = so-far-there (c .before .before .before .before .before .loop .inv) (c .before .before .before .before .loop-test .taken) in search needs
 
 loop-again : tie.Need-loop-again Inv-loop μ-loop
 loop-again c =
-    so-far-next (c .before .before .before .before .before .loop .inv) (omega arith) (c .add .result) (omega arith)
+    let f = c .before .before .before .before .before .loop .inv in
+    so-far-next f (so-far-there f (c .before .before .before .before .loop-test .taken)) (c .add .result) (omega arith)
     (c .add .ensures ∙ ap (add _) (c .before .word .ensures))
 
 shared-slice-read-word-3 : tie.Need-shared-slice-read-word-3 Inv-loop μ-loop
@@ -63,8 +67,9 @@ add-requires-2 c κs = search needs
 
 returns : tie.Need-returns Inv-loop μ-loop
 returns c =
+    let f = c .before .before .before .before .before .loop .inv in
     c .add2 .ensures ∙ ap (add _) (c .before .word2 .ensures)
-    ∙ so-far-odd (c .before .before .before .before .before .loop .inv) (omega arith)
+    ∙ so-far-odd f (omega (arith, f .place))
 
 returns-2 : tie.Need-returns-2 Inv-loop μ-loop
 returns-2 c = so-far-end (c .before .before .loop .inv) (c .if1 .left)
@@ -75,8 +80,9 @@ sum-from-spec =
     (tie.spec
     Inv-loop
     μ-loop
+    sub-end
+    sub-end-2
     loop-holds
-    sub-loop
     shared-slice-read-word
     add-word
     shared-slice-read-word-2
