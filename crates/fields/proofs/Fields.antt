@@ -3,22 +3,21 @@
 --     octets-room                                 what a check of them that passed says
 --     number-none                                 the number past the end is 0
 --     number-skipped, number-back                 the number in k octets: checked as octets, and read
---     formed, formed-short .. formed-back         a field of a form that ends in an address, as groups and sources are
+--     formed, part-form .. formed-back            a field of a form that ends in an address, as groups and sources are
 --     Comes, form-no, form-yes                    a field by a test of its octets, and what a check that made the test answers
---     groupTest, group-short .. group-back        a group: the address is tested by its first octet
---     sourceTest, source-short .. source-back     a source
+--     groupTest, group-form .. group-back         a group: the address is tested by its first octet
+--     sourceTest, source-form .. source-back      a source
 --     rBit-is                                     R is the highest bit of the word's first octet
 -- Assumes nothing.
-use Prim.Native.Nat.{ℕ, _+_, _*_, _/_, _≤_, _<_}
-use native.Mathlib.Nat.{add-zero}
+use Prim.Native.Nat.{ℕ, _+_, _-_, _*_, _/_, _≤_, _<_}
 use native.Mathlib.Omega.{arith}
-use mathlib.Core.Path.{_≡_, refl, ap, _∙_}
+use mathlib.Core.Path.{_≡_, refl, sym, ap, _∙_}
 use mathlib.Core.Bool.{Bool, true, false, not, _&&_, _||_, cond}
 use mathlib.Core.List.{List}
-use borrow.Author.Tests.{le-leb, lt-leb, lt-ltb, le-ltb, leb-true, leb-false, eqb-true, eqb-false}
-use lib.Dec.{leb, ltb, eqb, lit<}
+use borrow.Author.Tests.{le-leb, lt-leb, lt-ltb, le-ltb, leb-true, leb-false, eq-eqb, eqb-true, eqb-false}
+use lib.Dec.{leb, ltb, eqb}
 use lib.ListN.{length, getD, take, drop, length-drop}
-use lib.Seq.{take-add, drop-drop, getD-drop, getD-take, length-take-le, drop-at}
+use lib.Seq.{take-add, take-all, drop-drop, length-take-le, drop-at}
 use Rattle.octets.specs.Octets.{numberAt, Octets, value}
 use Rattle.octets.proofs.Laws.{number-is, number-short}
 use Rattle.records.specs.Records.{rBit}
@@ -81,9 +80,18 @@ number-back k o at {n = n} e =
 abbrev pub formed : ℕ → (List ℕ → Bool) → Reader ℕ
 formed j test = must 7 test (octets (j + 4)) >>= (λ x. give (value (drop j x)))
 
--- the octets of a part, by their places in the whole
-part-at : (k : ℕ) (o : List ℕ) (at i : ℕ) → i < k → getD (take k (drop at o)) i 0 ≡ getD o (at + i) 0
-part-at k o at i h = rw (getD-take, getD-drop)
+-- the octets of a field that are there, as code cuts them out and tests them
+pub part-form : (k : ℕ) (form : List ℕ → Bool) (o : List ℕ) (at end : ℕ) → end ≡ at + k → end ≤ length o
+    → (eqb (length (take (end - at) (drop at o))) k && form (take (end - at) (drop at o))) ≡ form (take k (drop at o))
+part-form k form o at end e there =
+    let size : end - at ≡ k = omega arith in
+    let whole : length (take k (drop at o)) ≡ k = length-take-le k (drop at o) (simp length-drop (omega arith)) in
+    rw (size, eq-eqb _ _ whole)
+
+-- the address of a field
+last-four : (j : ℕ) (x : List ℕ) → length x ≡ j + 4 → value (drop j x) ≡ numberAt 4 x j
+unfolding numberAt
+last-four j x e = ap value (sym (take-all 4 (drop j x) (simp length-drop (omega arith))))
 
 part-number : (j : ℕ) (o : List ℕ) (at : ℕ) → at + (j + 4) ≤ length o → value (drop j (take (j + 4) (drop at o))) ≡ numberAt 4 o (at + j)
 unfolding numberAt
@@ -155,9 +163,9 @@ first-octet x r h = go (eqb (x / 16) 14) refl
         rw (le-leb 0xe000_0000 (x * 16777216 + r) (omega arith), lt-ltb (x * 16777216 + r) 0xf000_0000 (omega arith))
     go false t = above (leb 0xe000_0000 (x * 16777216 + r)) refl (eqb-false _ _ t)
 
--- the octets of a group, by their places in the whole
-abbrev pub groupTest : List ℕ → ℕ → Bool
-groupTest o at = eqb (getD o at 0) 1 && eqb (getD o (at + 1) 0) 0 && eqb (getD o (at + 3) 0) 32 && eqb (getD o (at + 4) 0 / 16) 14
+-- the eight octets of a group, as code tests them
+abbrev pub groupTest : List ℕ → Bool
+groupTest x = eqb (getD x 0 0) 1 && eqb (getD x 1 0) 0 && eqb (getD x 3 0) 32 && eqb (getD x 4 0 / 16) 14
 
 -- a number of four octets by the first and the rest
 four : (o : List ℕ) (at : ℕ) → at + 4 ≤ length o
@@ -170,22 +178,19 @@ address-is o at octet h =
     rw (four o at h)
     (first-octet (getD o at 0) (getD o (at + 1) 0 * 65536 + (getD o (at + 2) 0 * 256 + getD o (at + 3) 0)) (omega (arith, octet (at + 1), octet (at + 2), octet (at + 3))))
 
-group-form : (o : List ℕ) (at : ℕ) → Octets o → at + 8 ≤ length o → groupForm ipv4 (take 8 (drop at o)) ≡ groupTest o at
+pub group-form : (x : List ℕ) → Octets x → length x ≡ 8 → groupForm ipv4 x ≡ groupTest x
 unfolding groupForm
-group-form o at octet h =
-    rw (part-number 4 o at h, address-is o (at + 4) octet (omega arith), part-at 8 o at 0 (lit< tt), part-at 8 o at 1 (lit< tt), part-at 8 o at 3 (lit< tt), add-zero)
+group-form x octet e = rw (last-four 4 x e, address-is x 4 octet (omega arith))
 
 pub group-short : (o : List ℕ) (at : ℕ) {c : Checked} {x : Refusal} → c ≡ Bad x → checked c ≡ skipped (octets 8 o at)
     → checked c ≡ skipped (groupField ipv4 o at)
 unfolding groupField
 group-short o at p q = formed-short 4 (groupForm ipv4) o at p q
 
-abbrev pub GroupIs : List ℕ → ℕ → Type 0
-GroupIs o at = Comes (groupField ipv4 o at) (groupTest o at) (numberAt 4 o (at + 4)) (at + 8) at
-
-pub group-is : (o : List ℕ) (at : ℕ) → Octets o → at + 8 ≤ length o → GroupIs o at
+pub group-is : (o : List ℕ) (at : ℕ) → at + 8 ≤ length o
+    → Comes (groupField ipv4 o at) (groupForm ipv4 (take 8 (drop at o))) (numberAt 4 o (at + 4)) (at + 8) at
 unfolding groupField
-group-is o at octet h = record { is = rw (← group-form o at octet h) (formed-there 4 (groupForm ipv4) o at h) }
+group-is o at h = record { is = formed-there 4 (groupForm ipv4) o at h }
 
 pub group-back : (o : List ℕ) (at : ℕ) {g n : ℕ} → groupField ipv4 o at ≡ got g n
     → (g ≡ numberAt 4 o (at + 4)) × (n ≡ at + 8) × (n ≤ length o)
@@ -194,9 +199,9 @@ group-back o at e = formed-back 4 (groupForm ipv4) o at e
 
 -- ---- sources
 
--- the octets of a source, by their places in the whole; any address is allowed, or any but 0
-abbrev pub sourceTest : Bool → List ℕ → ℕ → Bool
-sourceTest z o at = eqb (getD o at 0) 1 && eqb (getD o (at + 1) 0) 0 && (z || not (eqb (numberAt 4 o (at + 2)) 0))
+-- the six octets of a source, as code tests them; any address is allowed, or any but 0
+abbrev pub sourceTest : Bool → List ℕ → Bool
+sourceTest z x = eqb (getD x 0 0) 1 && eqb (getD x 1 0) 0 && (z || not (eqb (numberAt 4 x 2) 0))
 
 may-be : (z b : Bool) → (not b || (z && b)) ≡ (z || not b)
 may-be true true = refl
@@ -204,21 +209,19 @@ may-be true false = refl
 may-be false true = refl
 may-be false false = refl
 
-source-form : (z : Bool) (o : List ℕ) (at : ℕ) → at + 6 ≤ length o → sourceForm ipv4 z (take 6 (drop at o)) ≡ sourceTest z o at
+pub source-form : (z : Bool) (x : List ℕ) → length x ≡ 6 → sourceForm ipv4 z x ≡ sourceTest z x
 unfolding sourceForm mayBeSource
-source-form z o at h = rw (part-number 2 o at h, may-be, part-at 6 o at 0 (lit< tt), part-at 6 o at 1 (lit< tt), add-zero)
+source-form z x e = rw (last-four 2 x e, may-be)
 
 pub source-short : (z : Bool) (o : List ℕ) (at : ℕ) {c : Checked} {x : Refusal} → c ≡ Bad x → checked c ≡ skipped (octets 6 o at)
     → checked c ≡ skipped (sourceField ipv4 z o at)
 unfolding sourceField
 source-short z o at p q = formed-short 2 (sourceForm ipv4 z) o at p q
 
-abbrev pub SourceIs : Bool → List ℕ → ℕ → Type 0
-SourceIs z o at = Comes (sourceField ipv4 z o at) (sourceTest z o at) (numberAt 4 o (at + 2)) (at + 6) at
-
-pub source-is : (z : Bool) (o : List ℕ) (at : ℕ) → at + 6 ≤ length o → SourceIs z o at
+pub source-is : (z : Bool) (o : List ℕ) (at : ℕ) → at + 6 ≤ length o
+    → Comes (sourceField ipv4 z o at) (sourceForm ipv4 z (take 6 (drop at o))) (numberAt 4 o (at + 2)) (at + 6) at
 unfolding sourceField
-source-is z o at h = record { is = rw (← source-form z o at h) (formed-there 2 (sourceForm ipv4 z) o at h) }
+source-is z o at h = record { is = formed-there 2 (sourceForm ipv4 z) o at h }
 
 pub source-back : (z : Bool) (o : List ℕ) (at : ℕ) {s n : ℕ} → sourceField ipv4 z o at ≡ got s n
     → (s ≡ numberAt 4 o (at + 2)) × (n ≡ at + 6) × (n ≤ length o)

@@ -3,9 +3,12 @@
 use format::Refusal;
 use octets::number32;
 ghost use mathlib.Core.Path.{_≡_};
+ghost use mathlib.Core.Bool.{_&&_};
+ghost use lib.Dec.{eqb};
+ghost use lib.ListN.{length};
 ghost use Rattle.format.specs.Reader.{octets, handUp};
 ghost use Rattle.format.specs.Family.{ipv4};
-ghost use Rattle.format.specs.Address.{groupField, sourceField};
+ghost use Rattle.format.specs.Address.{groupForm, groupField, sourceForm, sourceField};
 ghost use Rattle.fields.specs.Answers.{checked, skipped};
 
 // What a check finds.
@@ -35,7 +38,45 @@ pub fn octets_check(m: &[u8], at: usize, k: usize) -> Checked
     Checked::Next(at + k)
 }
 
-// A group is there and allowed: 01, 00, a flags octet, mask length 32, an address in 224.0.0.0/4.
+// The octets of a group that is allowed: 01, 00, a flags octet, mask length 32, an address in 224.0.0.0/4.
+pub fn is_group(g: &[u8]) -> bool
+    ensures { λ r. ⌜ r ≡ (eqb (length (now (g .entry))) 8 && groupForm ipv4 (now (g .entry))) ⌝ }
+{
+    if g.len() != 8 {
+        return false;
+    }
+    if g[0] != 1 {
+        return false;
+    }
+    if g[1] != 0 {
+        return false;
+    }
+    if g[3] != 32 {
+        return false;
+    }
+    g[4] / 16 == 14
+}
+
+// The octets of a source that is allowed: 01, 00, an address, which may be 0 where the record allows it.
+pub fn is_source(s: &[u8], zero_allowed: bool) -> bool
+    ensures { λ r. ⌜ r ≡ (eqb (length (now (s .entry))) 6 && sourceForm ipv4 «zero_allowed» (now (s .entry))) ⌝ }
+{
+    if s.len() != 6 {
+        return false;
+    }
+    if s[0] != 1 {
+        return false;
+    }
+    if s[1] != 0 {
+        return false;
+    }
+    if zero_allowed {
+        return true;
+    }
+    number32(s, 2) != 0
+}
+
+// A group is there and allowed.
 pub fn group_check(m: &[u8], at: usize) -> Checked
     ensures { λ r. ⌜ checked r ≡ skipped (groupField ipv4 (now (m .entry)) at) ⌝ }
 {
@@ -43,22 +84,13 @@ pub fn group_check(m: &[u8], at: usize) -> Checked
     let Checked::Next(next) = f else {
         return f;
     };
-    if m[at] != 1 {
-        return bad(7, at);
+    if is_group(&m[at..next]) {
+        return Checked::Next(next);
     }
-    if m[at + 1] != 0 {
-        return bad(7, at);
-    }
-    if m[at + 3] != 32 {
-        return bad(7, at);
-    }
-    if m[at + 4] / 16 != 14 {
-        return bad(7, at);
-    }
-    Checked::Next(next)
+    bad(7, at)
 }
 
-// A source is there and allowed: 01, 00, an address, which may be 0 where the record allows it.
+// A source is there and allowed.
 pub fn source_check(m: &[u8], at: usize, zero_allowed: bool) -> Checked
     ensures { λ r. ⌜ checked r ≡ skipped (sourceField ipv4 «zero_allowed» (now (m .entry)) at) ⌝ }
 {
@@ -66,19 +98,10 @@ pub fn source_check(m: &[u8], at: usize, zero_allowed: bool) -> Checked
     let Checked::Next(next) = f else {
         return f;
     };
-    if m[at] != 1 {
-        return bad(7, at);
-    }
-    if m[at + 1] != 0 {
-        return bad(7, at);
-    }
-    if zero_allowed {
+    if is_source(&m[at..next], zero_allowed) {
         return Checked::Next(next);
     }
-    if number32(&m[at + 2..at + 6], 0) == 0 {
-        return bad(7, at);
-    }
-    Checked::Next(next)
+    bad(7, at)
 }
 
 // The place that a record hands up: its own first octet.

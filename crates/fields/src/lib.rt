@@ -10,6 +10,8 @@ pub use field::Checked;
 pub use field::bad;
 pub use field::group_check;
 pub use field::in_record;
+pub use field::is_group;
+pub use field::is_source;
 pub use field::octets_check;
 pub use field::source_check;
 pub use record::Single;

@@ -1,0 +1,63 @@
+-- `fields::field::is_source` meets its contract: of six octets, its tests are those of `sourceTest`, which `source-form` makes the definition's.
+-- Assumes nothing.
+use mathlib.Core.Path.{_≡_}
+use mathlib.Core.Bool.{_&&_}
+use borrow.Author.Tests.{eq-eqb, ne-eqb}
+use borrow.Author.Needs.{needs}
+use denote.Ref.{now}
+use lib.Dec.{eqb}
+use lib.ListN.{length}
+use Rattle.format.specs.Family.{ipv4}
+use Rattle.format.specs.Address.{sourceForm}
+use Rattle.fields.proofs.Fields.{sourceTest, source-form}
+use Rattle.fields.proofs.field.is_source.Statement.{statement}
+use Rattle.fields.proofs.field.is_source.Tie as tie
+
+-- what is asked of six octets
+asked : (c : tie.Else1)
+    → (eqb (length (now (c .before .before .args .s))) 6 && sourceForm ipv4 (c .before .before .args .zero-allowed) (now (c .before .before .args .s)))
+    ≡ sourceTest (c .before .before .args .zero-allowed) (now (c .before .before .args .s))
+asked c =
+    let a = c .before .before .args in
+    rw (eq-eqb _ _ (c .if1 .left)) (source-form (a .zero-allowed) (now (a .s)) (c .if1 .left))
+
+returns : tie.Need-returns
+returns c = rw (ne-eqb _ _ (c .if1 .taken))
+
+shared-slice-read-if2 : tie.Need-shared-slice-read-if2
+shared-slice-read-if2 c = search needs
+
+returns-2 : tie.Need-returns-2
+returns-2 c = rw (asked (c .before .before), ne-eqb _ _ (c .if2 .taken))
+
+shared-slice-read-if3 : tie.Need-shared-slice-read-if3
+shared-slice-read-if3 c = search needs
+
+returns-3 : tie.Need-returns-3
+returns-3 c = rw (asked (c .before .before .before .before), eq-eqb _ _ (c .before .before .if2 .left), ne-eqb _ _ (c .if3 .taken))
+
+returns-4 : tie.Need-returns-4
+returns-4 c =
+    let d = c .before .before .before in
+    rw (asked (d .before .before), eq-eqb _ _ (d .if2 .left), eq-eqb _ _ (c .before .if3 .left), c .if4 .taken)
+
+number32-requires : tie.Need-number32-requires
+number32-requires c κs = search needs
+
+returns-5 : tie.Need-returns-5
+returns-5 c =
+    let d = c .before .before .before .before in
+    rw (asked (d .before .before), eq-eqb _ _ (d .if2 .left), eq-eqb _ _ (c .before .before .if3 .left), c .before .if4 .left, c .number32 .ensures)
+
+pub is-source-spec : {M : Type 1} → statement M
+is-source-spec =
+    tie.close
+    (tie.spec
+    returns
+    shared-slice-read-if2
+    returns-2
+    shared-slice-read-if3
+    returns-3
+    returns-4
+    number32-requires
+    returns-5)
