@@ -1,2 +1,3 @@
+pub mod Addresses
 pub mod Bodies
 pub mod Tallied

@@ -1,11 +1,12 @@
 -- How many entries octets stand for: the first pass of a reading call counts and writes nothing.
 --     counted, tallied              a count and the next place, and what a reader comes to with its value counted
 --     groupCount .. recordsCount    entries of a group record, of group records, of an aggregated record, of several
---     addressField                  a group, or a source of a group record
+--     addressField .. addressForm   a group, or a source of a group record: how many octets it is, and whether they are allowed
+--     wholeAddresses                how many of them are there whole
 --     entryCount, sum               entries of a record of either sort, and of several
 --     someRecord, packedStart       "no record" is found where the first should be; what comes before the records of a packed message
 -- Assumes nothing: these are definitions.
-use Prim.Native.Nat.{ℕ, _+_}
+use Prim.Native.Nat.{ℕ, _+_, _-_, _/_, min}
 use mathlib.Core.Bool.{Bool, true, cond}
 use mathlib.Core.List.{List, [], _∷_}
 use lib.ListN.{length}
@@ -13,7 +14,7 @@ use lib.Dec.{leb}
 use Rattle.records.specs.Records.{GroupRecord, AggregatedRecord, groupEntries, allGroupEntries, entries, allEntries}
 use Rattle.format.specs.Reader.{Read, Reader, got, bad, _>>_}
 use Rattle.format.specs.Family.{ipv4}
-use Rattle.format.specs.Address.{groupField, sourceField}
+use Rattle.format.specs.Address.{groupForm, groupField, sourceForm, sourceField}
 use Rattle.format.specs.Record.{aggregatedRecord, recordAt}
 use Rattle.format.specs.declared.Kind.{Kind}
 use Rattle.format.specs.Body.{zeroReserved}
@@ -42,6 +43,16 @@ recordsCount rs = length (allEntries rs)
 
 unfoldable pub addressField : Bool → Reader ℕ
 addressField isGroup = cond isGroup (groupField ipv4) (sourceField ipv4 true)
+
+unfoldable pub addressSize : Bool → ℕ
+addressSize isGroup = cond isGroup 8 6
+
+unfoldable pub addressForm : Bool → List ℕ → Bool
+addressForm isGroup = cond isGroup (groupForm ipv4) (sourceForm ipv4 true)
+
+-- of n addresses, those whose octets are there from a place on
+unfoldable pub wholeAddresses : Bool → List ℕ → ℕ → ℕ → ℕ
+wholeAddresses isGroup o at n = min n ((length o - at) / addressSize isGroup)
 
 -- the entries of the record at a place: of an aggregated one, or one of a kind whose records have one length
 unfoldable pub entryCount : Bool → Kind → Reader ℕ

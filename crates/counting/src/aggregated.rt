@@ -3,16 +3,19 @@ use fields::Checked;
 use fields::bad;
 use fields::group_check;
 use fields::in_record;
+use fields::is_source;
 use fields::octets_check;
 use fields::source_check;
 use format::Refusal;
 use octets::number16;
 ghost use mathlib.Core.Path.{_≡_};
+ghost use Prim.Native.Nat.{_+_, _≤_};
+ghost use lib.ListN.{length, take, drop};
 ghost use Rattle.format.specs.Reader.{times};
 ghost use Rattle.format.specs.Family.{ipv4};
 ghost use Rattle.format.specs.Record.{positive, groupRecord, sourceAggregated, rpAggregated, aggregatedFields, aggregatedRecord};
 ghost use Rattle.fields.specs.Answers.{checked, skipped};
-ghost use Rattle.counting.specs.Counts.{addressField, counted, tallied, groupCount, groupsCount, recordCount};
+ghost use Rattle.counting.specs.Counts.{addressSize, addressForm, addressField, wholeAddresses, counted, tallied, groupCount, groupsCount, recordCount};
 
 // What counting finds.
 pub enum Counted {
@@ -21,29 +24,60 @@ pub enum Counted {
     Bad(Refusal),
 }
 
-// A group, or a source of a group record.
-fn address_check(m: &[u8], at: usize, is_group: bool) -> Checked
-    ensures { λ r. ⌜ checked r ≡ skipped (addressField «is_group» (now (m .entry)) at) ⌝ }
+// The octets of a group, or of a source.
+fn address_size(is_group: bool) -> usize
+    ensures { λ r. ⌜ r ≡ addressSize «is_group» ⌝ }
 {
     if is_group {
-        return group_check(m, at);
+        return 8;
     }
-    source_check(m, at, true)
+    6
 }
 
-// n of them, one after another.
+// How many of n groups, or of n sources, are there whole from a place on.
+fn whole_addresses(m: &[u8], from: usize, n: usize, is_group: bool) -> usize
+    ensures { λ r. ⌜ r ≡ wholeAddresses «is_group» (now (m .entry)) from n ⌝ }
+{
+    if m.len() < from {
+        return 0;
+    }
+    let left = m.len() - from;
+    let there = if is_group { left / 8 } else { left / 6 };
+    if there < n {
+        return there;
+    }
+    n
+}
+
+// A group that is there is allowed, or a source of a group record. The parts are of a length that the compiler knows.
+fn address_allowed(m: &[u8], at: usize, is_group: bool) -> bool
+    requires { ⌜ at + addressSize «is_group» ≤ length (now m) ⌝ }
+    ensures { λ r. ⌜ r ≡ addressForm «is_group» (take (addressSize «is_group») (drop at (now (m .entry)))) ⌝ }
+{
+    if is_group {
+        return fields::is_group(&m[at..at + 8]);
+    }
+    is_source(&m[at..at + 6], true)
+}
+
+// n groups, or n sources of a group record, one after another: the form of those that are there whole can be at fault, and
+// past them the octets end.
 fn addresses_check(m: &[u8], from: usize, n: usize, is_group: bool) -> Checked
     ensures { λ r. ⌜ checked r ≡ skipped (times n (addressField «is_group») (now (m .entry)) from) ⌝ }
 {
+    let size = address_size(is_group);
+    let whole = whole_addresses(m, from, n, is_group);
     let mut at = from;
     let mut i = 0;
-    while i < n {
-        let c = address_check(m, at, is_group);
-        let Checked::Next(next) = c else {
-            return c;
-        };
-        at = next;
+    while i < whole {
+        if !address_allowed(m, at, is_group) {
+            return bad(7, at);
+        }
+        at += size;
         i += 1;
+    }
+    if i < n {
+        return bad(6, at);
     }
     Checked::Next(at)
 }

@@ -1,44 +1,66 @@
--- `counting::aggregated::addresses_check` meets its contract. The loop's invariant: those that are left, from here on, give what all of them give.
--- The measure is how many are left. Assumes nothing.
-use Prim.Native.Nat.{_-_, _≤_}
+-- `counting::aggregated::addresses_check` meets its contract. The loop's invariant: those that are left, from here on, give what all of them give,
+-- and so many of them are there whole. The measure is how many of these are left. Assumes nothing.
+use Prim.Native.Nat.{_+_, _-_, _≤_, _<_}
 use native.Mathlib.Nat.{sub-zero}
 use native.Mathlib.Omega.{arith}
-use mathlib.Core.Path.{_≡_, _∙_}
+use mathlib.Core.Path.{_≡_, refl, sym, ap, _∙_}
 use denote.Ref.{now}
 use borrow.Author.Needs.{needs}
+use borrow.Author.Tests.{not-true, not-false}
+use lib.ListN.{length}
 use Rattle.format.specs.Reader.{times}
 use Rattle.fields.specs.Answers.{checked, skipped}
-use Rattle.counting.specs.Counts.{addressField}
+use Rattle.fields.proofs.Fields.{form-no, form-yes}
+use Rattle.counting.specs.Counts.{addressField, addressSize, wholeAddresses}
+use Rattle.counting.proofs.Addresses.{whole-room, whole-next, whole-cut, address-is, address-short}
 use Rattle.counting.proofs.Tallied.{times-bad, times-on, times-end}
 use Rattle.counting.proofs.aggregated.addresses_check.Statement.{statement}
 use Rattle.counting.proofs.aggregated.addresses_check.Tie as tie
 
 abbrev Inv-loop : tie.InvT-loop
-Inv-loop m from n is-group at₀ i₀ at i =
-    (i ≤ n) × (skipped (times (n - i) (addressField is-group) m at) ≡ skipped (times n (addressField is-group) m from))
+Inv-loop m from n is-group size whole at₀ i₀ at i =
+    (whole - i ≡ wholeAddresses is-group m at (n - i)) × (skipped (times (n - i) (addressField is-group) m at) ≡ skipped (times n (addressField is-group) m from))
 
 abbrev μ-loop : tie.MeasureT-loop
-μ-loop m from n is-group at₀ i₀ at i = n - i
+μ-loop m from n is-group size whole at₀ i₀ at i = whole - i
+
+abbrev start : tie.At-loop Inv-loop μ-loop → tie.Start Inv-loop μ-loop
+start l = l .before .before .before .before
+
+-- the next is due, and there
+room : (c : tie.In-loop Inv-loop μ-loop)
+    → (c .before .loop .i < start (c .before) .args .n) × (c .before .loop .at + addressSize (start (c .before) .args .is-group) ≤ length (now (start (c .before) .args .m)))
+room c =
+    let l = c .before in
+    let a = start l .args in
+    whole-room (now (a .m)) (l .loop .at) (a .n) (l .before .whole-addresses .result) (l .loop .i) (a .is-group) (l .loop .inv .0) (c .loop-test .taken)
+
+address-size-requires : tie.Need-address-size-requires Inv-loop μ-loop
+address-size-requires c κs = search needs
+
+whole-addresses-requires : tie.Need-whole-addresses-requires Inv-loop μ-loop
+whole-addresses-requires c κs = search needs
 
 loop-holds : tie.Need-loop-holds Inv-loop μ-loop
-loop-holds c = (omega arith, rw sub-zero)
+loop-holds c = (simp sub-zero (c .whole-addresses .ensures), rw sub-zero)
 
-address-check-requires : tie.Need-address-check-requires Inv-loop μ-loop
-address-check-requires c κs = search needs
+address-allowed-requires : tie.Need-address-allowed-requires Inv-loop μ-loop
+address-allowed-requires c κs = room c .1
 
-enum-known-c : tie.Need-enum-known-c Inv-loop μ-loop
-enum-known-c c = search needs
-
-enum-told : tie.Need-enum-told Inv-loop μ-loop
-enum-told c = search needs
+bad-requires : tie.Need-bad-requires Inv-loop μ-loop
+bad-requires c κs = search needs
 
 returns : tie.Need-returns Inv-loop μ-loop
 returns c =
-    let l = c .before .before .before .before in
-    let a = l .before .before .args in
-    times-bad (addressField (a .is-group)) (now (a .m)) (l .loop .at) (a .n) (l .loop .i) (c .before .before .before .loop-test .taken) (c .enum-told .given .1)
-    (c .before .before .address-check .ensures)
+    let d = c .before .before in
+    let l = d .before .before in
+    let a = start l .args in
+    times-bad (addressField (a .is-group)) (now (a .m)) (l .loop .at) (a .n) (l .loop .i) (room (d .before) .0) (c .bad .ensures)
+    (form-no (address-is (a .is-group) (now (a .m)) (l .loop .at) (room (d .before) .1)) (c .bad .ensures) (sym (d .address-allowed .ensures) ∙ not-true _ (c .before .if1 .taken)))
     ∙ l .loop .inv .1
+
+add-at : tie.Need-add-at Inv-loop μ-loop
+add-at c = omega (arith, room (c .before .before), c .before .before .before .before .before .address-size .ensures)
 
 add-i : tie.Need-add-i Inv-loop μ-loop
 add-i c = search needs
@@ -48,20 +70,34 @@ loop-less c = search needs
 
 loop-again : tie.Need-loop-again Inv-loop μ-loop
 loop-again c =
-    let l = c .before .before .before .before .before in
-    let a = l .before .before .args in (
-      omega arith,
-      times-on (addressField (a .is-group)) (now (a .m)) (l .loop .at) (a .n) (l .loop .i) (c .before .before .before .before .loop-test .taken) (c .before .c .given .1)
-          (c .before .before .before .address-check .ensures)
+    let d = c .before in
+    let l = d .before .before in
+    let a = start l .args in
+    let size-is = l .before .before .address-size .ensures in (
+      whole-next (now (a .m)) (l .loop .at) (a .n) (l .before .whole-addresses .result) (l .loop .i) (a .is-group) size-is (l .loop .inv .0),
+      times-on (addressField (a .is-group)) (now (a .m)) (l .loop .at) (a .n) (l .loop .i) (room (d .before) .0) refl
+          (form-yes (address-is (a .is-group) (now (a .m)) (l .loop .at) (room (d .before) .1)) (ap (λ s. l .loop .at + s) size-is) (sym (d .address-allowed .ensures) ∙ not-false _ (c .if1 .left)))
           ∙ l .loop .inv .1,
     )
 
+bad-requires-2 : tie.Need-bad-requires-2 Inv-loop μ-loop
+bad-requires-2 c κs = search needs
+
 returns-2 : tie.Need-returns-2 Inv-loop μ-loop
-unfolding checked skipped
 returns-2 c =
-    let l = c .before in
-    let a = l .before .before .args in
-    rw (times-end (addressField (a .is-group)) (now (a .m)) (l .loop .at) (a .n) (l .loop .i) (c .loop-test .left)) at (l .loop .inv .1)
+    let l = c .before .before .before in
+    let a = start l .args in
+    let cut = whole-cut (now (a .m)) (l .loop .at) (a .n) (l .before .whole-addresses .result) (l .loop .i) (a .is-group) (l .loop .inv .0) (c .before .before .loop-test .left) (c .before .if2 .taken) in
+    times-bad (addressField (a .is-group)) (now (a .m)) (l .loop .at) (a .n) (l .loop .i) (c .before .if2 .taken) (c .bad2 .ensures)
+    (address-short (a .is-group) (now (a .m)) (l .loop .at) cut (c .bad2 .ensures))
+    ∙ l .loop .inv .1
+
+returns-3 : tie.Need-returns-3 Inv-loop μ-loop
+unfolding checked skipped
+returns-3 c =
+    let l = c .before .before in
+    let a = start l .args in
+    rw (times-end (addressField (a .is-group)) (now (a .m)) (l .loop .at) (a .n) (l .loop .i) (c .if2 .left)) at (l .loop .inv .1)
 
 pub addresses-check-spec : {M : Type 1} → statement M
 addresses-check-spec =
@@ -69,12 +105,16 @@ addresses-check-spec =
     (tie.spec
     Inv-loop
     μ-loop
+    address-size-requires
+    whole-addresses-requires
     loop-holds
-    address-check-requires
-    enum-known-c
-    enum-told
+    address-allowed-requires
+    bad-requires
     returns
+    add-at
     add-i
     loop-less
     loop-again
-    returns-2)
+    bad-requires-2
+    returns-2
+    returns-3)

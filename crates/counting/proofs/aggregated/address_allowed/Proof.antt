@@ -1,0 +1,83 @@
+-- `counting::aggregated::address_allowed` meets its contract: the part is of the octets that the contract names. Assumes nothing.
+use Prim.Native.Nat.{_+_, _≤_}
+use mathlib.Core.Path.{refl, _∙_}
+use mathlib.Core.Bool.{true}
+use borrow.Author.Needs.{needs}
+use denote.Ref.{now}
+use lib.ListN.{length}
+use Rattle.format.specs.Family.{ipv4}
+use Rattle.format.specs.Address.{groupForm, sourceForm}
+use Rattle.fields.proofs.Fields.{part-form}
+use Rattle.counting.specs.Counts.{addressSize, addressForm}
+use Rattle.counting.proofs.aggregated.address_allowed.Statement.{statement}
+use Rattle.counting.proofs.aggregated.address_allowed.Tie as tie
+
+-- the octets of a group are there
+group-room : (c : tie.Then1) → c .before .before .args .at + 8 ≤ length (now (c .before .before .args .m))
+unfolding addressSize
+group-room c = rw (c .if1 .taken) at (c .before .before .pre)
+
+source-room : (c : tie.Else1) → c .before .before .args .at + 6 ≤ length (now (c .before .before .args .m))
+unfolding addressSize
+source-room c = rw (c .if1 .left) at (c .before .before .pre)
+
+add-is-group : tie.Need-add-is-group
+add-is-group c = search needs
+
+sub-is-group : tie.Need-sub-is-group
+sub-is-group c = search needs
+
+part-is-group-start : tie.Need-part-is-group-start
+part-is-group-start c = search needs
+
+part-is-group-end : tie.Need-part-is-group-end
+part-is-group-end c = group-room c
+
+is-group-requires : tie.Need-is-group-requires
+is-group-requires c κs = search needs
+
+returns : tie.Need-returns
+unfolding addressSize addressForm
+returns c =
+    let d = c .before .before in
+    let a = d .before .before .args in
+    rw (d .if1 .taken) (c .is-group .ensures ∙ part-form 8 (groupForm ipv4) (now (a .m)) (a .at) (a .at + 8) refl (group-room d))
+
+add-is-source : tie.Need-add-is-source
+add-is-source c = search needs
+
+sub-is-source : tie.Need-sub-is-source
+sub-is-source c = search needs
+
+part-is-source-start : tie.Need-part-is-source-start
+part-is-source-start c = search needs
+
+part-is-source-end : tie.Need-part-is-source-end
+part-is-source-end c = source-room c
+
+is-source-requires : tie.Need-is-source-requires
+is-source-requires c κs = search needs
+
+returns-2 : tie.Need-returns-2
+unfolding addressSize addressForm
+returns-2 c =
+    let d = c .before .before in
+    let a = d .before .before .args in
+    rw (d .if1 .left) (c .is-source .ensures ∙ part-form 6 (sourceForm ipv4 true) (now (a .m)) (a .at) (a .at + 6) refl (source-room d))
+
+pub address-allowed-spec : {M : Type 1} → statement M
+address-allowed-spec =
+    tie.close
+    (tie.spec
+    add-is-group
+    sub-is-group
+    part-is-group-start
+    part-is-group-end
+    is-group-requires
+    returns
+    add-is-source
+    sub-is-source
+    part-is-source-start
+    part-is-source-end
+    is-source-requires
+    returns-2)
