@@ -15,8 +15,6 @@ pub use field::is_source;
 pub use field::octets_check;
 pub use field::source_check;
 pub use record::Single;
-pub use record::assert_at;
 pub use record::assert_check;
-pub use record::pair_at;
 pub use record::read_record;
 pub use record::record_check;

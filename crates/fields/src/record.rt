@@ -81,7 +81,7 @@ pub fn record_check(kind: Kind, m: &[u8], at: usize) -> Checked
 
 // The numbers of an assert record that is there; of one that is cut, those of the octets that are there. Past the end
 // there is none, and `at + 18` could wrap.
-pub fn assert_at(m: &[u8], at: usize) -> AssertFields
+fn assert_at(m: &[u8], at: usize) -> AssertFields
     ensures { λ r. ⌜ assertOf r ≡ plainAssert (now (m .entry)) at ⌝ }
 {
     if m.len() < at {
@@ -101,7 +101,7 @@ pub fn assert_at(m: &[u8], at: usize) -> AssertFields
 }
 
 // The same for a pair.
-pub fn pair_at(m: &[u8], at: usize) -> PairFields
+fn pair_at(m: &[u8], at: usize) -> PairFields
     ensures { λ r. ⌜ pairOf r ≡ plainPair (now (m .entry)) at ⌝ }
 {
     if m.len() < at {
