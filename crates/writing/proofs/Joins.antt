@@ -112,7 +112,7 @@ pub record RunThere (r : Run) (o d : List ℕ) (left at out k : ℕ) : Type 0 wh
   pub there : at + 16 * k ≤ length o
   pub room : out + length (oneOf r (asserts o at k)) ≤ length d
 
-nothing : (r : Run) → allOf r [] ≡ []
+pub nothing : (r : Run) → allOf r [] ≡ []
 unfolding allOf joined allGroupRecords runs each
 nothing Aggregated = refl
 nothing Group = refl

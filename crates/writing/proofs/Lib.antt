@@ -4,3 +4,4 @@ pub mod Fitting
 pub mod Joins
 pub mod Aggregating
 pub mod Packs
+pub mod Limits

@@ -2,8 +2,9 @@
 --     oneOf, allOf, numberOf           the octets of one run, of all runs of some entries, and how many runs there are
 --     addressSize, addressOctets       the group or the source of an entry
 --     sourcesIn                        how many sources a group record has
+--     MostWithin                       the most entries whose octets fit into a room
 -- Assumes nothing: these are definitions.
-use Prim.Native.Nat.{ℕ, _+_}
+use Prim.Native.Nat.{ℕ, suc, _+_, _≤_, _<_}
 use mathlib.Core.Bool.{_&&_, cond}
 use mathlib.Core.List.{List, [], _∷_, map}
 use lib.ListN.{length}
@@ -15,7 +16,7 @@ use Rattle.format.specs.Family.{ipv4}
 use Rattle.format.specs.Address.{groupOctets, sourceOctets}
 use Rattle.format.specs.Record.{each, groupRecordOctets, aggregatedOctets}
 use Rattle.octets.specs.Octets.{numberAt}
-use Rattle.joining.specs.Joins.{joins}
+use Rattle.joining.specs.Joins.{asserts, joins}
 use Rattle.joining.specs.declared.run.Run.{Run}
 use Rattle.joining.specs.declared.run.Run.the-variants.{Aggregated, Group as OfGroup}
 use Rattle.writing.specs.declared.aggregate.Address.{Address}
@@ -49,3 +50,11 @@ addressOctets Source e = sourceOctets ipv4 (e .source)
 -- "p=0 is written exactly for a group record of one entry with source 0"
 unfoldable pub sourcesIn : List ℕ → ℕ → ℕ → ℕ
 sourcesIn o at k = cond (eqb k 1 && eqb (numberAt 4 o (at + 4)) 0) 0 k
+
+-- ---- a room
+
+-- k of n entries fit, and if there is one more, that one does not
+pub record MostWithin (octetsOf : List AssertRecord → List ℕ) (o : List ℕ) (from n room k : ℕ) : Type 0 where
+  pub inside : k ≤ n
+  pub fits : length (octetsOf (asserts o from k)) ≤ room
+  pub full : k < n → room < length (octetsOf (asserts o from (suc k)))

@@ -80,7 +80,7 @@ fn put_addresses(
 }
 
 // A 16-bit number and two reserved octets.
-fn put_number(d: &mut [u8], at: usize, n: usize)
+pub(crate) fn put_number(d: &mut [u8], at: usize, n: usize)
     requires { ⌜ at + 4 ≤ length (now d) ⌝ }
     ensures { λ r. ⌜ now (d .exit) ≡ put (now (d .entry)) at (be 2 n & reserved2) ⌝ }
 {
@@ -105,7 +105,7 @@ fn number_of_sources(e: &[u8], from: usize, k: usize) -> usize
 }
 
 // The group record of k entries of one group.
-fn put_group_record(e: &[u8], from: usize, k: usize, d: &mut [u8], out: usize) -> usize
+pub(crate) fn put_group_record(e: &[u8], from: usize, k: usize, d: &mut [u8], out: usize) -> usize
     requires { ⌜ (0 < k) × (from + 16 * k ≤ length (now e)) × (out + length (oneOf Group (asserts (now e) from k)) ≤ length (now d)) ⌝ }
     ensures next { λ r. ⌜ r ≡ out + length (oneOf Group (asserts (now (e .entry)) from k)) ⌝ }
     ensures buffer { λ r. ⌜ now (d .exit) ≡ put (now (d .entry)) out (oneOf Group (asserts (now (e .entry)) from k)) ⌝ }
@@ -150,7 +150,13 @@ fn put_rp(e: &[u8], from: usize, k: usize, d: &mut [u8], out: usize) -> usize
 }
 
 // The source aggregated record of k entries.
-fn put_source_aggregated(e: &[u8], from: usize, k: usize, d: &mut [u8], out: usize) -> usize
+pub(crate) fn put_source_aggregated(
+    e: &[u8],
+    from: usize,
+    k: usize,
+    d: &mut [u8],
+    out: usize,
+) -> usize
     requires { ⌜ (0 < k) × (from + 16 * k ≤ length (now e)) × (rBit (numberAt 4 (now e) (from + 8)) ≡ false) × (out + length (oneOf Aggregated (asserts (now e) from k)) ≤ length (now d)) ⌝ }
     ensures next { λ r. ⌜ r ≡ out + length (oneOf Aggregated (asserts (now (e .entry)) from k)) ⌝ }
     ensures buffer { λ r. ⌜ now (d .exit) ≡ put (now (d .entry)) out (oneOf Aggregated (asserts (now (e .entry)) from k)) ⌝ }

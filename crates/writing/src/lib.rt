@@ -4,6 +4,7 @@
 // entry.rt         entries by the kind of message: their size
 // record.rt        records of one length
 // aggregate.rt     aggregated records, run by run
+// within.rt        the most aggregated records within a limit
 // message.rt       a whole message: what begins it, the records, the checksum
 // most.rt          the most entries that fit, and their message
 mod aggregate;
@@ -11,6 +12,7 @@ mod entry;
 mod message;
 mod most;
 mod record;
+mod within;
 
 pub use entry::entry_size;
 pub use most::Written;
