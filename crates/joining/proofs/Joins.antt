@@ -1,7 +1,7 @@
 -- Entries that are joined, and where a run of them ends.
 --     together-is             two entries are joined, by their octets
 --     Counting                where a loop that looks for the end of a run stands: count-start, count-there, count-stop, count-next, count-end
---     room-same, run-some, fit-some      what the calls answer where entries are there
+--     room-same, run-some     what the calls answer where entries are there
 -- Assumes nothing.
 use Prim.Native.Nat.{ℕ, zero, suc, _+_, _-_, _*_, _/_, _≤_, _<_}
 use native.Mathlib.Omega.{arith}
@@ -17,10 +17,9 @@ use Rattle.records.specs.Runs.{leading}
 use Rattle.records.specs.Joining.{together}
 use Rattle.format.specs.Family.{ipv4}
 use Rattle.format.specs.Entry.{assertAt, entriesAt}
-use Rattle.joining.specs.Joins.{asserts, joins, runLength, firstRun, fittingMost}
+use Rattle.joining.specs.Joins.{asserts, joins, runLength, firstRun}
 use Rattle.joining.specs.declared.run.Run.{Run}
 use borrow.Author.Tests.{lt-ltb, le-leb, lt-leb}
-use Rattle.format.specs.Packing.{leastLimit, aggregated, taken}
 
 pub together-is : (o : List ℕ) (a b : ℕ) → together (assertAt ipv4 o a) (assertAt ipv4 o b)
     ≡ (eqb (numberAt 4 o (a + 8)) (numberAt 4 o (b + 8)) && eqb (numberAt 4 o (a + 12)) (numberAt 4 o (b + 12)) && (rBit (numberAt 4 o (a + 8)) || eqb (numberAt 4 o (a + 4)) (numberAt 4 o (b + 4))))
@@ -83,7 +82,3 @@ room-same length from n h = go (decLe (from + 16 * n) length)
 pub run-some : (r : Run) (o : List ℕ) (at n : ℕ) → 0 < n → at + 16 * n ≤ length o → firstRun r o at n ≡ runLength r o at n
 unfolding firstRun
 run-some r o at n h there = rw (lt-ltb 0 n h, le-leb _ _ there)
-
-pub fit-some : (o : List ℕ) (from n limit : ℕ) → 38 ≤ limit → limit ≤ 65515 → from + 16 * n ≤ length o → fittingMost o from n limit ≡ taken (aggregated ipv4) limit (asserts o from n)
-unfolding fittingMost leastLimit
-fit-some o from n limit low high there = rw (le-leb _ _ low, le-leb _ _ high, le-leb _ _ there)

@@ -1,3 +1,2 @@
 pub mod Listed
 pub mod Joins
-pub mod Tallies

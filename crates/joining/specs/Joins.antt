@@ -1,9 +1,7 @@
--- Entries joined and tallied, in IPv4.
+-- Entries joined, in IPv4.
 --     asserts                  entries that stand one after another
 --     joins                    which neighbours are in one run
 --     runLength, firstRun      how many entries the first run has, and what a call answers
---     tallyOf                  a tally of octets
---     fittingMost              how many entries fit, and what a call answers
 -- Assumes nothing: these are definitions.
 use Prim.Native.Nat.{ℕ, suc, _+_, _-_, _*_}
 use mathlib.Core.Bool.{Bool, _&&_, cond}
@@ -12,15 +10,11 @@ use lib.ListN.{length}
 use lib.Dec.{leb, ltb}
 use Rattle.records.specs.Records.{AssertRecord}
 use Rattle.records.specs.Runs.{leading}
-use Rattle.records.specs.Tally.{Tally, tally}
 use Rattle.records.specs.Joining.{together, sameGroup}
 use Rattle.format.specs.Family.{ipv4}
-use Rattle.format.specs.Header.{longest}
 use Rattle.format.specs.Entry.{assertAt, assertEntries, entriesAt}
-use Rattle.format.specs.Packing.{leastLimit, aggregated, taken}
 use Rattle.joining.specs.declared.run.Run.{Run}
 use Rattle.joining.specs.declared.run.Run.the-variants.{Aggregated, Group as OfGroup}
-use Rattle.joining.specs.declared.tally.Tally.{Tally as TallyHere}
 
 abbrev pub asserts : List ℕ → ℕ → ℕ → List AssertRecord
 asserts o at n = entriesAt (assertEntries ipv4) o at n
@@ -35,10 +29,3 @@ runLength r o at n = suc (leading (joins r (assertAt ipv4 o at)) (asserts o (at 
 
 unfoldable pub firstRun : Run → List ℕ → ℕ → ℕ → ℕ
 firstRun r o at n = cond (ltb 0 n && leb (at + 16 * n) (length o)) (runLength r o at n) 0
-
-abbrev pub tallyOf : TallyHere → Tally
-tallyOf t = tally (t .closed) (t .zeros) (t .count)
-
-unfoldable pub fittingMost : List ℕ → ℕ → ℕ → ℕ → ℕ
-fittingMost o from n limit =
-    cond (leb (leastLimit ipv4) limit && (leb limit longest && leb (from + 16 * n) (length o))) (taken (aggregated ipv4) limit (asserts o from n)) 0

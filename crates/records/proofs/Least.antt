@@ -100,7 +100,7 @@ pub rp-cost : (w : ℕ) (e : AssertRecord) (es : List AssertRecord) → rBit (e 
 unfolding recordCost aggregatedSize groupsCost
 rp-cost w e es r = rw (aggregated-rp w e es r, group-runs-size)
 
-pub source-cost : (w : ℕ) (e : AssertRecord) (es : List AssertRecord) → rBit (e .rPreference) ≡ false
+source-cost : (w : ℕ) (e : AssertRecord) (es : List AssertRecord) → rBit (e .rPreference) ≡ false
     → recordCost w (run e es) ≡ 12 + (w + 2) + (w + 4) * length (e ∷ es)
 unfolding recordCost aggregatedSize
 source-cost w e es r = rw (aggregated-source w e es r, length-map)
@@ -125,7 +125,7 @@ unfolding allSize total recordCost
 run-sizes w [] = refl
 run-sizes w (r ∷ rs) = rw (run-sizes w rs)
 
-pub joined-size : (w : ℕ) (es : List AssertRecord) → allSize w (joined w es) ≡ total (recordCost w) (runs together es)
+joined-size : (w : ℕ) (es : List AssertRecord) → allSize w (joined w es) ≡ total (recordCost w) (runs together es)
 unfolding joined
 joined-size w es = run-sizes w (runs together es)
 

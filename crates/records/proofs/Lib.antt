@@ -4,7 +4,6 @@
 --     Joining      the tests by which entries are joined, and the records that a run becomes
 --     Lossless     joining loses nothing
 --     Least        the joined records take the fewest octets
---     Tally        a forward pass tallies the octets of the joined records
 --     Most         the largest number that passes a test
 --     Fewest       a train that takes the most at each step is the shortest
 pub mod Every
@@ -12,6 +11,5 @@ pub mod Runs
 pub mod Joining
 pub mod Lossless
 pub mod Least
-pub mod Tally
 pub mod Most
 pub mod Fewest

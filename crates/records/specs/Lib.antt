@@ -3,6 +3,5 @@ pub mod Records
 pub mod Runs
 pub mod Joining
 pub mod Sizes
-pub mod Tally
 pub mod Most
 pub mod Train

@@ -37,7 +37,7 @@ use Rattle.joining.specs.declared.run.Run.the-variants.{Aggregated, Group}
 use Rattle.joining.proofs.Listed.{take-entries, drop-at}
 use Rattle.joining.proofs.Joins.{run-some}
 use Rattle.writing.specs.Aggregates.{oneOf, allOf, numberOf, sourcesIn, MostWithin}
-use Rattle.writing.proofs.Joins.{run-range, all-first, number-first, nothing}
+use Rattle.writing.proofs.Joins.{run-range, all-first, number-first, all-none}
 use Rattle.writing.proofs.Aggregating.{group-long, sources-range, source-long, rp-long}
 
 -- ---- the first run of fewer entries
@@ -70,8 +70,7 @@ module _ (r : Run) (o : List ℕ) (at : ℕ) where
     over = omega arith
 
     pub one-run : allOf r (asserts o at k) ≡ oneOf r (asserts o at k)
-    unfolding entriesAt
-    one-run = all-first r o at k some ∙ rw (alone, over, nothing r) (append-nil _)
+    one-run = all-first r o at k some ∙ rw (alone, over, all-none r o (at + 16 * k)) (append-nil _)
 
     pub one-number : numberOf r (asserts o at k) ≡ 1
     unfolding entriesAt numberOf runs
@@ -167,10 +166,6 @@ module _ (o : List ℕ) (at : ℕ) where
   unfolding oneOf entriesAt
   one-none Aggregated = refl
   one-none Group = refl
-
-  pub all-none : (r : Run) → allOf r (asserts o at 0) ≡ []
-  unfolding entriesAt
-  all-none r = nothing r
 
   -- ---- the most entries of one run
 
@@ -299,9 +294,9 @@ within-start r o from n d₀ start limit there fits room = record {
   room = room;
   same = refl;
   fits = fits;
-  next = rw (nothing r) (omega arith);
-  buffer = rw (nothing r) (sym (put-nil d₀ start));
-  further = ended (record { octets = λ j h. rw (zero-add, nothing r); number = λ j h. rw (zero-add, zero-add) });
+  next = rw (all-none r o from) (omega arith);
+  buffer = rw (all-none r o from) (sym (put-nil d₀ start));
+  further = ended (record { octets = λ j h. rw (zero-add, all-none r o from); number = λ j h. rw (zero-add, zero-add) });
 }
 
 pub number-none : (r : Run) (o : List ℕ) (from : ℕ) → 0 ≡ numberOf r (asserts o from 0)

@@ -1,15 +1,12 @@
-// Aggregated records written run by run. The numbers of groups, of group records and of sources are those of the
-// run that is written. Nothing is tested here: each function knows that its entries are there and that what it
+// The parts of aggregated records, each for the entries of one run. The numbers of groups and of sources are those of
+// the run that is written. Nothing is tested here: each function knows that its entries are there and that what it
 // writes fits. Each answers the place past it.
 use crate::record::put_group;
 use crate::record::put_metric;
 use crate::record::put_source;
-use joining::Run;
-use joining::r_bit;
-use joining::run_length;
 use octets::number32;
 ghost use mathlib.Core.Path.{_≡_};
-ghost use mathlib.Core.Bool.{true, false};
+ghost use mathlib.Core.Bool.{false};
 ghost use Prim.Native.Nat.{_+_, _*_, _≤_, _<_};
 ghost use lib.ListN.{length};
 ghost use Rattle.octets.specs.Octets.{numberAt, put, be, _&_};
@@ -18,19 +15,13 @@ ghost use Rattle.format.specs.Family.{ipv4};
 ghost use Rattle.format.specs.Entry.{assertAt};
 ghost use Rattle.format.specs.Record.{each, reserved2};
 ghost use Rattle.joining.specs.Joins.{asserts};
-ghost use Rattle.writing.specs.Aggregates.{addressOctets, addressSize, sourcesIn, oneOf, allOf, numberOf};
+ghost use Rattle.writing.specs.Aggregates.{addressOctets, addressSize, sourcesIn, oneOf};
 ghost use Rattle.joining.specs.declared.run.Run.the-variants.{Aggregated, Group};
 
 // Which address of an entry.
 pub enum Address {
     Group,
     Source,
-}
-
-// Past the last group record, and how many there are.
-pub struct GroupRecords {
-    next: usize,
-    number: usize,
 }
 
 // The octets of an encoded address.
@@ -116,39 +107,6 @@ pub(crate) fn put_group_record(e: &[u8], from: usize, k: usize, d: &mut [u8], ou
     put_addresses(Address::Source, e, from, p, d, out + 12)
 }
 
-// The group records of n entries that share preference and metric.
-fn put_group_records(e: &[u8], from: usize, n: usize, d: &mut [u8], start: usize) -> GroupRecords
-    requires { ⌜ (from + 16 * n ≤ length (now e)) × (start + length (allOf Group (asserts (now e) from n)) ≤ length (now d)) ⌝ }
-    ensures next { λ r. ⌜ r .next ≡ start + length (allOf Group (asserts (now (e .entry)) from n)) ⌝ }
-    ensures number { λ r. ⌜ r .number ≡ numberOf Group (asserts (now (e .entry)) from n) ⌝ }
-    ensures buffer { λ r. ⌜ now (d .exit) ≡ put (now (d .entry)) start (allOf Group (asserts (now (e .entry)) from n)) ⌝ }
-{
-    let mut left = n;
-    let mut at = from;
-    let mut out = start;
-    let mut number = 0;
-    while 0 < left {
-        let k = run_length(Run::Group, e, at, left);
-        out = put_group_record(e, at, k, d, out);
-        at += 16 * k;
-        left -= k;
-        number += 1;
-    }
-    GroupRecords { next: out, number }
-}
-
-// The RP aggregated record of k entries.
-fn put_rp(e: &[u8], from: usize, k: usize, d: &mut [u8], out: usize) -> usize
-    requires { ⌜ (0 < k) × (from + 16 * k ≤ length (now e)) × (rBit (numberAt 4 (now e) (from + 8)) ≡ true) × (out + length (oneOf Aggregated (asserts (now e) from k)) ≤ length (now d)) ⌝ }
-    ensures next { λ r. ⌜ r ≡ out + length (oneOf Aggregated (asserts (now (e .entry)) from k)) ⌝ }
-    ensures buffer { λ r. ⌜ now (d .exit) ≡ put (now (d .entry)) out (oneOf Aggregated (asserts (now (e .entry)) from k)) ⌝ }
-{
-    let groups = put_group_records(e, from, k, d, out + 12);
-    put_metric(e, from, d, out);
-    put_number(d, out + 8, groups.number);
-    groups.next
-}
-
 // The source aggregated record of k entries.
 pub(crate) fn put_source_aggregated(
     e: &[u8],
@@ -165,34 +123,4 @@ pub(crate) fn put_source_aggregated(
     put_source(e, from + 4, d, out + 8);
     put_number(d, out + 14, k);
     put_addresses(Address::Group, e, from, k, d, out + 18)
-}
-
-// The aggregated record of k entries, by the R bit of the first.
-fn put_aggregated(e: &[u8], from: usize, k: usize, d: &mut [u8], out: usize) -> usize
-    requires { ⌜ (0 < k) × (from + 16 * k ≤ length (now e)) × (out + length (oneOf Aggregated (asserts (now e) from k)) ≤ length (now d)) ⌝ }
-    ensures next { λ r. ⌜ r ≡ out + length (oneOf Aggregated (asserts (now (e .entry)) from k)) ⌝ }
-    ensures buffer { λ r. ⌜ now (d .exit) ≡ put (now (d .entry)) out (oneOf Aggregated (asserts (now (e .entry)) from k)) ⌝ }
-{
-    if r_bit(e, from + 8) {
-        return put_rp(e, from, k, d, out);
-    }
-    put_source_aggregated(e, from, k, d, out)
-}
-
-// The aggregated records of n entries.
-pub(crate) fn put_all(e: &[u8], from: usize, n: usize, d: &mut [u8], start: usize) -> usize
-    requires { ⌜ (from + 16 * n ≤ length (now e)) × (start + length (allOf Aggregated (asserts (now e) from n)) ≤ length (now d)) ⌝ }
-    ensures next { λ r. ⌜ r ≡ start + length (allOf Aggregated (asserts (now (e .entry)) from n)) ⌝ }
-    ensures buffer { λ r. ⌜ now (d .exit) ≡ put (now (d .entry)) start (allOf Aggregated (asserts (now (e .entry)) from n)) ⌝ }
-{
-    let mut left = n;
-    let mut at = from;
-    let mut out = start;
-    while 0 < left {
-        let k = run_length(Run::Aggregated, e, at, left);
-        out = put_aggregated(e, at, k, d, out);
-        at += 16 * k;
-        left -= k;
-    }
-    out
 }

@@ -3,9 +3,9 @@
 //
 // entry.rt         entries by the kind of message: their size
 // record.rt        records of one length
-// aggregate.rt     aggregated records, run by run
+// aggregate.rt     aggregated records, each of one run
 // within.rt        the most aggregated records within a limit
-// message.rt       a whole message: what begins it, the records, the checksum
+// message.rt       what begins a message, and its checksum
 // most.rt          the most entries that fit, and their message
 mod aggregate;
 mod entry;

@@ -1,17 +1,13 @@
-// A whole message in place: what begins it, with the checksum as 0, the records, and the checksum last.
-use crate::aggregate::put_all;
-use crate::record::put_records;
+// What begins a message, with the checksum as 0, and the checksum, which is written last.
 use format::Kind;
 ghost use mathlib.Core.Path.{_≡_};
 ghost use mathlib.Core.List.{[], _∷_};
-ghost use Prim.Native.Nat.{_+_, _*_, _≤_};
+ghost use Prim.Native.Nat.{_+_, _≤_};
 ghost use lib.ListN.{length, take};
 ghost use Rattle.octets.specs.Octets.{put, be};
 ghost use Rattle.checksum.specs.Sum.{checksum as checksumOf};
 ghost use Rattle.format.specs.Header.{octet0 as octet0Of, octet1 as octet1Of};
-ghost use Rattle.format.specs.Entry.{entriesAt};
-ghost use Rattle.format.specs.Packing.{canonical};
-ghost use Rattle.writing.specs.Kinds.{entriesFor, formFor, isAggregated, recordsFor, headSize, beginning, Packs};
+ghost use Rattle.writing.specs.Kinds.{isAggregated, headSize, beginning};
 
 // Version 2 and the type.
 fn octet0(kind: Kind) -> u8
@@ -67,7 +63,7 @@ fn put_zeros(d: &mut [u8], at: usize)
 }
 
 // The beginning of a message, and its size.
-fn begin(kind: Kind, d: &mut [u8]) -> usize
+pub(crate) fn begin(kind: Kind, d: &mut [u8]) -> usize
     requires { ⌜ headSize kind ≤ length (now d) ⌝ }
     ensures size { λ r. ⌜ r ≡ headSize kind ⌝ }
     ensures buffer { λ r. ⌜ now (d .exit) ≡ put (now (d .entry)) 0 (beginning kind) ⌝ }
@@ -84,7 +80,7 @@ fn begin(kind: Kind, d: &mut [u8]) -> usize
 }
 
 // The checksum of a message of n octets, into its field.
-fn seal(d: &mut [u8], n: usize)
+pub(crate) fn seal(d: &mut [u8], n: usize)
     requires { ⌜ (4 ≤ n) × (n ≤ length (now d)) ⌝ }
     ensures { λ r. ⌜ now (d .exit) ≡ put (now (d .entry)) 2 (be 2 (checksumOf (take n (now (d .entry))))) ⌝ }
 {
@@ -105,28 +101,4 @@ pub(crate) fn is_aggregated(kind: Kind) -> bool
         Kind::NullRegister => false,
         Kind::RegisterStop => false,
     }
-}
-
-// The records of n entries, and the place past them.
-fn put_body(kind: Kind, e: &[u8], from: usize, n: usize, d: &mut [u8], out: usize) -> usize
-    requires { ⌜ (from + entriesFor kind .size * n ≤ length (now e)) × (out + length (recordsFor kind (entriesAt (entriesFor kind) (now e) from n)) ≤ length (now d)) ⌝ }
-    ensures next { λ r. ⌜ r ≡ out + length (recordsFor kind (entriesAt (entriesFor kind) (now (e .entry)) from n)) ⌝ }
-    ensures buffer { λ r. ⌜ now (d .exit) ≡ put (now (d .entry)) out (recordsFor kind (entriesAt (entriesFor kind) (now (e .entry)) from n)) ⌝ }
-{
-    if is_aggregated(kind) {
-        return put_all(e, from, n, d, out);
-    }
-    put_records(kind, e, from, n, d, out)
-}
-
-// The message of n entries, and its length.
-pub(crate) fn write_message(kind: Kind, e: &[u8], from: usize, n: usize, d: &mut [u8]) -> usize
-    requires { ⌜ Packs kind × (from + entriesFor kind .size * n ≤ length (now e)) × (length (canonical (formFor kind) (entriesAt (entriesFor kind) (now e) from n)) ≤ length (now d)) ⌝ }
-    ensures size { λ r. ⌜ r ≡ length (canonical (formFor kind) (entriesAt (entriesFor kind) (now (e .entry)) from n)) ⌝ }
-    ensures buffer { λ r. ⌜ now (d .exit) ≡ put (now (d .entry)) 0 (canonical (formFor kind) (entriesAt (entriesFor kind) (now (e .entry)) from n)) ⌝ }
-{
-    let head = begin(kind, d);
-    let size = put_body(kind, e, from, n, d, head);
-    seal(d, size);
-    size
 }

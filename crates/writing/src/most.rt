@@ -1,19 +1,22 @@
 // The most of some entries that fit into one message, and that message.
 use crate::entry::entry_size;
+use crate::message::begin;
 use crate::message::head_size;
 use crate::message::is_aggregated;
-use crate::message::write_message;
+use crate::message::seal;
+use crate::record::put_records;
+use crate::within::Fitted;
+use crate::within::put_within;
 use format::GREATEST_LIMIT;
 use format::Kind;
 use format::LEAST_LIMIT;
-use joining::how_many_fit;
 ghost use mathlib.Core.Path.{_≡_};
-ghost use Prim.Native.Nat.{_+_, _*_, _≤_};
+ghost use Prim.Native.Nat.{_+_, _*_, _≤_, _<_};
 ghost use lib.ListN.{length};
 ghost use Rattle.octets.specs.Octets.{put};
 ghost use Rattle.format.specs.Entry.{entriesAt};
-ghost use Rattle.format.specs.Packing.{taken, octetsOf, tookOf, pack};
-ghost use Rattle.writing.specs.Kinds.{entriesFor, formFor, headSize, fitting, Packs};
+ghost use Rattle.format.specs.Packing.{canonical, taken, octetsOf, tookOf, pack};
+ghost use Rattle.writing.specs.Kinds.{entriesFor, formFor, recordsFor, headSize, fitting, Packs};
 ghost use Rattle.writing.specs.Most.{possible as possibleOf, mostOf};
 
 // A message of so many octets, of so many entries; of none, no message.
@@ -54,29 +57,59 @@ fn how_many_fixed(kind: Kind, limit: usize, n: usize) -> usize
     most
 }
 
-// How many of n entries the message takes: the most that fit.
-fn how_many(kind: Kind, e: &[u8], from: usize, n: usize, limit: usize) -> usize
-    requires { ⌜ Packs kind × (from + entriesFor kind .size * n ≤ length (now e)) × (38 ≤ limit) × (limit ≤ 65515) ⌝ }
-    ensures { λ r. ⌜ r ≡ taken (formFor kind) limit (entriesAt (entriesFor kind) (now (e .entry)) from n) ⌝ }
+// The records of the most of n entries that fit, past the beginning of their message.
+fn put_most(
+    kind: Kind,
+    e: &[u8],
+    from: usize,
+    n: usize,
+    limit: usize,
+    d: &mut [u8],
+    out: usize,
+) -> Fitted
+    requires { ⌜ Packs kind × (0 < n) × (from + entriesFor kind .size * n ≤ length (now e)) × (38 ≤ limit) × (limit ≤ length (now d)) × (out ≡ headSize kind) ⌝ }
+    ensures taken { λ r. ⌜ r .taken ≡ taken (formFor kind) limit (entriesAt (entriesFor kind) (now (e .entry)) from n) ⌝ }
+    ensures next { λ r. ⌜ r .next ≡ out + length (recordsFor kind (entriesAt (entriesFor kind) (now (e .entry)) from (r .taken))) ⌝ }
+    ensures buffer { λ r. ⌜ now (d .exit) ≡ put (now (d .entry)) out (recordsFor kind (entriesAt (entriesFor kind) (now (e .entry)) from (r .taken))) ⌝ }
 {
     if is_aggregated(kind) {
-        return how_many_fit(e, from, n, limit);
+        return put_within(e, from, n, d, out, limit);
     }
-    how_many_fixed(kind, limit, n)
+    let taken = how_many_fixed(kind, limit, n);
+    let next = put_records(kind, e, from, taken, d, out);
+    Fitted { taken, next }
 }
 
-// The message of the most of n entries that fit, if there are any.
+// The message of the most of n entries that fit: how many it takes, and its length.
+fn write_message(kind: Kind, e: &[u8], from: usize, n: usize, limit: usize, d: &mut [u8]) -> Fitted
+    requires { ⌜ Packs kind × (0 < n) × (from + entriesFor kind .size * n ≤ length (now e)) × (38 ≤ limit) × (limit ≤ length (now d)) ⌝ }
+    ensures taken { λ r. ⌜ r .taken ≡ taken (formFor kind) limit (entriesAt (entriesFor kind) (now (e .entry)) from n) ⌝ }
+    ensures size { λ r. ⌜ r .next ≡ length (canonical (formFor kind) (entriesAt (entriesFor kind) (now (e .entry)) from (r .taken))) ⌝ }
+    ensures buffer { λ r. ⌜ now (d .exit) ≡ put (now (d .entry)) 0 (canonical (formFor kind) (entriesAt (entriesFor kind) (now (e .entry)) from (r .taken))) ⌝ }
+{
+    let head = begin(kind, d);
+    let records = put_most(kind, e, from, n, limit, d, head);
+    seal(d, records.next);
+    records
+}
+
+// The message of the most of n entries that fit, if there are any: the limit has room for one.
 fn write_fitting(kind: Kind, e: &[u8], from: usize, n: usize, limit: usize, d: &mut [u8]) -> Written
     requires { ⌜ Packs kind × (from + entriesFor kind .size * n ≤ length (now e)) × (38 ≤ limit) × (limit ≤ 65515) × (limit ≤ length (now d)) ⌝ }
     ensures answer { λ r. ⌜ (r .length ≡ length (octetsOf (pack (formFor kind) limit (entriesAt (entriesFor kind) (now (e .entry)) from n)))) × (r .taken ≡ tookOf (pack (formFor kind) limit (entriesAt (entriesFor kind) (now (e .entry)) from n))) ⌝ }
     ensures buffer { λ r. ⌜ now (d .exit) ≡ put (now (d .entry)) 0 (octetsOf (pack (formFor kind) limit (entriesAt (entriesFor kind) (now (e .entry)) from n))) ⌝ }
 {
-    let taken = how_many(kind, e, from, n, limit);
-    if taken == 0 {
-        return Written { length: 0, taken };
+    if n == 0 {
+        return Written {
+            length: 0,
+            taken: 0,
+        };
     }
-    let length = write_message(kind, e, from, taken, d);
-    Written { length, taken }
+    let message = write_message(kind, e, from, n, limit, d);
+    Written {
+        length: message.next,
+        taken: message.taken,
+    }
 }
 
 // Whether the entries are there, the limit is one, and a message of the limit has room.

@@ -13,9 +13,9 @@ use Rattle.joining.specs.Joins.{asserts, runLength}
 use Rattle.joining.proofs.Joins.{run-some}
 use Rattle.joining.specs.declared.run.Run.the-variants.{Aggregated, Group}
 use Rattle.writing.specs.Aggregates.{oneOf, allOf, numberOf, MostWithin}
-use Rattle.writing.proofs.Joins.{run-range}
+use Rattle.writing.proofs.Joins.{run-range, all-none}
 use Rattle.writing.proofs.Aggregating.{number-long, metric-long, rp-is, rp-long}
-use Rattle.writing.proofs.Limits.{most-none, none-written, rp-most, rp-least, all-none}
+use Rattle.writing.proofs.Limits.{most-none, none-written, rp-most, rp-least}
 use borrow.Author.Needs.{needs}
 use Rattle.writing.proofs.within.put_rp_within.Statement.{statement}
 use Rattle.writing.proofs.within.put_rp_within.Tie as tie
@@ -54,7 +54,7 @@ same-length c = search needs
 returns-2 : tie.Need-returns-2
 returns-2 c =
     let a = c .before .before .before .before .before .before .before .before .before .before .args in
-    (rw (c .if2 .taken) at (most (c .before .before .before .before)), none-written (now (a .e)) (a .from) Aggregated (a .out) (rw (c .if2 .taken, all-none (now (a .e)) (a .from) Group) at (c .before .before .before .before .put-groups-within .ensures .1 .1 .1) ∙ put-nil (now (a .d)) (a .out + 12)))
+    (rw (c .if2 .taken) at (most (c .before .before .before .before)), none-written (now (a .e)) (a .from) Aggregated (a .out) (rw (c .if2 .taken, all-none Group (now (a .e)) (a .from)) at (c .before .before .before .before .put-groups-within .ensures .1 .1 .1) ∙ put-nil (now (a .d)) (a .out + 12)))
 
 put-metric-requires : tie.Need-put-metric-requires
 put-metric-requires c κs = (omega (arith, c .before .before .before .before .before .before .before .before .before .before .before .pre), omega (arith, c .before .before .before .before .before .before .before .before .before .before .before .pre, c .before .before .before .before .before .before .before .before .if1 .left, c .before .before .before .before .before .put-groups-within .kept))
