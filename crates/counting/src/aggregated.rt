@@ -49,7 +49,8 @@ fn whole_addresses(m: &[u8], from: usize, n: usize, is_group: bool) -> usize
     n
 }
 
-// A group that is there is allowed, or a source of a group record. The parts are of a length that the compiler knows.
+// Whether a group that is there, or a source of a group record, is allowed. The lengths of the parts are literals, so that
+// the compiler leaves out the tests of them.
 fn address_allowed(m: &[u8], at: usize, is_group: bool) -> bool
     requires { ⌜ at + addressSize «is_group» ≤ length (now m) ⌝ }
     ensures { λ r. ⌜ r ≡ addressForm «is_group» (take (addressSize «is_group») (drop at (now (m .entry)))) ⌝ }

@@ -1,5 +1,5 @@
-// Fields: a check finds the place past a field that is there whole and allowed, or the refusal, at the
-// field's own place.
+// Fields: whether the octets of one are allowed. A check finds the place past a field that is there whole and
+// allowed, or the refusal, at the field's own place.
 use format::Refusal;
 use octets::number32;
 ghost use mathlib.Core.Path.{_≡_};
