@@ -5,7 +5,7 @@
 --     most-none, none-written         no entry fits
 --     FirstRun, first-run             of the entries that there is room for, those of the first run
 --     source-most, source-grows, group-one, group-most, group-grows     how many entries there is room for
---     rp-most                         the most entries of an RP aggregated record, by its group records
+--     rp-most, rp-fewer               the most entries of an RP aggregated record, by its group records; and by the entries that could fit
 --     RunsWithin                      where a loop that writes run by run within a limit stands: within-start, within-there, within-next, within-stop,
 --                                     within-end
 --     number-none, number-next        and how many runs it has written
@@ -253,6 +253,44 @@ module _ (o : List ℕ) (at : ℕ) where
         go : (k : ℕ) → length (allOf Group (asserts o at k)) ≤ limit - (out + 12) → length (oneOf Aggregated (asserts o at k)) ≤ limit - out
         go zero f = rw (one-none Aggregated) (omega arith)
         go (suc k) f = omega (arith, rp-long o at (suc k) (omega arith) r)
+
+-- each entry takes six octets or more, so no more than a sixth of the room need be looked at
+groups-many : (o : List ℕ) (bound at k : ℕ) → k ≤ bound → 6 * k ≤ length (allOf Group (asserts o at k))
+groups-many o zero at k h = omega arith
+groups-many o (suc bound) at k h = go (decLe k 0) (groups-many o bound)
+  where
+    go : Dec (k ≤ 0) → ((at′ k′ : ℕ) → k′ ≤ bound → 6 * k′ ≤ length (allOf Group (asserts o at′ k′))) → 6 * k ≤ length (allOf Group (asserts o at k))
+    go (yes z) ih = omega arith
+    go (no z) ih =
+        let first = runLength Group o at k in
+        let range = run-range Group o at k (omega arith) in
+        omega (
+          arith,
+          ap length (all-first Group o at k (omega arith)) ∙ length-append (oneOf Group (asserts o at first)) (allOf Group (asserts o (at + 16 * first) (k - first))),
+          group-long o at first (range .0),
+          sources-few o at first,
+          ih (at + 16 * first) (k - first) (omega (arith, range .0)),
+        )
+
+pub rp-fewer : (o : List ℕ) (at : ℕ) → rBit (numberAt 4 o (at + 8)) ≡ true → (n room k : ℕ) → 0 < n → 6 ≤ room
+    → MostWithin (oneOf Aggregated) o at (runLength Aggregated o at (min n (room / 6))) room k
+    → MostWithin (oneOf Aggregated) o at (runLength Aggregated o at n) room k
+rp-fewer o at r n room k some wide most =
+    let m : ℕ = min n (room / 6) in
+    let fewer = run-fewer Aggregated o at m n (omega arith) (omega arith) in
+    let range = run-range Aggregated o at n some in
+    record {
+      inside = omega (arith, most .inside, fewer);
+      fits = most .fits;
+      full = λ p. go p (decLe (suc k) (runLength Aggregated o at m)) fewer range;
+    }
+  where
+    go : k < runLength Aggregated o at n → Dec (suc k ≤ runLength Aggregated o at (min n (room / 6)))
+        → runLength Aggregated o at (min n (room / 6)) ≡ min (min n (room / 6)) (runLength Aggregated o at n)
+        → (0 < runLength Aggregated o at n) × (runLength Aggregated o at n ≤ n) → room < length (oneOf Aggregated (asserts o at (suc k)))
+    go p (yes h) fewer range = most .full h
+    go p (no h) fewer range =
+        omega (arith, most .inside, range .1, rp-long o at (suc k) (omega arith) r, groups-many o (suc k) at (suc k) (omega arith))
 
 -- ---- records written run by run
 

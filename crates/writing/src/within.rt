@@ -177,7 +177,9 @@ fn put_rp_within(e: &[u8], from: usize, n: usize, d: &mut [u8], out: usize, limi
     if limit - out < 24 {
         return none;
     }
-    let k = run_length(Run::Aggregated, e, from, n);
+    // Each entry takes six octets or more, so no run is looked at past what could fit.
+    let most = smaller(n, (limit - out) / 6);
+    let k = run_length(Run::Aggregated, e, from, most);
     let groups = put_groups_within(e, from, k, d, out + 12, limit);
     if groups.taken == 0 {
         return none;
