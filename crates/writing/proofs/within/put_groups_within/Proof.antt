@@ -10,7 +10,6 @@ use Rattle.joining.specs.Joins.{asserts}
 use Rattle.joining.specs.declared.run.Run.the-variants.{Group}
 use Rattle.writing.specs.Aggregates.{numberOf}
 use Rattle.writing.proofs.Limits.{RunsWithin, within-start, within-there, within-next, within-stop, within-end, number-none, number-next}
-use borrow.Author.Needs.{needs}
 use Rattle.writing.proofs.within.put_groups_within.Statement.{statement}
 use Rattle.writing.proofs.within.put_groups_within.Tie as tie
 

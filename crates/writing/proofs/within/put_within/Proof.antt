@@ -6,7 +6,6 @@ use Prim.Native.Nat.{_+_, _-_, _*_, _<_, _≤_}
 use lib.ListN.{length}
 use Rattle.joining.specs.declared.run.Run.the-variants.{Aggregated}
 use Rattle.writing.proofs.Limits.{RunsWithin, within-start, within-there, within-next, within-stop, within-end}
-use borrow.Author.Needs.{needs}
 use Rattle.writing.proofs.within.put_within.Statement.{statement}
 use Rattle.writing.proofs.within.put_within.Tie as tie
 
