@@ -20,7 +20,7 @@ pub enum Run {
 }
 
 // Whether two numbers of four octets are equal. Of a part of four octets the compiler knows that none is missing.
-pub(crate) fn same(e: &[u8], a: usize, b: usize) -> bool
+fn same(e: &[u8], a: usize, b: usize) -> bool
     requires { ⌜ (a + 4 ≤ length (now e)) × (b + 4 ≤ length (now e)) ⌝ }
     ensures { λ r. ⌜ r ≡ eqb (numberAt 4 (now (e .entry)) a) (numberAt 4 (now (e .entry)) b) ⌝ }
 {
@@ -28,7 +28,7 @@ pub(crate) fn same(e: &[u8], a: usize, b: usize) -> bool
 }
 
 // Whether two entries are joined: preference and metric are equal, and with R=0 the source.
-pub(crate) fn together(e: &[u8], a: usize, b: usize) -> bool
+fn together(e: &[u8], a: usize, b: usize) -> bool
     requires { ⌜ (a + 16 ≤ length (now e)) × (b + 16 ≤ length (now e)) ⌝ }
     ensures { λ r. ⌜ r ≡ togetherOf (assertAt ipv4 (now (e .entry)) a) (assertAt ipv4 (now (e .entry)) b) ⌝ }
 {

@@ -1,14 +1,16 @@
 -- Runs written one after another within a limit: where the limit cuts a run, no other fits after it.
 --     run-fewer                       the first run of fewer entries
 --     one-run, one-number             entries of one run are one record
---     least, one-least, one-step      what a record takes at least; what one more entry adds to it at most
---     most-none, none-written         no entry fits
+--     sources-none, sources-one       how many sources the group record of one entry has
+--     least, one-least, rp-least, one-step     what a record takes at least, and what one more entry adds to it at most
+--     one-none, none-fit, none-written         no entry fits, and nothing is written
 --     FirstRun, first-run             of the entries that there is room for, those of the first run
---     source-most, source-grows, group-one, group-most, group-grows     how many entries there is room for
---     rp-most, rp-fewer               the most entries of an RP aggregated record, by its group records; and by the entries that could fit
---     RunsWithin                      where a loop that writes run by run within a limit stands: within-start, within-there, within-next, within-stop,
---                                     within-end
---     number-none, number-next        and how many runs it has written
+--     source-most, source-grows       how many entries a source aggregated record has room for
+--     group-one, group-most, group-grows       how many a group record has
+--     rp-most, rp-fewer               how many an RP aggregated record has, by its group records, and by the entries that could fit
+--     Apart, Further, RunsWithin      where a loop that writes run by run within a limit stands: within-start, within-there, within-next
+--     Took                            what it has written in the end: within-stop, within-end
+--     number-none, number-next        how many runs it has written
 -- Assumes nothing.
 use Prim.Native.Nat.{ℕ, zero, suc, _+_, _-_, _*_, _/_, _≤_, _<_, min}
 use native.Mathlib.Nat.{zero-add, le-trans}
@@ -170,8 +172,8 @@ module _ (o : List ℕ) (at : ℕ) where
   -- ---- the most entries of one run
 
   -- no entry fits
-  pub most-none : (r : Run) (n room : ℕ) → room < length (oneOf r (asserts o at 1)) → MostWithin (oneOf r) o at n room 0
-  most-none r n room h = record { inside = omega arith; fits = rw (one-none r) (omega arith); full = λ p. h }
+  pub none-fit : (r : Run) (n room : ℕ) → room < length (oneOf r (asserts o at 1)) → MostWithin (oneOf r) o at n room 0
+  none-fit r n room h = record { inside = omega arith; fits = rw (one-none r) (omega arith); full = λ p. h }
 
   -- where none fits, nothing is written
   pub none-written : (r : Run) {d d′ : List ℕ} (out : ℕ) → d′ ≡ d → (out ≡ out + length (oneOf r (asserts o at 0))) × (d′ ≡ put d out (oneOf r (asserts o at 0)))
@@ -379,8 +381,8 @@ module _ {r : Run} {o : List ℕ} {from n : ℕ} {d₀ : List ℕ} {start limit 
 
   -- a run that was written to its end, or cut
   module _ (left : i < n) (k : ℕ) (some : 0 < k) (most : MostWithin (oneOf r) o at (runLength r o at (n - i)) (limit - out) k) where
-    open-here : {X : Type 0} → (Apart r o from i at (n - i) → X) → X
-    open-here {X = X} f = go (t .further)
+    not-cut : {X : Type 0} → (Apart r o from i at (n - i) → X) → X
+    not-cut {X = X} f = go (t .further)
       where
         go : Further r o from n start limit i at out → X
         go (ended apart) = f apart
@@ -432,7 +434,7 @@ module _ {r : Run} {o : List ℕ} {from n : ℕ} {d₀ : List ℕ} {start limit 
     pub within-next : (d′ : List ℕ) (out′ : ℕ) → d′ ≡ put d out (oneOf r (asserts o at k)) → out′ ≡ out + length (oneOf r (asserts o at k))
         → RunsWithin r o from n d₀ start limit d′ (i + k) (at + 16 * k) out′
     within-next d′ out′ p q =
-        open-here (λ apart.
+        not-cut (λ apart.
         let inside : k ≤ n - i = within left apart k some (most .inside) in
         let long : length d′ ≡ length d = ap length p ∙ length-put d out (oneOf r (asserts o at k)) (omega (arith, most .fits, t .fits, t .room)) in
         record {
@@ -449,6 +451,6 @@ module _ {r : Run} {o : List ℕ} {from n : ℕ} {d₀ : List ℕ} {start limit 
 
     pub number-next : (number : ℕ) → number ≡ numberOf r (asserts o from i) → number + 1 ≡ numberOf r (asserts o from (i + k))
     number-next number e =
-        open-here (λ apart.
+        not-cut (λ apart.
         let inside : k ≤ n - i = within left apart k some (most .inside) in
         omega (arith, apart .number k inside, one-number r o at (n - i) k some (most .inside) inside))

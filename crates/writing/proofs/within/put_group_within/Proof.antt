@@ -5,7 +5,7 @@ use mathlib.Core.Path.{refl}
 use denote.Ref.{now}
 use Prim.Native.Nat.{_-_}
 use Rattle.joining.specs.declared.run.Run.the-variants.{Group}
-use Rattle.writing.proofs.Limits.{most-none, none-written, FirstRun, first-run, group-grows}
+use Rattle.writing.proofs.Limits.{none-fit, none-written, FirstRun, first-run, group-grows}
 use borrow.Author.Needs.{needs}
 use Rattle.writing.proofs.within.put_group_within.Statement.{statement}
 use Rattle.writing.proofs.within.put_group_within.Tie as tie
@@ -25,7 +25,7 @@ sources-within-requires c κs = search needs
 returns : tie.Need-returns
 returns c =
     let a = c .before .before .before .before .args in
-    (most-none (now (a .e)) (a .from) Group _ _ ((rw (c .if1 .taken) at (c .before .sources-within .ensures)) .full (c .before .before .before .before .pre .0)), none-written (now (a .e)) (a .from) Group (a .out) refl)
+    (none-fit (now (a .e)) (a .from) Group _ _ ((rw (c .if1 .taken) at (c .before .sources-within .ensures)) .full (c .before .before .before .before .pre .0)), none-written (now (a .e)) (a .from) Group (a .out) refl)
 
 run-length-requires : tie.Need-run-length-requires
 run-length-requires c κs = search needs

@@ -15,7 +15,7 @@ use Rattle.joining.specs.declared.run.Run.the-variants.{Aggregated, Group}
 use Rattle.writing.specs.Aggregates.{oneOf, allOf, numberOf, MostWithin}
 use Rattle.writing.proofs.Joins.{run-range, all-none}
 use Rattle.writing.proofs.Aggregating.{number-long, metric-long, rp-is, rp-long}
-use Rattle.writing.proofs.Limits.{most-none, none-written, rp-most, rp-fewer, rp-least}
+use Rattle.writing.proofs.Limits.{none-fit, none-written, rp-most, rp-fewer, rp-least}
 use borrow.Author.Needs.{needs}
 use Rattle.writing.proofs.within.put_rp_within.Statement.{statement}
 use Rattle.writing.proofs.within.put_rp_within.Tie as tie
@@ -59,7 +59,7 @@ sub-if1 c = search needs
 returns : tie.Need-returns
 returns c =
     let a = c .before .before .before .args in
-    (most-none (now (a .e)) (a .from) Aggregated _ _ (omega (arith, c .if1 .taken, rp-least (now (a .e)) (a .from) 1 (omega arith))), none-written (now (a .e)) (a .from) Aggregated (a .out) refl)
+    (none-fit (now (a .e)) (a .from) Aggregated _ _ (omega (arith, c .if1 .taken, rp-least (now (a .e)) (a .from) 1 (omega arith))), none-written (now (a .e)) (a .from) Aggregated (a .out) refl)
 
 sub-smaller : tie.Need-sub-smaller
 sub-smaller c = search needs

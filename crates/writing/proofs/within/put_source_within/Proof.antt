@@ -6,7 +6,7 @@ use denote.Ref.{now}
 use Prim.Native.Nat.{_-_}
 use Rattle.joining.specs.declared.run.Run.the-variants.{Aggregated}
 use Rattle.writing.specs.Aggregates.{oneOf, MostWithin}
-use Rattle.writing.proofs.Limits.{most-none, none-written, FirstRun, first-run, source-most, source-grows}
+use Rattle.writing.proofs.Limits.{none-fit, none-written, FirstRun, first-run, source-most, source-grows}
 use borrow.Author.Needs.{needs}
 use Rattle.writing.proofs.within.put_source_within.Statement.{statement}
 use Rattle.writing.proofs.within.put_source_within.Tie as tie
@@ -32,7 +32,7 @@ groups-within-requires c κs = search needs
 returns : tie.Need-returns
 returns c =
     let a = c .before .before .before .before .args in
-    (most-none (now (a .e)) (a .from) Aggregated _ _ ((rw (c .if1 .taken) at (room (c .before))) .full (c .before .before .before .before .pre .0)), none-written (now (a .e)) (a .from) Aggregated (a .out) refl)
+    (none-fit (now (a .e)) (a .from) Aggregated _ _ ((rw (c .if1 .taken) at (room (c .before))) .full (c .before .before .before .before .pre .0)), none-written (now (a .e)) (a .from) Aggregated (a .out) refl)
 
 run-length-requires : tie.Need-run-length-requires
 run-length-requires c κs = search needs

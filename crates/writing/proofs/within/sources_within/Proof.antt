@@ -5,7 +5,7 @@ use mathlib.Core.Path.{_∙_, sym}
 use denote.Ref.{now}
 use Rattle.joining.specs.declared.run.Run.the-variants.{Group}
 use Rattle.writing.proofs.Aggregating.{group-long}
-use Rattle.writing.proofs.Limits.{most-none, group-one, group-most, sources-none, sources-one}
+use Rattle.writing.proofs.Limits.{none-fit, group-one, group-most, sources-none, sources-one}
 use borrow.Author.Needs.{needs}
 use Rattle.writing.proofs.within.sources_within.Statement.{statement}
 use Rattle.writing.proofs.within.sources_within.Tie as tie
@@ -13,7 +13,7 @@ use Rattle.writing.proofs.within.sources_within.Tie as tie
 returns : tie.Need-returns
 returns c =
     let a = c .before .before .args in
-    most-none (now (a .e)) (a .from) Group (a .n) (a .room) (omega (arith, c .if1 .taken, group-long (now (a .e)) (a .from) 1 (omega arith)))
+    none-fit (now (a .e)) (a .from) Group (a .n) (a .room) (omega (arith, c .if1 .taken, group-long (now (a .e)) (a .from) 1 (omega arith)))
 
 smaller-requires : tie.Need-smaller-requires
 smaller-requires c κs = search needs
@@ -38,7 +38,7 @@ returns-4 : tie.Need-returns-4
 returns-4 c =
     let a = c .before .before .before .before .before .args in
     let one = sources-one (now (a .e)) (a .from) (λ z. c .if3 .left (c .before .number32 .ensures ∙ z)) in
-    most-none (now (a .e)) (a .from) Group (a .n) (a .room) (omega (arith, c .before .before .if2 .left, one, group-long (now (a .e)) (a .from) 1 (omega arith)))
+    none-fit (now (a .e)) (a .from) Group (a .n) (a .room) (omega (arith, c .before .before .if2 .left, one, group-long (now (a .e)) (a .from) 1 (omega arith)))
 
 pub sources-within-spec : {M : Type 1} → statement M
 sources-within-spec =
