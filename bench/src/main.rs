@@ -12,6 +12,9 @@ mod rows;
 use std::path::Path;
 use std::process::ExitCode;
 
+/// How often all rows are measured.
+pub const PASSES: usize = 15;
+
 const BEGIN: &str = "<!-- measured: written by bench/run, from here -->";
 const END: &str = "<!-- measured: to here -->";
 
@@ -21,7 +24,7 @@ fn main() -> ExitCode {
         eprintln!("bench: use bench/run, which gives the arguments");
         return ExitCode::FAILURE;
     };
-    let measured = rows::measure();
+    let measured = rows::quietest(PASSES);
     let run = report::Run { date: date.clone(), compiler: compiler.clone(), lto: lto.clone() };
     let part = report::measured_part(&measured, &run);
     print!("{part}");

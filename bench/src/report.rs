@@ -1,6 +1,7 @@
 //! The tables, as Markdown that is readable as text.
 
 use crate::measure::ROUNDS;
+use crate::PASSES;
 use crate::rows::{thousands, Measured, Row};
 
 /// What the caller knows of the run.
@@ -30,7 +31,9 @@ fn how_measured(run: &Run) -> String {
          link-time optimisation {} and the usual target, the archive by `rt staticlib pim`. Repeat it with \
          `bench/run`.\n\n\
          Both sides run in one process on the same input, in turn, in {} rounds; in each the second program \
-         runs twice. A time is the median of the rounds. Ratio is the second program's time divided by the \
+         runs twice. A time is the median of the rounds. All rows are measured {} times, and of each the \
+         time is kept at which the second program was fastest: then other work on the machine disturbed it \
+         least. Ratio is the second program's time divided by the \
          archive's: from 1 on the archive is at least as fast. Control is the second program's time divided \
          by its time at its other turn: what it is away from 1 is the machine's doing, and a ratio that is \
          no further away says nothing.\n\n\
@@ -41,7 +44,8 @@ fn how_measured(run: &Run) -> String {
         machine(),
         run.compiler,
         run.lto,
-        ROUNDS
+        ROUNDS,
+        PASSES
     )
 }
 
