@@ -9,7 +9,7 @@ use fields::source_check;
 use format::Refusal;
 use octets::number16;
 ghost use mathlib.Core.Path.{_≡_};
-ghost use Prim.Native.Nat.{_+_, _≤_};
+ghost use Prim.Native.Nat.{ℕ, _+_, _≤_};
 ghost use lib.ListN.{length, take, drop};
 ghost use Rattle.format.specs.Reader.{times};
 ghost use Rattle.format.specs.Family.{ipv4};
@@ -61,20 +61,31 @@ fn address_allowed(m: &[u8], at: usize, is_group: bool) -> bool
     is_source(&m[at..at + 6], true)
 }
 
-// n groups, or n sources of a group record, one after another: the form of those that are there whole can be at fault, and
-// past them the octets end.
+// The answer of a group that is there whole, or of a source: only its form can be at fault.
+fn address_check(m: &[u8], at: usize, is_group: bool) -> Checked
+    requires { ⌜ at + addressSize «is_group» ≤ length (now m) ⌝ }
+    ensures answer { λ r. ⌜ checked r ≡ skipped (addressField «is_group» (now (m .entry)) at) ⌝ }
+    ensures next { λ r. ⌜ ((k : ℕ) → r ≡ Checked.Next k → k ≡ at + addressSize «is_group») ⌝ }
+{
+    if address_allowed(m, at, is_group) {
+        return Checked::Next(at + address_size(is_group));
+    }
+    bad(7, at)
+}
+
+// n groups, or n sources of a group record, one after another: those that are there whole, and past them the octets end.
 fn addresses_check(m: &[u8], from: usize, n: usize, is_group: bool) -> Checked
     ensures { λ r. ⌜ checked r ≡ skipped (times n (addressField «is_group») (now (m .entry)) from) ⌝ }
 {
-    let size = address_size(is_group);
     let whole = whole_addresses(m, from, n, is_group);
     let mut at = from;
     let mut i = 0;
     while i < whole {
-        if !address_allowed(m, at, is_group) {
-            return bad(7, at);
-        }
-        at += size;
+        let c = address_check(m, at, is_group);
+        let Checked::Next(next) = c else {
+            return c;
+        };
+        at = next;
         i += 1;
     }
     if i < n {

@@ -3,29 +3,27 @@
 use Prim.Native.Nat.{_+_, _-_, _≤_, _<_}
 use native.Mathlib.Nat.{sub-zero}
 use native.Mathlib.Omega.{arith}
-use mathlib.Core.Path.{_≡_, refl, sym, ap, _∙_}
+use mathlib.Core.Path.{_≡_, refl, _∙_}
 use denote.Ref.{now}
 use borrow.Author.Needs.{needs}
-use borrow.Author.Tests.{not-true, not-false}
 use lib.ListN.{length}
 use Rattle.format.specs.Reader.{times}
 use Rattle.fields.specs.Answers.{checked, skipped}
-use Rattle.fields.proofs.Fields.{form-no, form-yes}
 use Rattle.counting.specs.Counts.{addressField, addressSize, wholeAddresses}
-use Rattle.counting.proofs.Addresses.{whole-room, whole-next, whole-cut, address-is, address-short}
+use Rattle.counting.proofs.Addresses.{whole-room, whole-next, whole-cut, address-short}
 use Rattle.counting.proofs.Tallied.{times-bad, times-on, times-end}
 use Rattle.counting.proofs.aggregated.addresses_check.Statement.{statement}
 use Rattle.counting.proofs.aggregated.addresses_check.Tie as tie
 
 abbrev Inv-loop : tie.InvT-loop
-Inv-loop m from n is-group size whole at₀ i₀ at i =
+Inv-loop m from n is-group whole at₀ i₀ at i =
     (whole - i ≡ wholeAddresses is-group m at (n - i)) × (skipped (times (n - i) (addressField is-group) m at) ≡ skipped (times n (addressField is-group) m from))
 
 abbrev μ-loop : tie.MeasureT-loop
-μ-loop m from n is-group size whole at₀ i₀ at i = whole - i
+μ-loop m from n is-group whole at₀ i₀ at i = whole - i
 
 abbrev start : tie.At-loop Inv-loop μ-loop → tie.Start Inv-loop μ-loop
-start l = l .before .before .before .before
+start l = l .before .before .before
 
 -- the next is due, and there
 room : (c : tie.In-loop Inv-loop μ-loop)
@@ -35,32 +33,28 @@ room c =
     let a = start l .args in
     whole-room (now (a .m)) (l .loop .at) (a .n) (l .before .whole-addresses .result) (l .loop .i) (a .is-group) (l .loop .inv .0) (c .loop-test .taken)
 
-address-size-requires : tie.Need-address-size-requires Inv-loop μ-loop
-address-size-requires c κs = search needs
-
 whole-addresses-requires : tie.Need-whole-addresses-requires Inv-loop μ-loop
 whole-addresses-requires c κs = search needs
 
 loop-holds : tie.Need-loop-holds Inv-loop μ-loop
 loop-holds c = (simp sub-zero (c .whole-addresses .ensures), rw sub-zero)
 
-address-allowed-requires : tie.Need-address-allowed-requires Inv-loop μ-loop
-address-allowed-requires c κs = room c .1
+address-check-requires : tie.Need-address-check-requires Inv-loop μ-loop
+address-check-requires c κs = room c .1
 
-bad-requires : tie.Need-bad-requires Inv-loop μ-loop
-bad-requires c κs = search needs
+enum-known-c : tie.Need-enum-known-c Inv-loop μ-loop
+enum-known-c c = search needs
+
+enum-told : tie.Need-enum-told Inv-loop μ-loop
+enum-told c = search needs
 
 returns : tie.Need-returns Inv-loop μ-loop
 returns c =
     let d = c .before .before in
     let l = d .before .before in
     let a = start l .args in
-    times-bad (addressField (a .is-group)) (now (a .m)) (l .loop .at) (a .n) (l .loop .i) (room (d .before) .0) (c .bad .ensures)
-    (form-no (address-is (a .is-group) (now (a .m)) (l .loop .at) (room (d .before) .1)) (c .bad .ensures) (sym (d .address-allowed .ensures) ∙ not-true _ (c .before .if1 .taken)))
+    times-bad (addressField (a .is-group)) (now (a .m)) (l .loop .at) (a .n) (l .loop .i) (room (d .before) .0) (c .enum-told .given .1) (d .address-check .ensures .0)
     ∙ l .loop .inv .1
-
-add-at : tie.Need-add-at Inv-loop μ-loop
-add-at c = omega (arith, room (c .before .before), c .before .before .before .before .before .address-size .ensures)
 
 add-i : tie.Need-add-i Inv-loop μ-loop
 add-i c = search needs
@@ -70,26 +64,25 @@ loop-less c = search needs
 
 loop-again : tie.Need-loop-again Inv-loop μ-loop
 loop-again c =
-    let d = c .before in
+    let d = c .before .before .before in
     let l = d .before .before in
     let a = start l .args in
-    let size-is = l .before .before .address-size .ensures in (
-      whole-next (now (a .m)) (l .loop .at) (a .n) (l .before .whole-addresses .result) (l .loop .i) (a .is-group) size-is (l .loop .inv .0),
-      times-on (addressField (a .is-group)) (now (a .m)) (l .loop .at) (a .n) (l .loop .i) (room (d .before) .0) refl
-          (form-yes (address-is (a .is-group) (now (a .m)) (l .loop .at) (room (d .before) .1)) (ap (λ s. l .loop .at + s) size-is) (sym (d .address-allowed .ensures) ∙ not-false _ (c .if1 .left)))
+    let next-is = d .address-check .ensures .1 _ (c .before .c .given .1) in (
+      rw next-is (whole-next (now (a .m)) (l .loop .at) (a .n) (l .before .whole-addresses .result) (l .loop .i) (a .is-group) refl (l .loop .inv .0)),
+      times-on (addressField (a .is-group)) (now (a .m)) (l .loop .at) (a .n) (l .loop .i) (room (d .before) .0) (c .before .c .given .1) (d .address-check .ensures .0)
           ∙ l .loop .inv .1,
     )
 
-bad-requires-2 : tie.Need-bad-requires-2 Inv-loop μ-loop
-bad-requires-2 c κs = search needs
+bad-requires : tie.Need-bad-requires Inv-loop μ-loop
+bad-requires c κs = search needs
 
 returns-2 : tie.Need-returns-2 Inv-loop μ-loop
 returns-2 c =
     let l = c .before .before .before in
     let a = start l .args in
-    let cut = whole-cut (now (a .m)) (l .loop .at) (a .n) (l .before .whole-addresses .result) (l .loop .i) (a .is-group) (l .loop .inv .0) (c .before .before .loop-test .left) (c .before .if2 .taken) in
-    times-bad (addressField (a .is-group)) (now (a .m)) (l .loop .at) (a .n) (l .loop .i) (c .before .if2 .taken) (c .bad2 .ensures)
-    (address-short (a .is-group) (now (a .m)) (l .loop .at) cut (c .bad2 .ensures))
+    let cut = whole-cut (now (a .m)) (l .loop .at) (a .n) (l .before .whole-addresses .result) (l .loop .i) (a .is-group) (l .loop .inv .0) (c .before .before .loop-test .left) (c .before .if1 .taken) in
+    times-bad (addressField (a .is-group)) (now (a .m)) (l .loop .at) (a .n) (l .loop .i) (c .before .if1 .taken) (c .bad .ensures)
+    (address-short (a .is-group) (now (a .m)) (l .loop .at) cut (c .bad .ensures))
     ∙ l .loop .inv .1
 
 returns-3 : tie.Need-returns-3 Inv-loop μ-loop
@@ -97,7 +90,7 @@ unfolding checked skipped
 returns-3 c =
     let l = c .before .before in
     let a = start l .args in
-    rw (times-end (addressField (a .is-group)) (now (a .m)) (l .loop .at) (a .n) (l .loop .i) (c .if2 .left)) at (l .loop .inv .1)
+    rw (times-end (addressField (a .is-group)) (now (a .m)) (l .loop .at) (a .n) (l .loop .i) (c .if1 .left)) at (l .loop .inv .1)
 
 pub addresses-check-spec : {M : Type 1} → statement M
 addresses-check-spec =
@@ -105,16 +98,15 @@ addresses-check-spec =
     (tie.spec
     Inv-loop
     μ-loop
-    address-size-requires
     whole-addresses-requires
     loop-holds
-    address-allowed-requires
-    bad-requires
+    address-check-requires
+    enum-known-c
+    enum-told
     returns
-    add-at
     add-i
     loop-less
     loop-again
-    bad-requires-2
+    bad-requires
     returns-2
     returns-3)
