@@ -1,7 +1,8 @@
 -- What a packing call does, from its definition.
 --     Asked, asked-gives, gives-asked     the four refusals do not apply, exactly if the call goes on
 --     asked-short                         a buffer below the limit is refused with 8
---     limit-range                         a limit that is read lies within the limits
+--     limit-range, limit-itself           a limit that is read lies within the limits, and one that does is read as itself
+--     packing-read                        a call knows its limit only as read
 --     allowed-every, every-allowed        no entry is bad, exactly if every one is allowed
 --     taken-most, taken-fits              the most that fit
 --     pack-none, pack-some                no message, and one
@@ -17,7 +18,7 @@ use borrow.Author.Tests.{lt-ltb, le-ltb, le-leb, ltb-false, not-false, leb-true,
 use lib.ListN.{length, take, drop}
 use lib.Dec.{eqb, leb, ltb}
 use Rattle.octets.specs.Octets.{put}
-use Rattle.octets.proofs.Laws.{take-put}
+use Rattle.octets.proofs.Laws.{take-put, drop-put}
 use Rattle.records.specs.Every.{Every}
 use Rattle.records.specs.Most.{most}
 use Rattle.records.proofs.Most.{most-le, most-fits}
@@ -84,6 +85,15 @@ limit-range f limit l e = go (eqb limit 0) refl (leb (leastLimit f) limit) refl 
     go false z false ea b eb = absurd (no-refusal (rw (z, ea) at e))
     go false z true ea false eb = absurd (no-refusal (rw (z, ea, eb) at e))
 
+pub limit-itself : (f : Family) (l : ℕ) → leastLimit f ≤ l → l ≤ longest → readLimit f l ≡ gives l
+unfolding readLimit leastLimit
+limit-itself f l least greatest = rw (ne-eqb l 0 (λ z. omega arith), le-leb _ l least, le-leb l longest greatest)
+
+pub packing-read : {E : Entries} (F : Form E) (o : List ℕ) (start limit limit′ : ℕ) (d : List ℕ) → readLimit (E .family) limit ≡ readLimit (E .family) limit′
+    → packing F o start limit d ≡ packing F o start limit′ d
+unfolding packing asked
+packing-read F o start limit limit′ d e = rw e refl
+
 -- ---- entries that are all allowed
 
 pub allowed-every : {A : Type 0} (allowed : A → Bool) (i : ℕ) (es : List A) → firstBad allowed i es ≡ gives tt → Every (λ (e : A). allowed e ≡ true) es
@@ -137,6 +147,7 @@ pub record Wrote-by {E : Entries} (F : Form E) (o : List ℕ) (start limit : ℕ
   pub limitRead : ℕ
   pub was : Asked E o start limit (length d) limitRead
   pub isMessage : take n (packing F o start limit d .buffer) ≡ canonical F (take k (drop start (entriesOf E o)))
+  pub past : drop n (packing F o start limit d .buffer) ≡ drop n d
   pub most : k ≤ F .atMost (length (drop start (entriesOf E o)))
   pub within : length (canonical F (take k (drop start (entriesOf E o)))) ≤ limitRead
 
@@ -168,6 +179,7 @@ module _ {E : Entries} (F : Form E) (o : List ℕ) (start limit : ℕ) (d : List
         limitRead = l;
         was = h;
         isMessage = ap (take n) (ap (λ c. c .buffer) call) ∙ ap (λ j. take j (put d 0 m)) (sym long) ∙ take-put d m ∙ ap (λ j. canonical F (take j left)) count;
+        past = ap (drop n) (ap (λ c. c .buffer) call) ∙ ap (λ j. drop j (put d 0 m)) (sym long) ∙ drop-put d m ∙ ap (λ j. drop j d) long;
         most = rw count at (taken-most F l left);
         within = rw count at (taken-fits F l left pos);
       }

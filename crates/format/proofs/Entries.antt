@@ -15,8 +15,7 @@ use Rattle.octets.specs.Octets.{numberAt, Octets}
 use Rattle.octets.proofs.Laws.{value-lt, octets-take, octets-drop}
 use Rattle.records.specs.Every.{Every}
 use Rattle.format.specs.Family.{Family}
-use Rattle.format.specs.Entry.{Entries, assertAt, assertEntries, pairAt, pairEntries, count, entriesAt, entriesOf}
-use Rattle.format.proofs.Records.{Fits, PairFits}
+use Rattle.format.specs.Entry.{Entries, Fits, PairFits, assertAt, assertEntries, pairAt, pairEntries, count, entriesAt, entriesOf}
 
 pub numberAt-lt : (k : ℕ) (o : List ℕ) (at : ℕ) → Octets o → numberAt k o at < 256 ^ k
 unfolding numberAt

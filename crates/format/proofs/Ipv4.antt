@@ -1,7 +1,6 @@
 -- IPv4 is a lawful family, so every theorem holds of it.
 --     lawful              what the theorems ask of a family
---     given               any limit that is read lies in 38 to 65,515
---     demand3-ipv4        demand 3
+--     given               any limit that is read lies in 38 to 65,515, so demand 3 speaks of it
 -- Assumes nothing.
 use Prim.Native.Nat.{ℕ}
 use mathlib.Core.Path.{_≡_, refl}
@@ -15,20 +14,16 @@ use Rattle.format.specs.Outcome.{gives}
 use Rattle.format.specs.Family.{ipv4, Lawful}
 use Rattle.format.specs.Entry.{assertEntries, allowedAssert, whole, entriesOf}
 use Rattle.format.specs.Packing.{usualLimit, leastLimit, readLimit}
-use Rattle.format.specs.Demand3.{Given, Demand3}
+use Rattle.format.specs.Train.{Given}
 use Rattle.format.proofs.Calls.{limit-range}
-use Rattle.format.proofs.Demand3.{demand3}
 
 pub lawful : Lawful ipv4
-lawful = record { familyOctet = lit< tt; maskOctet = lit< tt; zeroIsNone = refl }
+lawful = record { wide = lit< tt; familyOctet = lit< tt; maskOctet = lit< tt; zeroIsNone = refl }
 
 pub given : (entries : List ℕ) (limit l : ℕ) → Octets entries → whole (assertEntries ipv4) entries ≡ true
     → Every (λ (e : AssertRecord). allowedAssert ipv4 e ≡ true) (entriesOf (assertEntries ipv4) entries) → readLimit ipv4 limit ≡ gives l
-    → Given ipv4 entries limit l
+    → Given ipv4 entries l
 unfolding leastLimit usualLimit
 given entries limit l octets isWhole allowed read =
     let range = limit-range ipv4 limit l read in
-    record { areOctets = octets; wholeList = isWhole; allowed = allowed; read = read; least = range .0 (lit≤ tt); greatest = range .1 }
-
-pub demand3-ipv4 : (entries : List ℕ) (limit l : ℕ) → Given ipv4 entries limit l → (buffers : List (List ℕ)) → Demand3 ipv4 entries limit l buffers
-demand3-ipv4 = demand3 ipv4 lawful
+    record { areOctets = octets; wholeList = isWhole; allowed = allowed; least = range .0 (lit≤ tt); greatest = range .1 }

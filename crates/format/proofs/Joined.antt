@@ -17,8 +17,8 @@ use Rattle.records.proofs.Every.{every-map, every-both, every-append, every-map
 use Rattle.records.proofs.Runs.{runs-every, glue-elim}
 use Rattle.records.proofs.Joining.{aggregated-rp, aggregated-source, groupRecords-elim}
 use Rattle.format.specs.Family.{Family, mayBeSource, Lawful}
-use Rattle.format.specs.Entry.{allowedAssert}
-use Rattle.format.proofs.Records.{Fits, GroupRecordFits, AggregatedFits, both-left, both-right, source-any}
+use Rattle.format.specs.Entry.{Fits, allowedAssert}
+use Rattle.format.proofs.Records.{GroupRecordFits, AggregatedFits, both-left, both-right, source-any}
 
 pub record Good (f : Family) (e : AssertRecord) : Type 0 where
   pub fits : Fits f e

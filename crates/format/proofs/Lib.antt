@@ -6,9 +6,10 @@ pub mod Messages
 pub mod Joined
 pub mod Taken
 pub mod Entries
+pub mod Faithful
 pub mod Calls
 pub mod RoundTrip
 pub mod Reading
-pub mod Demand3
+pub mod Trains
 pub mod MostThatFit
 pub mod Ipv4

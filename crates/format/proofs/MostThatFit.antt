@@ -26,7 +26,7 @@ use Rattle.format.specs.declared.Kind.{Kind}
 use Rattle.format.proofs.Lengths.{length-each, length-assert, length-pair}
 use Rattle.format.proofs.Messages.{length-message}
 use Rattle.format.proofs.Calls.{taken-most, taken-fits}
-use Rattle.format.proofs.Demand3.{length-canonical}
+use Rattle.format.proofs.Trains.{length-canonical}
 
 unfoldable pub Grows : {E : Entries} → Form E → Type 0
 Grows {E} F = (es : List (E .Entry)) (j k : ℕ) → j ≤ k → length (canonical F (take j es)) ≤ length (canonical F (take k es))

@@ -1,6 +1,5 @@
 -- The octets of each record read back as that record, wherever they stand.
 --     reads-group, reads-source            addresses
---     Fits                                 the numbers of an assert record fit their fields
 --     reads-assert, reads-pair             assert records and pairs that are allowed
 --     GroupFits, reads-groupRecord         group records
 --     AggregatedFits, reads-aggregated     aggregated records
@@ -22,7 +21,7 @@ use Rattle.format.specs.Reader.{octets, must, _>>=_}
 use Rattle.format.specs.Family.{Family, maskLength, mayBeSource, Lawful}
 use Rattle.format.specs.Address.{groupForm, groupField, groupOctets, sourceForm, sourceField, sourceOctets}
 use Rattle.format.specs.Record.{assertFields, assertRecord, assertOctets, pairFields, pairRecord, pairOctets, positive, groupRecord, groupRecordOctets, sourceAggregated, rpAggregated, aggregatedFields, aggregatedRecord, aggregatedOctets, reserved2}
-use Rattle.format.specs.Entry.{allowedAssert, allowedPair}
+use Rattle.format.specs.Entry.{Fits, PairFits, allowedAssert, allowedPair}
 use Rattle.records.proofs.Every.{every-map}
 use Rattle.format.proofs.Lengths.{length-group, length-source}
 use Rattle.format.proofs.Readers.{Reads, reads-bind, reads-then, reads-last, reads-here, reads-refuse, reads-octets, reads-number, reads-must, reads-inRecord, reads-times}
@@ -57,17 +56,6 @@ module _ (f : Family) where
       rw (value-be (f .width) s small) at (reads-last (λ (x : List ℕ). value (drop 2 x)) field)
 
 -- ---- assert records and pairs
-
--- the numbers of an assert record fit their fields
-pub record Fits (f : Family) (e : AssertRecord) : Type 0 where
-  pub group : e .group < 256 ^ f .width
-  pub source : e .source < 256 ^ f .width
-  pub rPreference : e .rPreference < 256 ^ 4
-  pub metric : e .metric < 256 ^ 4
-
-pub record PairFits (f : Family) (e : PairRecord) : Type 0 where
-  pub group : e .group < 256 ^ f .width
-  pub source : e .source < 256 ^ f .width
 
 pub both-left : (a b : Bool) → (a && b) ≡ true → a ≡ true
 both-left true b e = refl

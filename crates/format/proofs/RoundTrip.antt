@@ -26,7 +26,7 @@ use Rattle.format.specs.Family.{Family, Lawful}
 use Rattle.format.specs.Header.{message, longest}
 use Rattle.format.specs.Record.{each, assertRecord, assertOctets, pairRecord, pairOctets, aggregatedRecord, aggregatedOctets}
 use Rattle.format.specs.Body.{zeros, assertsBody, pairsBody, plainBody, simpleBody, aggregatedBody, pairBody}
-use Rattle.format.specs.Entry.{Entries, entriesOf, allowedAssert, allowedPair}
+use Rattle.format.specs.Entry.{Entries, Fits, PairFits, entriesOf, allowedAssert, allowedPair}
 use Rattle.format.specs.Unpacking.{Unpacked, unpacked, unpackAsserts, unpackPairs}
 use Rattle.format.specs.Packing.{Form, plain, simple, aggregated, nullRegister, registerStop, canonical}
 use Rattle.format.specs.RoundTrip.{ReadsBack, RoundTrip}
@@ -34,7 +34,7 @@ use Rattle.format.specs.declared.Kind.{Kind}
 use Rattle.format.specs.declared.Kind.the-variants.{Assert, Simple, Aggregated, NullRegister, RegisterStop}
 use Rattle.format.proofs.Readers.{at-left}
 use Rattle.format.proofs.Lengths.{AreOctets, _then_, octets-zeros, octets-each, octets-assert, octets-pair, octets-aggregated, length-each, length-assert, length-pair, length-aggregated, length-all}
-use Rattle.format.proofs.Records.{Fits, PairFits, reads-assert, reads-pair, reads-aggregated, AggregatedFits}
+use Rattle.format.proofs.Records.{reads-assert, reads-pair, reads-aggregated, AggregatedFits}
 use Rattle.format.proofs.Messages.{length-message, message-octets, message-holds, at-body, unpack-asserts, unpack-pairs, reads-zeros, Items, read-items}
 use Rattle.format.proofs.Joined.{Good, joined-fits}
 use Rattle.format.proofs.Entries.{assert-fits, pair-fits}

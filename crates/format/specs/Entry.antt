@@ -2,13 +2,14 @@
 -- (group, source, R with preference, metric), 8 for a pair (group, source)".
 --     Entries                    one sort of entry: its size, its reading, its writing, and which are allowed
 --     assertEntries, pairEntries the asserts of a family, and its pairs, with source 0 allowed or not
+--     Fits, PairFits             the numbers of an entry fit their fields
 --     count, whole, entriesOf    how many entries octets hold, whether nothing is over, and the entries
 --     entriesOctets              entries one after another
 -- Assumes nothing: these are definitions.
-use Prim.Native.Nat.{ℕ, zero, suc, _+_, _*_, _/_, _%_}
+use Prim.Native.Nat.{ℕ, zero, suc, _+_, _*_, _/_, _%_, _^_, _<_}
 use mathlib.Core.Bool.{Bool, _&&_}
 use mathlib.Core.List.{List, [], _∷_}
-use lib.ListN.{length, take, drop}
+use lib.ListN.{length}
 use lib.Dec.{eqb}
 use Rattle.octets.specs.Octets.{numberAt, be, _&_}
 use Rattle.records.specs.Records.{AssertRecord, assert, PairRecord, pair, rBit}
@@ -34,6 +35,13 @@ assertAt f o at =
     (numberAt 4 o (at + 2 * f .width))
     (numberAt 4 o (at + 2 * f .width + 4))
 
+-- its numbers fit their fields
+pub record Fits (f : Family) (e : AssertRecord) : Type 0 where
+  pub group : e .group < 256 ^ f .width
+  pub source : e .source < 256 ^ f .width
+  pub rPreference : e .rPreference < 256 ^ 4
+  pub metric : e .metric < 256 ^ 4
+
 unfoldable pub assertEntryOctets : Family → AssertRecord → List ℕ
 assertEntryOctets f e = be (f .width) (e .group) & be (f .width) (e .source) & be 4 (e .rPreference) & be 4 (e .metric)
 
@@ -55,6 +63,10 @@ assertEntries f = record {
 
 unfoldable pub pairAt : Family → List ℕ → ℕ → PairRecord
 pairAt f o at = pair (numberAt (f .width) o at) (numberAt (f .width) o (at + f .width))
+
+pub record PairFits (f : Family) (e : PairRecord) : Type 0 where
+  pub group : e .group < 256 ^ f .width
+  pub source : e .source < 256 ^ f .width
 
 unfoldable pub pairEntryOctets : Family → PairRecord → List ℕ
 pairEntryOctets f e = be (f .width) (e .group) & be (f .width) (e .source)

@@ -35,8 +35,10 @@ ipv4 = record {
 unfoldable pub mayBeSource : Family → Bool → ℕ → Bool
 mayBeSource f zeroAllowed a = f .isSource a || (zeroAllowed && eqb a 0)
 
--- what the theorems ask of a family, and every family here has: its encoded addresses are octets, and 0 is no address that a source may have
+-- what the theorems ask of a family, and every family here has: an address has octets, its encoded addresses are octets, and 0 is no address
+-- that a source may have
 pub record Lawful (f : Family) : Type 0 where
+  pub wide : 0 < f .width
   pub familyOctet : f .family < 256
   pub maskOctet : maskLength f < 256
   pub zeroIsNone : f .isSource 0 ≡ false

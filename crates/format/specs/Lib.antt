@@ -12,4 +12,3 @@ pub mod Reading
 pub mod Packing
 pub mod Train
 pub mod RoundTrip
-pub mod Demand3

@@ -1,9 +1,10 @@
 -- The round trips, and that a call takes the most that fit, as statements: "What it writes is the one byte form the rule book fixes, and reading that gives back the records
 -- written" (demand 2).
+--     Faithful      entries and their octets determine each other
 --     ReadsBack     octets that unpack to entries, with a checksum that holds, as long as the sizes of the records say
 --     RoundTrip     for a kind of message: what any packing call writes reads back as the entries it took, in their order
 --     MostThatFit   for a kind of message: a call takes the longest prefix of what is left whose message is within the limit
--- The theorems are in proofs/RoundTrip.antt and proofs/MostThatFit.antt. Assumes nothing: these are definitions.
+-- The theorems are in proofs/Faithful.antt, proofs/RoundTrip.antt and proofs/MostThatFit.antt. Assumes nothing: these are definitions.
 use Prim.Native.Nat.{ℕ, _<_, _≤_}
 use mathlib.Core.Path.{_≡_}
 use mathlib.Core.Bool.{true}
@@ -11,11 +12,19 @@ use mathlib.Core.List.{List}
 use lib.ListN.{length, take, drop}
 use Rattle.octets.specs.Octets.{Octets}
 use Rattle.checksum.specs.Sum.{holds}
+use Rattle.records.specs.Every.{Every}
 use Rattle.format.specs.Outcome.{Outcome, gives}
-use Rattle.format.specs.Entry.{Entries, entriesOf}
+use Rattle.format.specs.Entry.{Entries, whole, entriesOf, entriesOctets}
 use Rattle.format.specs.Unpacking.{Unpacked, unpacked}
 use Rattle.format.specs.Packing.{Form, canonical, taken, wrote, packing}
 use Rattle.format.specs.declared.Kind.{Kind}
+
+-- what a list of octets and a list of entries say of each other; `Fit` says that the numbers of an entry fit their fields
+pub record Faithful (E : Entries) (Fit : E .Entry → Type 0) : Type 0 where
+  -- the entries of whole octets have these octets
+  pub octetsBack : (o : List ℕ) → Octets o → whole E o ≡ true → entriesOctets E (entriesOf E o) ≡ o
+  -- and the octets of entries hold these entries
+  pub entriesBack : (es : List (E .Entry)) → Every Fit es → entriesOf E (entriesOctets E es) ≡ es
 
 pub record ReadsBack {A : Type 0} (unpack : List ℕ → Outcome (Unpacked A)) (k : Kind) (es : List A) (size : ℕ) (m : List ℕ) : Type 0 where
   -- exactly the entries, in order, without a fault

@@ -1,18 +1,29 @@
--- Lists of packing calls (01, "Writing"): "A train is any messages one after another; the train of a list is what calls give from
--- its first entry until nothing is left."
+-- Lists of packing calls and trains of messages (01, "Writing"): "A train is any messages one after another; the train of a list is what calls
+-- give from its first entry until nothing is left."
 --     takenBy, messageOf      what one call took, and its message, if any
 --     calls                   calls on the same entries with the same limit and any buffers, each from the first entry not yet taken
 --     takenOf, messagesOf     what calls took, and the messages they wrote
 --     train                   the train of a list: calls with buffers of the limit's size, one for each entry
--- Assumes nothing: these are definitions.
-use Prim.Native.Nat.{ℕ, _+_}
-use mathlib.Core.Bool.{cond}
+--     Given                   the entries and the limit that demand 3 speaks of
+--     Within, Unpacks         messages within a limit; messages that unpack, one after another, to entries
+--     Comparable              there is a train to compare with: a message for each entry
+-- Demand 3 itself, of calls, is the crate demands'. Assumes nothing: these are definitions.
+use Prim.Native.Nat.{ℕ, _+_, _≤_}
+use mathlib.Core.Path.{_≡_}
+use mathlib.Core.Bool.{true, cond}
 use mathlib.Core.List.{List, [], _∷_, _++_}
-use lib.ListN.{take, replicate}
+use lib.ListN.{length, take, replicate}
 use lib.Dec.{eqb}
+use Rattle.octets.specs.Octets.{Octets}
+use Rattle.records.specs.Every.{Every}
+use Rattle.records.specs.Records.{AssertRecord}
 use Rattle.format.specs.Outcome.{Outcome, gives, refuses}
-use Rattle.format.specs.Entry.{Entries, count}
-use Rattle.format.specs.Packing.{Form, PackingCall, Wrote, wrote, packing, readLimit}
+use Rattle.format.specs.Family.{Family}
+use Rattle.format.specs.Header.{longest}
+use Rattle.format.specs.Entry.{Entries, assertEntries, allowedAssert, count, whole, entriesOf}
+use Rattle.format.specs.Unpacking.{unpacked, unpackAsserts}
+use Rattle.format.specs.Packing.{Form, PackingCall, Wrote, wrote, packing, leastLimit, readLimit}
+use Rattle.format.specs.declared.Kind.the-variants.{Aggregated}
 
 -- "Taken is counted by their answers"
 unfoldable pub takenBy : Outcome Wrote → ℕ
@@ -46,3 +57,30 @@ roomOf (refuses n p) = 0
 unfoldable pub train : {E : Entries} → Form E → List ℕ → ℕ → List (List ℕ)
 train {E} F o limit =
     messagesOf (calls F o limit 0 (replicate (count E o) (replicate (roomOf (readLimit (E .family) limit)) 0)))
+
+-- ---- demand 3
+
+pub record Given (f : Family) (entries : List ℕ) (l : ℕ) : Type 0 where
+  -- "Take any list of well-formed assert records, in its order": "A well-formed record is a whole entry whose group and, by R, source the
+  -- section above allows"
+  pub areOctets : Octets entries
+  pub wholeList : whole (assertEntries f) entries ≡ true
+  pub allowed : Every (λ (e : AssertRecord). allowedAssert f e ≡ true) (entriesOf (assertEntries f) entries)
+  -- "any limit from 38 to 65,515 octets"
+  pub least : leastLimit f ≤ l
+  pub greatest : l ≤ longest
+
+abbrev pub Within : ℕ → List ℕ → Type 0
+Within l m = length m ≤ l
+
+-- "unpack, one after another, to": each is an aggregated message, with header and checksum, read without a fault
+unfoldable pub Unpacks : Family → List (List ℕ) → List AssertRecord → Type 0
+Unpacks f [] all = all ≡ []
+Unpacks f (m ∷ ms) all =
+    (es : List AssertRecord) × (rest : List AssertRecord) × (unpackAsserts f m ≡ gives (unpacked Aggregated es)) × (all ≡ es ++ rest) × Unpacks f ms rest
+
+-- "Every other train": there is one, of as many messages as entries were taken
+unfoldable pub Comparable : Family → List ℕ → ℕ → ℕ → Type 0
+Comparable f entries l n =
+    (train : List (List ℕ)) × (length train ≡ length (take n (entriesOf (assertEntries f) entries))) × (Every (Within l) train)
+    × Unpacks f train (take n (entriesOf (assertEntries f) entries))

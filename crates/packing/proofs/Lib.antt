@@ -3,4 +3,3 @@ pub mod ByKind
 pub mod Asks
 pub mod Packs
 pub mod Choices
-pub mod Trains

@@ -20,7 +20,7 @@ use Rattle.format.specs.Packing.{leastLimit, aggregated, canonical, taken, pack
 use Rattle.format.specs.declared.Kind.{Kind}
 use Rattle.format.specs.declared.Kind.the-variants.{Hello, Assert, Simple, Aggregated, NullRegister, RegisterStop}
 use Rattle.format.proofs.Lengths.{length-all}
-use Rattle.format.proofs.Demand3.{length-canonical}
+use Rattle.format.proofs.Trains.{length-canonical}
 use Rattle.format.proofs.MostThatFit.{Grows, aggregated-grows}
 use Rattle.format.proofs.Entries.{length-entriesAt}
 use Rattle.format.proofs.Calls.{taken-most, taken-fits, pack-none, pack-some}

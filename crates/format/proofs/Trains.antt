@@ -1,21 +1,22 @@
--- Demand 3 of the definitions (specs/Demand3.antt).
+-- Trains of aggregated messages: what calls on a list take and write, and that no other train is shorter (demand 3 of the definitions).
 --     length-canonical               an aggregated message is as long as its records, and 8
 --     next, next-greedy, next-some   how many entries a call takes at a place: the most that fit, and one at least
 --     CallAt, call-at                what one call does
---     From                           what calls from a place on do
---     blocks                         any other train, as blocks of entries that fit
---     demand3, complete              the theorems: demand 3, and that calls with room take every entry
---     comparable, empty              there is another train to compare with; the empty list yields no message
--- Assumes nothing.
-use Prim.Native.Nat.{ℕ, zero, suc, _+_, _*_, _<_, _≤_}
-use native.Mathlib.Nat.{le-trans, le-of-eq, add-assoc, add-zero, zero-add, zero-div}
+--     accepted, progress, stays-inside    with room it is not refused, and takes one entry at least while one is left, and none past the end
+--     From, from-calls               what calls from a place on do
+--     fewest-of                      any other train, as blocks of entries that fit, has as many messages at least
+--     reaches                        calls with room take every entry
+--     comparable                     there is another train to compare with
+-- Demand 3 itself, of calls, is the crate demands'. Assumes nothing.
+use Prim.Native.Nat.{ℕ, zero, suc, _+_, _<_, _≤_}
+use native.Mathlib.Nat.{le-trans, le-of-eq, add-assoc, add-zero, zero-add}
 use native.Mathlib.Omega.{arith}
 use native.Mathlib.Decide.{decLe}
 use mathlib.Core.Path.{_≡_, refl, sym, ap, _∙_}
 use mathlib.Core.List.{List, [], _∷_, _++_, map, flatten}
 use borrow.Author.Tests.{le-leb, ne-eqb}
 use lib.ListN.{length, take, drop, length-take, length-drop, length-map}
-use lib.Seq.{take-add, drop-drop, take-nil}
+use lib.Seq.{take-add, drop-drop}
 use lib.Dec.{leb}
 use Rattle.octets.specs.Octets.{put}
 use Rattle.octets.proofs.Laws.{take-put}
@@ -33,18 +34,16 @@ use Rattle.format.specs.Family.{Family, Lawful}
 use Rattle.format.specs.Header.{longest}
 use Rattle.format.specs.Record.{each, aggregatedOctets}
 use Rattle.format.specs.Body.{zeros, aggregatedBody}
-use Rattle.format.specs.Entry.{assertEntries, allowedAssert, count, entriesAt, entriesOf}
+use Rattle.format.specs.Entry.{Fits, assertEntries, allowedAssert, entriesOf}
 use Rattle.format.specs.Unpacking.{unpacked, unpackAsserts}
 use Rattle.format.specs.Packing.{leastLimit, aggregated, canonical, taken, PackingCall, wrote, packing}
-use Rattle.format.specs.Train.{takenBy, messageOf, calls, takenOf, messagesOf}
-use Rattle.format.specs.Demand3.{Given, Called, AllCalled, Unpacks, sent, totalTaken, Within, Demand3, Complete, Comparable}
+use Rattle.format.specs.Train.{takenBy, messageOf, calls, takenOf, messagesOf, Given, Within, Unpacks, Comparable}
 use Rattle.format.specs.declared.Kind.the-variants.{Aggregated}
 use Rattle.format.proofs.Lengths.{length-all}
-use Rattle.format.proofs.Records.{Fits}
 use Rattle.format.proofs.Messages.{length-message}
 use Rattle.format.proofs.Joined.{Good}
 use Rattle.format.proofs.Entries.{length-entries, assert-fits}
-use Rattle.format.proofs.Calls.{Asked, every-allowed, taken-most, taken-fits, pack-none, pack-some, packing-gives, packing-short}
+use Rattle.format.proofs.Calls.{Asked, limit-itself, every-allowed, taken-most, taken-fits, pack-none, pack-some, packing-gives, packing-short}
 use Rattle.format.proofs.RoundTrip.{aggregated-back, Canonical}
 use Rattle.format.proofs.Taken.{unpacked-records}
 
@@ -58,19 +57,18 @@ length-canonical f es =
 
 -- ---- one call
 
-module _ (f : Family) (lawful : Lawful f) (entries : List ℕ) (limit l : ℕ) (given : Given f entries limit l) where
-  es : List AssertRecord
+module _ (f : Family) (lawful : Lawful f) (entries : List ℕ) (l : ℕ) (given : Given f entries l) where
+  abbrev es : List AssertRecord
   es = entriesOf (assertEntries f) entries
 
   -- how many entries a call takes at a place
-  next : ℕ → ℕ
+  pub next : ℕ → ℕ
   next i = taken (aggregated f) l (drop i es)
 
   Fit : List AssertRecord → Type 0
   Fit l′ = 8 + allSize (f .width) (joined (f .width) l′) ≤ l
 
   good : Every (Good f) es
-  unfolding es
   good =
       every-map _ (Good f) (λ (e : AssertRecord) h. record { fits = h .0; allowed = h .1 }) es
       (every-both (Fits f) _ es (assert-fits f entries (given .areOctets)) (given .allowed))
@@ -117,10 +115,9 @@ module _ (f : Family) (lawful : Lawful f) (entries : List ℕ) (limit l : ℕ) (
       go (e ∷ l′) every some within = unfold Canonical in (aggregated-back f lawful e l′ every (omega arith) within .unpacks)
 
   -- where a call starts within the list and has room, it is not refused
-  asked-at : (i : ℕ) → i ≤ length es → (d : List ℕ) → l ≤ length d → Asked (assertEntries f) entries i limit (length d) l
-  unfolding es
+  asked-at : (i : ℕ) → i ≤ length es → (d : List ℕ) → l ≤ length d → Asked (assertEntries f) entries i l (length d) l
   asked-at i h d room = record {
-    limitRead = given .read;
+    limitRead = limit-itself f l (given .least) (given .greatest);
     enough = room;
     wholeList = given .wholeList;
     inside = omega (arith, length-entries (assertEntries f) entries);
@@ -128,15 +125,15 @@ module _ (f : Family) (lawful : Lawful f) (entries : List ℕ) (limit l : ℕ) (
   }
 
   gives-none : (i : ℕ) → i ≤ length es → (d : List ℕ) → l ≤ length d → next i ≡ 0
-      → packing (aggregated f) entries i limit d ≡ record { answer = gives (wrote 0 0); buffer = put d 0 [] }
-  unfolding es next
-  gives-none i h d room none = packing-gives (aggregated f) entries i limit l d [] 0 (asked-at i h d room) (pack-none (aggregated f) l (drop i es) none)
+      → packing (aggregated f) entries i l d ≡ record { answer = gives (wrote 0 0); buffer = put d 0 [] }
+  unfolding next
+  gives-none i h d room none = packing-gives (aggregated f) entries i l l d [] 0 (asked-at i h d room) (pack-none (aggregated f) l (drop i es) none)
 
   gives-some : (i : ℕ) → i ≤ length es → (d : List ℕ) → l ≤ length d → 0 < next i
-      → packing (aggregated f) entries i limit d ≡ record { answer = gives (wrote (length (wrote-at i)) (next i)); buffer = put d 0 (wrote-at i) }
-  unfolding es next wrote-at
+      → packing (aggregated f) entries i l d ≡ record { answer = gives (wrote (length (wrote-at i)) (next i)); buffer = put d 0 (wrote-at i) }
+  unfolding next wrote-at
   gives-some i h d room some =
-      packing-gives (aggregated f) entries i limit l d (wrote-at i) (next i) (asked-at i h d room) (pack-some (aggregated f) l (drop i es) some)
+      packing-gives (aggregated f) entries i l l d (wrote-at i) (next i) (asked-at i h d room) (pack-some (aggregated f) l (drop i es) some)
 
   -- a call sends its message and takes its entries, or does neither
   data CallAt (i : ℕ) (c : PackingCall) : Type 0 where
@@ -149,21 +146,21 @@ module _ (f : Family) (lawful : Lawful f) (entries : List ℕ) (limit l : ℕ) (
       let long : (length (wrote-at i) ≡ 0) → ⊥ = λ e. omega (arith, length-canonical f (take (next i) (drop i es))) in
       rw (ne-eqb (length (wrote-at i)) 0 long, take-put d (wrote-at i))
 
-  call-at : (i : ℕ) → i ≤ length es → (d : List ℕ) → CallAt i (packing (aggregated f) entries i limit d)
+  call-at : (i : ℕ) → i ≤ length es → (d : List ℕ) → CallAt i (packing (aggregated f) entries i l d)
   unfolding takenBy messageOf
   call-at i h d = room (decLe l (length d))
     where
-      count′ : (n : ℕ) → next i ≡ n → l ≤ length d → CallAt i (packing (aggregated f) entries i limit d)
+      count′ : (n : ℕ) → next i ≡ n → l ≤ length d → CallAt i (packing (aggregated f) entries i l d)
       count′ zero e enough = rw (gives-none i h d enough e) (quiet refl refl)
       count′ (suc n) e enough = let some : 0 < next i = omega arith in rw (gives-some i h d enough some) (sends some refl (sent-once i d))
 
-      room : Dec (l ≤ length d) → CallAt i (packing (aggregated f) entries i limit d)
+      room : Dec (l ≤ length d) → CallAt i (packing (aggregated f) entries i l d)
       room (yes enough) = count′ (next i) refl enough
-      room (no short) = rw (packing-short (aggregated f) entries i limit l d (given .read) (omega arith)) (quiet refl refl)
+      room (no short) = rw (packing-short (aggregated f) entries i l l d (limit-itself f l (given .least) (given .greatest)) (omega arith)) (quiet refl refl)
 
   -- ---- calls from a place on
 
-  record From (i : ℕ) (cs : List PackingCall) : Type 0 where
+  pub record From (i : ℕ) (cs : List PackingCall) : Type 0 where
     pub steps : Steps next i (i + takenOf cs) (length (messagesOf cs))
     pub within : Every (Within l) (messagesOf cs)
     pub unpacks : Unpacks f (messagesOf cs) (take (takenOf cs) (drop i es))
@@ -196,44 +193,36 @@ module _ (f : Family) (lawful : Lawful f) (entries : List ℕ) (limit l : ℕ) (
         inside = omega (arith, rest .inside);
       }
 
-  from-calls : (ds : List (List ℕ)) (i : ℕ) → i ≤ length es → From i (calls (aggregated f) entries limit i ds)
+  from-calls : (ds : List (List ℕ)) (i : ℕ) → i ≤ length es → From i (calls (aggregated f) entries l i ds)
   unfolding calls
   from-calls [] i h = from-none i h
   from-calls (d ∷ ds) i h = go (call-at i h d) (from-calls ds i h) (from-calls ds (i + next i) (next-inside i h))
     where
-      go : CallAt i (packing (aggregated f) entries i limit d) → From i (calls (aggregated f) entries limit i ds) → From (i + next i) (calls (aggregated f) entries limit (i + next i) ds)
-          → From i (calls (aggregated f) entries limit i (d ∷ ds))
+      go : CallAt i (packing (aggregated f) entries i l d) → From i (calls (aggregated f) entries l i ds) → From (i + next i) (calls (aggregated f) entries l (i + next i) ds)
+          → From i (calls (aggregated f) entries l i (d ∷ ds))
       go (quiet t m) here there = rw t (from-quiet i _ _ t m (rw (add-zero i) here))
       go (sends some t m) here there = rw t (from-sends i _ _ h some t m there)
 
   -- ---- what each call does
 
-  called-at : (i : ℕ) → i ≤ length es → (d : List ℕ) → Called f entries l i d (packing (aggregated f) entries i limit d)
-  unfolding takenBy es
-  called-at i h d = record {
-    refused = packing-short (aggregated f) entries i limit l d (given .read);
-    accepted = count′ (next i) refl;
-    progress = λ enough left.
-        let some : 0 < next i = next-some i (omega (arith, length-entries (assertEntries f) entries)) in
-        rw (gives-some i h d enough some) some;
-  }
+  pub accepted : (i : ℕ) → i ≤ length es → (d : List ℕ) → l ≤ length d → (n : ℕ) × (k : ℕ) × (packing (aggregated f) entries i l d .answer ≡ gives (wrote n k))
+  accepted i h d enough = count′ (next i) refl
     where
-      count′ : (n : ℕ) → next i ≡ n → l ≤ length d → (n : ℕ) × (k : ℕ) × (packing (aggregated f) entries i limit d .answer ≡ gives (wrote n k))
-      count′ zero e enough = (0, 0, ap (λ c. c .answer) (gives-none i h d enough e))
-      count′ (suc n) e enough = (length (wrote-at i), next i, ap (λ c. c .answer) (gives-some i h d enough (omega arith)))
+      count′ : (n : ℕ) → next i ≡ n → (n : ℕ) × (k : ℕ) × (packing (aggregated f) entries i l d .answer ≡ gives (wrote n k))
+      count′ zero e = (0, 0, ap (λ c. c .answer) (gives-none i h d enough e))
+      count′ (suc n) e = (length (wrote-at i), next i, ap (λ c. c .answer) (gives-some i h d enough (omega arith)))
+
+  pub progress : (i : ℕ) → i < length es → (d : List ℕ) → l ≤ length d → 0 < takenBy (packing (aggregated f) entries i l d .answer)
+  unfolding takenBy
+  progress i left d enough = let some : 0 < next i = next-some i left in rw (gives-some i (omega arith) d enough some) some
 
   -- and where it leaves off
-  stays-inside : (i : ℕ) → i ≤ length es → (d : List ℕ) → i + takenBy (packing (aggregated f) entries i limit d .answer) ≤ length es
+  pub stays-inside : (i : ℕ) → i ≤ length es → (d : List ℕ) → i + takenBy (packing (aggregated f) entries i l d .answer) ≤ length es
   stays-inside i h d = on (call-at i h d)
     where
-      on : CallAt i (packing (aggregated f) entries i limit d) → i + takenBy (packing (aggregated f) entries i limit d .answer) ≤ length es
+      on : CallAt i (packing (aggregated f) entries i l d) → i + takenBy (packing (aggregated f) entries i l d .answer) ≤ length es
       on (quiet t m) = omega arith
       on (sends some t m) = omega (arith, next-inside i h)
-
-  all-called : (ds : List (List ℕ)) (i : ℕ) → i ≤ length es → AllCalled f entries limit l i ds
-  unfolding AllCalled
-  all-called [] i h = tt
-  all-called (d ∷ ds) i h = (called-at i h d, all-called ds _ (stays-inside i h d))
 
   -- ---- any other train
 
@@ -271,74 +260,37 @@ module _ (f : Family) (lawful : Lawful f) (entries : List ℕ) (limit l : ℕ) (
       let b = blocks-of train (take p es) within u in
       omega (arith, fewest Fit fit-front es next next-greedy steps (b .blocks) (b .fit) (b .joins) inside, b .many)
 
--- ---- the theorems
+  -- ---- calls from the start
 
-module _ (f : Family) (lawful : Lawful f) where
-  -- all but the comparison of two limits
-  from-start : (entries : List ℕ) (limit l : ℕ) (given : Given f entries limit l) (buffers : List (List ℕ))
-      → From f lawful entries limit l given 0 (calls (aggregated f) entries limit 0 buffers)
-  from-start entries limit l given buffers = from-calls f lawful entries limit l given buffers 0 (omega arith)
+  pub from-start : (ds : List (List ℕ)) → From 0 (calls (aggregated f) entries l 0 ds)
+  from-start ds = from-calls ds 0 (omega arith)
 
-  least-train : (entries : List ℕ) (limit l : ℕ) → Given f entries limit l → (buffers train : List (List ℕ)) → Every (Within l) train
-      → Unpacks f train (take (totalTaken f entries limit buffers) (entriesOf (assertEntries f) entries)) → length (sent f entries limit buffers) ≤ length train
-  unfolding sent totalTaken es
-  least-train entries limit l given buffers train within u =
-      let start = from-start entries limit l given buffers in
-      fewest-of f lawful entries limit l given _ _ (rw zero-add at (start .steps)) (omega (arith, start .inside)) train within u
-
-  pub demand3 : (entries : List ℕ) (limit l : ℕ) → Given f entries limit l → (buffers : List (List ℕ)) → Demand3 f entries limit l buffers
-  unfolding sent totalTaken es
-  demand3 entries limit l given buffers =
-      let start = from-start entries limit l given buffers in
-      record {
-        called = all-called f lawful entries limit l given buffers 0 (omega arith);
-        within = start .within;
-        inside = omega (arith, start .inside, length-entries (assertEntries f) entries);
-        unpacks = start .unpacks;
-        fewest = least-train entries limit l given buffers;
-        larger = λ limit′ l′ given′ le buffers′ all all′.
-            let messages : List (List ℕ) = messagesOf (calls (aggregated f) entries limit 0 buffers) in
-            let same : takenOf (calls (aggregated f) entries limit′ 0 buffers′) ≡ takenOf (calls (aggregated f) entries limit 0 buffers) = all′ ∙ sym all in
-            least-train entries limit′ l′ given′ buffers′ messages
-            (every-map (Within l) (Within l′) (λ (m : List ℕ) h. le-trans h le) messages (start .within))
-            (rw same (start .unpacks));
-      }
-
-  -- ---- nothing above is empty
+  -- "Every other train … has at least as many messages as were written"
+  pub least-train : (ds train : List (List ℕ)) → Every (Within l) train → Unpacks f train (take (takenOf (calls (aggregated f) entries l 0 ds)) es)
+      → length (messagesOf (calls (aggregated f) entries l 0 ds)) ≤ length train
+  least-train ds train within u =
+      fewest-of _ _ (rw zero-add at (from-start ds .steps)) (omega (arith, from-start ds .inside)) train within u
 
   -- calls with room go on to the end of the list, at one entry a call at least
-  module _ (entries : List ℕ) (limit l : ℕ) (given : Given f entries limit l) where
-    reaches : (ds : List (List ℕ)) (i : ℕ) → i ≤ length (entriesOf (assertEntries f) entries) → Every (λ (d : List ℕ). l ≤ length d) ds
-        → length (entriesOf (assertEntries f) entries) ≤ i + length ds
-        → i + takenOf (calls (aggregated f) entries limit i ds) ≡ length (entriesOf (assertEntries f) entries)
-    unfolding calls takenOf Every es
-    reaches [] i h room many = omega arith
-    reaches (d ∷ ds) i h room many =
-        let t : ℕ = takenBy (packing (aggregated f) entries i limit d .answer) in
-        let inside : i + t ≤ length (entriesOf (assertEntries f) entries) = stays-inside f lawful entries limit l given i h d in
-        let called = called-at f lawful entries limit l given i h d in
-        let on : length (entriesOf (assertEntries f) entries) ≤ i + t + length ds = more (decLe (length (entriesOf (assertEntries f) entries)) i) (called .progress (room .0)) inside in
-        omega (arith, reaches ds (i + t) inside (room .1) on)
-      where
-        more : {t : ℕ} → Dec (length (entriesOf (assertEntries f) entries) ≤ i) → (i < count (assertEntries f) entries → 0 < t)
-            → i + t ≤ length (entriesOf (assertEntries f) entries) → length (entriesOf (assertEntries f) entries) ≤ i + t + length ds
-        more (yes done) progress inside = omega arith
-        more (no left) progress inside = omega (arith, progress (omega (arith, length-entries (assertEntries f) entries)))
-
-  pub complete : (entries : List ℕ) (limit l : ℕ) → Given f entries limit l → Complete f entries limit l
-  unfolding Complete totalTaken
-  complete entries limit l given buffers room many =
-      omega (
-        arith,
-        reaches entries limit l given buffers 0 (omega arith) room (omega (arith, length-entries (assertEntries f) entries)),
-        length-entries (assertEntries f) entries,
-      )
+  pub reaches : (ds : List (List ℕ)) (i : ℕ) → i ≤ length es → Every (λ (d : List ℕ). l ≤ length d) ds → length es ≤ i + length ds
+      → i + takenOf (calls (aggregated f) entries l i ds) ≡ length es
+  unfolding calls takenOf Every
+  reaches [] i h room many = omega arith
+  reaches (d ∷ ds) i h room many =
+      let t : ℕ = takenBy (packing (aggregated f) entries i l d .answer) in
+      let inside : i + t ≤ length es = stays-inside i h d in
+      omega (arith, reaches ds (i + t) inside (room .1) (more (decLe (length es) i) inside))
+    where
+      more : Dec (length es ≤ i) → i + takenBy (packing (aggregated f) entries i l d .answer) ≤ length es
+          → length es ≤ i + takenBy (packing (aggregated f) entries i l d .answer) + length ds
+      more (yes done) inside = omega arith
+      more (no left) inside = omega (arith, progress i (omega arith) d (room .0))
 
 -- the train of messages with one entry each
 one-by-one : (f : Family) → List AssertRecord → List (List ℕ)
 one-by-one f l = map (λ (e : AssertRecord). canonical (aggregated f) (e ∷ [])) l
 
-module _ (f : Family) (lawful : Lawful f) (entries : List ℕ) (limit l : ℕ) (given : Given f entries limit l) where
+module _ (f : Family) (lawful : Lawful f) (entries : List ℕ) (l : ℕ) (given : Given f entries l) where
   one-within : (e : AssertRecord) → length (canonical (aggregated f) (e ∷ [])) ≤ l
   unfolding leastLimit
   one-within e = omega (arith, length-canonical f (e ∷ []), one-entry (f .width) e, given .least)
@@ -350,26 +302,11 @@ module _ (f : Family) (lawful : Lawful f) (entries : List ℕ) (limit l : ℕ) (
       (e ∷ [], l′, aggregated-back f lawful e [] (h .0, tt) (omega arith) (le-trans (one-within e) (given .greatest)) .unpacks, refl, one-unpacks l′ (h .1))
 
   pub comparable : (n : ℕ) → Comparable f entries l n
-  unfolding Comparable one-by-one es
+  unfolding Comparable one-by-one
   comparable n =
       let l′ : List AssertRecord = take n (entriesOf (assertEntries f) entries) in (
         one-by-one f l′,
         length-map l′ _,
         every-of-map (Within l) _ one-within l′,
-        one-unpacks l′ (every-take (Good f) n (entriesOf (assertEntries f) entries) (good f lawful entries limit l given)),
+        one-unpacks l′ (every-take (Good f) n (entriesOf (assertEntries f) entries) (good f lawful entries l given)),
       )
-
--- the empty list yields no message, with any buffers
-no-entries : (f : Family) → entriesOf (assertEntries f) [] ≡ []
-unfolding entriesOf entriesAt count
-no-entries f = rw (zero-div (2 * f .width + 8))
-
-none-left : (ms : List (List ℕ)) → length ms ≤ 0 → ms ≡ []
-none-left [] h = refl
-none-left (m ∷ ms) h = absurd (omega arith)
-
-pub empty : (f : Family) → Lawful f → (limit l : ℕ) → Given f [] limit l → (buffers : List (List ℕ)) → sent f [] limit buffers ≡ []
-unfolding Unpacks Every
-empty f lawful limit l given buffers =
-    none-left (sent f [] limit buffers)
-    (demand3 f lawful [] limit l given buffers .fewest [] tt (rw (no-entries f) (take-nil (totalTaken f [] limit buffers))))
