@@ -1,5 +1,5 @@
 pub mod Marked
 pub mod Messages
 pub mod Faults
-pub mod Demand3
+pub mod Given
 pub mod Calls

