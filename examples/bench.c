@@ -79,9 +79,7 @@ static void put_number(uint8_t *octets, uint32_t number)
 
 static void count(pim_counters *counters, bool received, uint8_t kind, size_t records)
 {
-    pim_count_answer answer = pim_count(*counters, received, kind, records);
-    must("pim_count", answer.refusal);
-    *counters = answer.counters;
+    must("pim_count", pim_count(counters, received, kind, records));
 }
 
 /* ---- neighbours */
@@ -292,35 +290,35 @@ static void print_speed(const char *name, uint16_t speed)
     printf("  %s: %u x 10^%u kbit/s\n", name, (unsigned)(speed & 0x3ff), (unsigned)(speed >> 10));
 }
 
-static void print_attribute(const pim_attribute *a)
+static void print_attribute(const pim_popcount_attribute *a)
 {
     printf("  E %d, MTU %u, flags 0x%04x, options 0x%04x\n", a->e, (unsigned)a->mtu, (unsigned)a->flags,
            (unsigned)a->options);
-    if (a->options & PIM_TRANSIT)
+    if (a->options & PIM_POPCOUNT_TRANSIT)
         printf("  transit: %" PRIu32 "\n", a->values.transit);
-    if (a->options & PIM_STUB)
+    if (a->options & PIM_POPCOUNT_STUB)
         printf("  stub: %" PRIu32 "\n", a->values.stub);
-    if (a->options & PIM_MINIMUM_SPEED)
+    if (a->options & PIM_POPCOUNT_MINIMUM_SPEED)
         print_speed("least speed", a->values.minimum_speed);
-    if (a->options & PIM_MAXIMUM_SPEED)
+    if (a->options & PIM_POPCOUNT_MAXIMUM_SPEED)
         print_speed("greatest speed", a->values.maximum_speed);
-    if (a->options & PIM_NODE)
+    if (a->options & PIM_POPCOUNT_NODE)
         printf("  node: %u\n", (unsigned)a->values.node);
-    if (a->options & PIM_DIAMETER)
+    if (a->options & PIM_POPCOUNT_DIAMETER)
         printf("  diameter: %u\n", (unsigned)a->values.diameter);
 }
 
 /* Our least speed is as fast as the first contributor's, written in another way: ours stays. */
 static void merge(void)
 {
-    pim_own own = {1500, 0x0014, 2, 1, 0x0c0a, 0x1064}; /* 10 x 10^3 and 100 x 10^4 kbit/s */
+    pim_popcount_own own = {1500, 0x0014, 2, 1, 0x0c0a, 0x1064}; /* 10 x 10^3 and 100 x 10^4 kbit/s */
     uint8_t buffer[22];
-    pim_length_answer merged = pim_merge(own, true, contributors, sizeof contributors, buffer, sizeof buffer);
-    pim_attribute_answer read;
+    pim_length_answer merged = pim_popcount_merge(own, true, contributors, sizeof contributors, buffer, sizeof buffer);
+    pim_popcount_read_answer read;
 
-    must("pim_merge", merged.refusal);
-    read = pim_read_attribute(buffer, merged.length, 0);
-    must("pim_read_attribute", read.refusal);
+    must("pim_popcount_merge", merged.refusal);
+    read = pim_popcount_read(buffer, merged.length, 0);
+    must("pim_popcount_read", read.refusal);
     if (read.next != merged.length)
         fail("the merged attribute is not read to its end");
     printf("merged Pop-Count attribute: %zu octets\n", merged.length);
@@ -359,7 +357,7 @@ static bool same_table(const pim_table *a, const pim_table *b)
     return a->count == b->count;
 }
 
-static void print_counts(const char *what, pim_counts counts)
+static void print_counts(const char *what, pim_sheet_counts counts)
 {
     printf("  %s: %zu asserts, %zu pairs, %zu neighbours\n", what, counts.asserts, counts.pairs, counts.neighbours);
 }

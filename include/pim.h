@@ -163,10 +163,12 @@ typedef struct {
 /* A table without neighbours. */
 pim_table pim_table_empty(void);
 
+enum pim_done { PIM_NOTHING_DONE = 0, PIM_REPLACED = 1, PIM_ADDED = 2, PIM_FORGOTTEN = 3 };
+
 typedef struct {
     pim_refusal refusal;
     pim_table table; /* changed, or as it was */
-    uint8_t done;    /* 1 the row was replaced, 2 it went last, 3 it was forgotten */
+    uint8_t done;    /* enum pim_done */
 } pim_table_answer;
 
 /* Hears a Hello from an address; holdtime 0 forgets it. Refuses 14 (the table), 7 (address 0), then 12 (holdtime 0, and absent) or 11 (full), at 0. */
@@ -191,8 +193,9 @@ typedef struct {
 /* Elects among the neighbours and our own router, which has an address and a priority. Refuses 14, 7 at 0. */
 pim_elect_answer pim_elect(pim_table table, uint32_t address, uint32_t priority);
 
-/* Elects among the first `count` rows, at most all, without our own router; only their addresses are looked at. Refuses 12 (no row), 7 (address 0) at 0. */
-pim_elect_answer pim_elect_rows(pim_table table);
+/* Elects among a lent list of rows of any number, without our own router. `count` counts rows, not octets. Only the rows' addresses are tested.
+ * Refuses 12 (no row), 7 (an address is 0) at 0. */
+pim_elect_answer pim_elect_among(const pim_neighbour *rows, size_t count);
 
 /* ---- counters */
 
@@ -213,26 +216,22 @@ typedef struct {
 /* Counters that have counted nothing. */
 pim_counters pim_counters_none(void);
 
-typedef struct {
-    pim_refusal refusal;
-    pim_counters counters; /* changed, or as they were */
-} pim_count_answer;
-
-/* One message more of a kind, sent or received, and so many records; each number stays at the 64-bit maximum. Refuses 4 at 0. */
-pim_count_answer pim_count(pim_counters counters, bool received, uint8_t kind, uint64_t records);
+/* One message more of a kind, sent or received, and so many records, in the counters that are lent; each number stays at the 64-bit maximum.
+ * The answer is the refusal, its number 0 where it counted. Refuses 4 at 0. */
+pim_refusal pim_count(pim_counters *counters, bool received, uint8_t kind, uint64_t records);
 
 /* ---- Pop-Count attributes (RFC 6807) */
 
 /* The bits of `options`. */
-enum pim_option {
-    PIM_TRANSIT = 0x8000,
-    PIM_STUB = 0x4000,
-    PIM_MINIMUM_SPEED = 0x2000,
-    PIM_MAXIMUM_SPEED = 0x1000,
-    PIM_DOMAIN = 0x0800,
-    PIM_NODE = 0x0400,
-    PIM_DIAMETER = 0x0200,
-    PIM_TIME_ZONE = 0x0100
+enum pim_popcount_option {
+    PIM_POPCOUNT_TRANSIT = 0x8000,
+    PIM_POPCOUNT_STUB = 0x4000,
+    PIM_POPCOUNT_MINIMUM_SPEED = 0x2000,
+    PIM_POPCOUNT_MAXIMUM_SPEED = 0x1000,
+    PIM_POPCOUNT_DOMAIN = 0x0800,
+    PIM_POPCOUNT_NODE = 0x0400,
+    PIM_POPCOUNT_DIAMETER = 0x0200,
+    PIM_POPCOUNT_TIME_ZONE = 0x0100
 };
 
 /* The values of the options: 0 where one is not present. */
@@ -240,33 +239,33 @@ typedef struct {
     uint32_t transit, stub;
     uint16_t minimum_speed, maximum_speed; /* 6-bit exponent, 10-bit significand */
     uint8_t domain, node, diameter, time_zone;
-} pim_values;
+} pim_popcount_values;
 
 typedef struct {
     bool e;
     uint16_t mtu, flags, options; /* options as the attribute has them, unallocated bits too */
-    pim_values values;
-} pim_attribute;
+    pim_popcount_values values;
+} pim_popcount_attribute;
 
 typedef struct {
     pim_refusal refusal;
     size_t next; /* the place past the attribute */
-    pim_attribute attribute;
-} pim_attribute_answer;
+    pim_popcount_attribute attribute;
+} pim_popcount_read_answer;
 
 /* Reads the attribute at place `at` of n octets. Refuses 13 and 6 at `at`. */
-pim_attribute_answer pim_read_attribute(const uint8_t *o, size_t n, size_t at);
+pim_popcount_read_answer pim_popcount_read(const uint8_t *o, size_t n, size_t at);
 
-enum pim_order { PIM_LESS = 0, PIM_EQUAL = 1, PIM_GREATER = 2 };
+enum pim_popcount_order { PIM_POPCOUNT_LESS = 0, PIM_POPCOUNT_EQUAL = 1, PIM_POPCOUNT_GREATER = 2 };
 
-/* How link speed a stands to link speed b, by exact size: enum pim_order. */
-uint8_t pim_compare_speeds(uint16_t a, uint16_t b);
+/* How link speed a stands to link speed b, by exact size: enum pim_popcount_order. */
+uint8_t pim_popcount_compare_speeds(uint16_t a, uint16_t b);
 
 typedef struct {
     uint16_t mtu, flags;
     uint32_t transit, stub;
     uint16_t minimum_speed, maximum_speed;
-} pim_own;
+} pim_popcount_own;
 
 typedef struct {
     pim_refusal refusal;
@@ -275,17 +274,17 @@ typedef struct {
 
 /* Merges our own values with the attributes that stand one after another in `contributors`, possibly none, into one attribute at `buffer`. It needs 22 octets
  * at most; octets past the length stay. Refuses 13 and 6 at the first octet of the attribute at fault, then 8 at 0. */
-pim_length_answer pim_merge(pim_own own, bool e, const uint8_t *contributors, size_t n, uint8_t *buffer, size_t room);
+pim_length_answer pim_popcount_merge(pim_popcount_own own, bool e, const uint8_t *contributors, size_t n, uint8_t *buffer, size_t room);
 
 /* ---- the stored sheet */
 
 typedef struct {
     size_t asserts, pairs, neighbours;
-} pim_counts;
+} pim_sheet_counts;
 
 typedef struct {
     pim_refusal refusal;
-    pim_counts counts;
+    pim_sheet_counts counts;
 } pim_check_answer;
 
 /* Checks a sheet. Refuses 14: at 0 for the header, else at the first octet of the entry at fault. */
@@ -293,7 +292,7 @@ pim_check_answer pim_check_sheet(const uint8_t *o, size_t n);
 
 typedef struct {
     pim_refusal refusal;
-    pim_counts counts;
+    pim_sheet_counts counts;
     pim_table table; /* without neighbours where the call refuses */
 } pim_sheet_answer;
 

@@ -5,7 +5,7 @@
 --     kindNamed, kindBy, recordOf, recordAnswer     a record read singly, of a kind that a number names
 --     packAnswer, choiceAnswer        packing
 --     tableAnswer, allowedAnswer, electAnswer     neighbours
---     directionOf, refusalOf, countAnswer     counters
+--     directionOf, refusalOf          counters
 -- Assumes nothing: these are definitions.
 use Prim.Native.Nat.{ℕ}
 use mathlib.Core.Bool.{Bool, true, false, cond}
@@ -25,7 +25,7 @@ use Rattle.hello.specs.Hello.{Hello as HelloSaid, hello}
 use Rattle.hello.specs.declared.Hello.{Hello}
 use Rattle.neighbours.specs.Hearing.{Done, replaced, appended, forgotten}
 use Rattle.neighbours.specs.declared.Table.{Table}
-use Rattle.counters.specs.Counting.{Counting, numberOf}
+use Rattle.counters.specs.Counting.{numberOf}
 use Rattle.counters.specs.declared.Direction.{Direction}
 use Rattle.counters.specs.declared.Direction.the-variants.{Sent, Received}
 use Rattle.pim.specs.declared.messages.Named.{Named}
@@ -39,7 +39,6 @@ use Rattle.pim.specs.declared.packs.ChoiceAnswer.{ChoiceAnswer}
 use Rattle.pim.specs.declared.tables.TableAnswer.{TableAnswer}
 use Rattle.pim.specs.declared.tables.AllowedAnswer.{AllowedAnswer}
 use Rattle.pim.specs.declared.tables.ElectAnswer.{ElectAnswer}
-use Rattle.pim.specs.declared.totals.CountAnswer.{CountAnswer}
 
 abbrev pub accepted : Refusal
 accepted = record { number = 0; place = 0 }
@@ -150,6 +149,3 @@ directionOf false = Sent
 unfoldable pub refusalOf : Outcome (Unit {0}) → Refusal
 refusalOf (gives u) = accepted
 refusalOf (refuses n p) = refusal n p
-
-unfoldable pub countAnswer : Counting → CountAnswer
-countAnswer c = record { refusal = refusalOf (c .answer); counters = c .counters }

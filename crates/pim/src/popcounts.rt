@@ -68,7 +68,7 @@ fn attribute_answer(a: AttributeRead) -> AttributeAnswer
 
 // The attribute at a place.
 #[no_mangle]
-pub extern "C" fn pim_read_attribute(o: &[u8], at: usize) -> AttributeAnswer
+pub extern "C" fn pim_popcount_read(o: &[u8], at: usize) -> AttributeAnswer
     ensures { λ r. ⌜ r ≡ attributeAnswer (attribute (now (o .entry)) at) ⌝ }
 {
     attribute_answer(popcount::read_attribute(o, at))
@@ -86,7 +86,7 @@ fn order_number(o: Order) -> u8
 
 // How one speed stands to another.
 #[no_mangle]
-pub extern "C" fn pim_compare_speeds(a: u16, b: u16) -> u8
+pub extern "C" fn pim_popcount_compare_speeds(a: u16, b: u16) -> u8
     ensures { λ r. ⌜ r ≡ orderNumber (compared a b) ⌝ }
 {
     order_number(popcount::compare_speeds(a, b))
@@ -106,7 +106,12 @@ fn merge_answer(m: Merged) -> LengthAnswer
 
 // The attributes from downstream and our own values, merged.
 #[no_mangle]
-pub extern "C" fn pim_merge(own: Own, e: bool, contributors: &[u8], d: &mut [u8]) -> LengthAnswer
+pub extern "C" fn pim_popcount_merge(
+    own: Own,
+    e: bool,
+    contributors: &[u8],
+    d: &mut [u8],
+) -> LengthAnswer
     ensures answer { λ r. ⌜ r ≡ lengthAnswer (merging own e (now (contributors .entry)) (now (d .entry)) .answer) ⌝ }
     ensures buffer { λ _. ⌜ now (d .exit) ≡ merging own e (now (contributors .entry)) (now (d .entry)) .buffer ⌝ }
 {

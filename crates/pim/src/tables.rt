@@ -5,11 +5,11 @@ use hello::Hello;
 use neighbours::Change;
 use neighbours::Changed;
 use neighbours::Elected;
+use neighbours::Neighbour;
 use neighbours::Packing;
 use neighbours::Table;
 ghost use mathlib.Core.Path.{_≡_};
 ghost use mathlib.Core.List.{[]};
-ghost use lib.ListN.{take};
 ghost use Rattle.neighbours.specs.Rows.{tableOf};
 ghost use Rattle.neighbours.specs.Hearing.{hearing, forgetting};
 ghost use Rattle.neighbours.specs.Election.{mayPack, electing};
@@ -133,11 +133,10 @@ pub extern "C" fn pim_elect(table: Table, address: u32, priority: u32) -> ElectA
     elect_answer(table.elect(address, priority))
 }
 
-// The designated router over the first rows of a table, without our own router; only their addresses are looked at.
+// The designated router over a lent list of rows, without our own router; only their addresses are looked at.
 #[no_mangle]
-pub extern "C" fn pim_elect_rows(table: Table) -> ElectAnswer
-    ensures { λ r. ⌜ r ≡ electAnswer (electingAmong (take (table .count) (table .rows))) ⌝ }
+pub extern "C" fn pim_elect_among(rows: &[Neighbour]) -> ElectAnswer
+    ensures { λ r. ⌜ r ≡ electAnswer (electingAmong (now (rows .entry))) ⌝ }
 {
-    let rows = table.rows;
-    elect_answer(neighbours::elect_rows(rows, table.count))
+    elect_answer(neighbours::elect_among(rows))
 }

@@ -6,13 +6,7 @@ use counters::Direction;
 use format::Refusal;
 ghost use mathlib.Core.Path.{_≡_};
 ghost use Rattle.counters.specs.Counting.{noneCounted, counting, answerOf};
-ghost use Rattle.pim.specs.Answers.{directionOf, refusalOf, countAnswer};
-
-#[repr(C)]
-pub struct CountAnswer {
-    pub refusal: Refusal,
-    pub counters: Counters,
-}
+ghost use Rattle.pim.specs.Answers.{directionOf, refusalOf};
 
 // Counters that have counted nothing.
 #[no_mangle]
@@ -40,16 +34,11 @@ fn count_refusal(a: Answer) -> Refusal
     }
 }
 
-// One message more, and its records.
+// One message more, and its records, on counters that are lent and changed there.
 #[no_mangle]
-pub extern "C" fn pim_count(before: Counters, received: bool, kind: u8, records: u64) -> CountAnswer
-    ensures { λ r. ⌜ r ≡ countAnswer (counting before (directionOf received) kind records) ⌝ }
+pub extern "C" fn pim_count(c: &mut Counters, received: bool, kind: u8, records: u64) -> Refusal
+    ensures answer { λ r. ⌜ r ≡ refusalOf (counting (now (c .entry)) (directionOf received) kind records .answer) ⌝ }
+    ensures counters { λ r. ⌜ now (c .exit) ≡ counting (now (c .entry)) (directionOf received) kind records .counters ⌝ }
 {
-    let c = counters::added(before, direction(received), kind, records);
-    let answer = c.answer;
-    let counters = c.counters;
-    CountAnswer {
-        refusal: count_refusal(answer),
-        counters,
-    }
+    count_refusal(counters::count(c, direction(received), kind, records))
 }

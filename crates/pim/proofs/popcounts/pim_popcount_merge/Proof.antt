@@ -1,9 +1,9 @@
--- `pim::popcounts::pim_merge` meets its contract, as the function that it calls.
+-- `pim::popcounts::pim_popcount_merge` meets its contract, as the function that it calls.
 -- Assumes nothing.
 use mathlib.Core.Path.{_∙_}
 use borrow.Author.Needs.{needs}
-use Rattle.pim.proofs.popcounts.pim_merge.Statement.{statement}
-use Rattle.pim.proofs.popcounts.pim_merge.Tie as tie
+use Rattle.pim.proofs.popcounts.pim_popcount_merge.Statement.{statement}
+use Rattle.pim.proofs.popcounts.pim_popcount_merge.Tie as tie
 
 merge-requires : tie.Need-merge-requires
 merge-requires c κs = search needs
@@ -19,6 +19,6 @@ returns c =
     let k = c .before .before .before in
     (c .merge-answer .ensures ∙ (rw (k .merge .ensures .0)), k .merge .ensures .1)
 
-pub pim-merge-spec : {M : Type 1} → statement M
-pim-merge-spec =
+pub pim-popcount-merge-spec : {M : Type 1} → statement M
+pim-popcount-merge-spec =
     tie.close (tie.spec merge-requires merge-answer-requires same-length returns)

@@ -1,10 +1,10 @@
--- `pim::popcounts::pim_compare_speeds` meets its contract, as the function that it calls.
+-- `pim::popcounts::pim_popcount_compare_speeds` meets its contract, as the function that it calls.
 -- Assumes nothing.
 use mathlib.Core.Path.{ap, _∙_}
 use borrow.Author.Needs.{needs}
 use Rattle.pim.specs.Stored.{orderNumber}
-use Rattle.pim.proofs.popcounts.pim_compare_speeds.Statement.{statement}
-use Rattle.pim.proofs.popcounts.pim_compare_speeds.Tie as tie
+use Rattle.pim.proofs.popcounts.pim_popcount_compare_speeds.Statement.{statement}
+use Rattle.pim.proofs.popcounts.pim_popcount_compare_speeds.Tie as tie
 
 compare-speeds-requires : tie.Need-compare-speeds-requires
 compare-speeds-requires c κs = search needs
@@ -15,6 +15,6 @@ order-number-requires c κs = search needs
 returns : tie.Need-returns
 returns c = c .order-number .ensures ∙ ap orderNumber (c .before .compare-speeds .ensures)
 
-pub pim-compare-speeds-spec : {M : Type 1} → statement M
-pim-compare-speeds-spec =
+pub pim-popcount-compare-speeds-spec : {M : Type 1} → statement M
+pim-popcount-compare-speeds-spec =
     tie.close (tie.spec compare-speeds-requires order-number-requires returns)
