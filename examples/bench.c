@@ -19,14 +19,11 @@
 enum {
     LIMIT = 60,         /* of a message in the train, in octets */
     MOST_MESSAGES = 16, /* that the train may have here */
-    ASSERT_ENTRY = 16,
-    PAIR_ENTRY = 8,
     SHEET_ROOM = 1024
 };
 
 #define OUR_ADDRESS 0x0a000001u /* 10.0.0.1 */
 #define OUR_PRIORITY 1u
-#define R 0x80000000u /* the R bit above the metric preference */
 
 /* ---- what can go wrong */
 
@@ -168,13 +165,13 @@ static const assert_row assert_rows[] = {
     {0xe8010104, 0x0a010001, 110, 20},
     {0xe8010105, 0x0a010001, 110, 20},
     /* R=1: one group, five sources */
-    {0xef000001, 0x0a020001, R | 100, 10},
-    {0xef000001, 0x0a020002, R | 100, 10},
-    {0xef000001, 0x0a020003, R | 100, 10},
-    {0xef000001, 0x0a020004, R | 100, 10},
-    {0xef000001, 0x0a020005, R | 100, 10},
+    {0xef000001, 0x0a020001, PIM_R_BIT | 100, 10},
+    {0xef000001, 0x0a020002, PIM_R_BIT | 100, 10},
+    {0xef000001, 0x0a020003, PIM_R_BIT | 100, 10},
+    {0xef000001, 0x0a020004, PIM_R_BIT | 100, 10},
+    {0xef000001, 0x0a020005, PIM_R_BIT | 100, 10},
     /* R=1: a group for itself, source 0 */
-    {0xef000002, 0x00000000, R | 100, 10},
+    {0xef000002, 0x00000000, PIM_R_BIT | 100, 10},
 };
 
 enum { ASSERTS = sizeof assert_rows / sizeof assert_rows[0] };
@@ -190,10 +187,10 @@ static void make_asserts(uint8_t *entries)
     size_t i;
 
     for (i = 0; i < ASSERTS; i++) {
-        put_number(entries + ASSERT_ENTRY * i, assert_rows[i].group);
-        put_number(entries + ASSERT_ENTRY * i + 4, assert_rows[i].source);
-        put_number(entries + ASSERT_ENTRY * i + 8, assert_rows[i].r_preference);
-        put_number(entries + ASSERT_ENTRY * i + 12, assert_rows[i].metric);
+        put_number(entries + PIM_ASSERT_ENTRY * i, assert_rows[i].group);
+        put_number(entries + PIM_ASSERT_ENTRY * i + 4, assert_rows[i].source);
+        put_number(entries + PIM_ASSERT_ENTRY * i + 8, assert_rows[i].r_preference);
+        put_number(entries + PIM_ASSERT_ENTRY * i + 12, assert_rows[i].metric);
     }
 }
 
@@ -232,7 +229,7 @@ static size_t read_train(const message_train *train, uint8_t *entries, size_t ro
         pim_read_answer read = pim_read_asserts(train->octets[i], train->lengths[i], entries + at, room - at);
 
         must("pim_read_asserts", read.refusal);
-        at += ASSERT_ENTRY * read.count;
+        at += PIM_ASSERT_ENTRY * read.count;
         count(counters, true, read.kind, read.count);
     }
     return at;
@@ -240,12 +237,12 @@ static size_t read_train(const message_train *train, uint8_t *entries, size_t ro
 
 static void check_train(const uint8_t *entries, size_t size, const message_train *train, pim_counters *counters)
 {
-    uint8_t again[ASSERT_ENTRY * (ASSERTS + 1)];
+    uint8_t again[PIM_ASSERT_ENTRY * (ASSERTS + 1)];
     size_t length = read_train(train, again, sizeof again, counters);
 
     if (length != size || memcmp(again, entries, size) != 0)
         fail("the train does not read back to the list");
-    printf("read back: %zu messages, %zu entries, the same list\n", train->count, length / ASSERT_ENTRY);
+    printf("read back: %zu messages, %zu entries, the same list\n", train->count, length / PIM_ASSERT_ENTRY);
 }
 
 /* ---- counters */
@@ -311,8 +308,9 @@ static void print_attribute(const pim_popcount_attribute *a)
 /* Our least speed is as fast as the first contributor's, written in another way: ours stays. */
 static void merge(void)
 {
-    pim_popcount_own own = {1500, 0x0014, 2, 1, 0x0c0a, 0x1064}; /* 10 x 10^3 and 100 x 10^4 kbit/s */
-    uint8_t buffer[22];
+    const uint16_t flags = PIM_POPCOUNT_FLAG_TUNNEL | PIM_POPCOUNT_FLAG_CAPABLE;
+    pim_popcount_own own = {1500, flags, 2, 1, 0x0c0a, 0x1064}; /* 10 x 10^3 and 100 x 10^4 kbit/s */
+    uint8_t buffer[PIM_POPCOUNT_MERGED];
     pim_length_answer merged = pim_popcount_merge(own, true, contributors, sizeof contributors, buffer, sizeof buffer);
     pim_popcount_read_answer read;
 
@@ -337,8 +335,8 @@ static void make_pairs(uint8_t *entries)
     size_t i;
 
     for (i = 0; i < PAIRS; i++) {
-        put_number(entries + PAIR_ENTRY * i, pair_rows[i][0]);
-        put_number(entries + PAIR_ENTRY * i + 4, pair_rows[i][1]);
+        put_number(entries + PIM_PAIR_ENTRY * i, pair_rows[i][0]);
+        put_number(entries + PIM_PAIR_ENTRY * i + 4, pair_rows[i][1]);
     }
 }
 
@@ -366,8 +364,8 @@ static void print_counts(const char *what, pim_sheet_counts counts)
 static void check_read(const uint8_t *sheet, size_t length, const uint8_t *asserts, const uint8_t *pairs,
                        const pim_table *table)
 {
-    uint8_t asserts_again[ASSERT_ENTRY * ASSERTS];
-    uint8_t pairs_again[PAIR_ENTRY * PAIRS];
+    uint8_t asserts_again[PIM_ASSERT_ENTRY * ASSERTS];
+    uint8_t pairs_again[PIM_PAIR_ENTRY * PAIRS];
     pim_sheet_answer read =
         pim_read_sheet(sheet, length, asserts_again, sizeof asserts_again, pairs_again, sizeof pairs_again);
 
@@ -382,7 +380,7 @@ static void check_read(const uint8_t *sheet, size_t length, const uint8_t *asser
 
 static void keep(const uint8_t *asserts, size_t size, const pim_table *table)
 {
-    uint8_t pairs[PAIR_ENTRY * PAIRS];
+    uint8_t pairs[PIM_PAIR_ENTRY * PAIRS];
     uint8_t sheet[SHEET_ROOM];
     pim_length_answer written;
     pim_check_answer checked;
@@ -403,8 +401,8 @@ static void keep(const uint8_t *asserts, size_t size, const pim_table *table)
 static void show_refusal(const message_train *train)
 {
     uint8_t message[LIMIT];
-    uint8_t entries[2 * ASSERT_ENTRY] = {0};
-    const uint8_t untouched[2 * ASSERT_ENTRY] = {0};
+    uint8_t entries[2 * PIM_ASSERT_ENTRY] = {0};
+    const uint8_t untouched[2 * PIM_ASSERT_ENTRY] = {0};
     size_t length;
     uint16_t sum;
     pim_read_answer read;
@@ -430,7 +428,7 @@ static void show_refusal(const message_train *train)
 
 int main(void)
 {
-    uint8_t asserts[ASSERT_ENTRY * ASSERTS];
+    uint8_t asserts[PIM_ASSERT_ENTRY * ASSERTS];
     message_train train;
     pim_table table;
     pim_counters counters = pim_counters_none();

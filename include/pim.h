@@ -1,17 +1,36 @@
 /* Pelseydrip: PIM messages of a shared LAN, read, packed and kept.
  *
- * Every function here is proved to meet its description: no input traps it, every call ends, and a call that refuses
- * changes none of the memory lent to it. Link target/staticlib/libpim.a (README.md has the lines).
+ * The functions of the library are proved to meet their contracts (crates/pim/src): no input traps them, every call
+ * ends, and a call that refuses changes none of the memory lent to it. The compiler and this header are not proved. The
+ * header says in words what the contracts say, and is tested: examples/every.c calls every function and asserts every
+ * size and offset, as C99 and as C++. docs/FORMAT.md describes the octets of messages and sheets, and the refusal
+ * numbers, in full.
  *
- * Lent memory is a pointer and a length, the length counted in octets. A pointer that is lent with length 0 may be any pointer
- * but NULL. Memory that a call writes must not overlap other memory lent to the same call. Numbers in messages are big-endian; numbers
- * in the records below are plain numbers of this machine. Addresses are IPv4, 10.0.0.1 being 0x0a000001.
+ * Link target/staticlib/libpim.a (README.md has the lines). It is for x86-64 with the System V calling convention, as
+ * on Linux. Of other libraries it needs the C library's memory functions alone (memcpy and such).
  *
- * Every answer has a `refusal`. Its `number` is 0 where the call did what it says, and else one of the fourteen numbers; `place` then says
- * where. The other fields of a refused answer are 0, but for a table or counters, which come back as they were passed.
+ * Lent memory is a pointer and a length, and a call keeps no pointer after it returns. The length counts octets; that
+ * of a list of rows counts rows.
+ * - A pointer lent with length 0 may be NULL: nothing is read or written through it. Any other pointer is not NULL.
+ * - Octets need no alignment. Rows and counters are aligned as C aligns them.
+ * - Memory that a call only reads (const) may be the same as, or overlap, other memory that it only reads. Memory that
+ *   it writes must not overlap any other memory lent to the same call.
+ * - Calls share nothing and keep nothing. Any calls may run at the same time in threads, as long as none writes memory
+ *   that is lent to another.
  *
- * Contents, in order: kinds and numbers; messages read; messages packed; neighbours and election; counters; Pop-Count attributes;
- * the stored sheet; the checksum.
+ * Records go by value; each has its size beside it. Compare them field by field: octets between fields are not set. A
+ * bool in a record, or passed by itself, must be 0 or 1, as C's conversions make it. No call refuses another one, and
+ * with it nothing is promised.
+ *
+ * Numbers in messages, entries and sheets are big-endian; numbers in records are plain numbers of this machine.
+ * Addresses are IPv4, 10.0.0.1 being 0x0a000001.
+ *
+ * Every answer of a call that can refuse has a `refusal`, or is one. Its `number` is 0 where the call did what it says,
+ * and `place` is then 0 too. Else it is one of the fourteen numbers, and `place` says where. The other fields of a
+ * refused answer are 0, but for a table, which comes back as it was passed (pim_read_sheet: without neighbours).
+ *
+ * Contents, in order: version; sizes and limits; kinds and numbers; messages read; messages packed; neighbours and
+ * election; counters; Pop-Count attributes; the stored sheet; the checksum.
  */
 #ifndef PIM_H
 #define PIM_H
@@ -24,6 +43,45 @@
 extern "C" {
 #endif
 
+/* ---- version */
+
+/* Each change of this file that a caller can notice raises it: a name, a layout, a number, a size, or what a call does.
+ * It is no version of the protocol. 2: counters and rows are lent, names of Pop-Count begin pim_popcount_, the sheet's
+ * counts are pim_sheet_counts. */
+#define PIM_VERSION 2
+
+/* ---- sizes and limits, in octets where nothing else is said */
+
+#define PIM_HEADER_SIZE 4         /* of a message; its body follows */
+#define PIM_SHORTEST_MESSAGE 4    /* a shorter one is refused */
+#define PIM_LONGEST_MESSAGE 65515 /* a longer one is refused */
+#define PIM_ASSERT_ENTRY 16       /* group, source, R with preference, metric: 4 octets each */
+#define PIM_PAIR_ENTRY 8          /* group, source: 4 octets each */
+#define PIM_LEAST_LIMIT 38        /* of a message that is packed */
+#define PIM_GREATEST_LIMIT 65515  /* the longest message */
+#define PIM_USUAL_LIMIT 1480      /* what limit 0 is read as */
+#define PIM_USUAL_HOLDTIME 105    /* seconds, of a Hello that has none */
+#define PIM_ROWS 16               /* rows of a neighbour table, and neighbours of a sheet at most */
+#define PIM_POPCOUNT_SHORTEST 8   /* a Pop-Count attribute without options */
+#define PIM_POPCOUNT_LONGEST 257  /* the longest that can be read */
+#define PIM_POPCOUNT_MERGED 22    /* the longest that merging writes */
+#define PIM_SHEET_HEADER 12       /* of a sheet; entries of asserts and of pairs follow */
+#define PIM_SHEET_ROW 12          /* of a neighbour in a sheet, last */
+#define PIM_SHEET_ASSERTS 1024    /* entries at most */
+#define PIM_SHEET_PAIRS 1024      /* entries at most */
+#define PIM_LONGEST_SHEET 24780   /* all of these */
+
+/* The most entries that a message of n octets or fewer can give: of pim_read_asserts, and of pim_read_pairs. Both are
+ * exact: some message of at most n octets gives so many. They take n more than once, and are constant where n is.
+ *
+ *     uint8_t entries[PIM_ASSERT_ENTRY * PIM_MOST_ASSERTS(PIM_USUAL_LIMIT)];
+ *
+ * A plain assert has 26 octets; a source aggregated record of two groups makes 42, and an RP aggregated record of one
+ * group and k sources 32 + 6k. Pairs take 4 + 14k. */
+#define PIM_MOST_ASSERTS(n)                                                                                            \
+    ((n) < 26 ? 0 : (n) < 42 ? 1 : (n) < 44 ? 2 : (((n) < PIM_LONGEST_MESSAGE ? (n) : PIM_LONGEST_MESSAGE) - 32) / 6)
+#define PIM_MOST_PAIRS(n) ((n) < 18 ? 0 : (((n) < PIM_LONGEST_MESSAGE ? (n) : PIM_LONGEST_MESSAGE) - 4) / 14)
+
 /* ---- kinds and numbers */
 
 enum pim_kind {
@@ -35,31 +93,34 @@ enum pim_kind {
     PIM_REGISTER_STOP = 5  /* packed Register-Stop */
 };
 
+/* What a call refuses. docs/FORMAT.md has the same words, and says exactly when. */
 enum pim_number {
     PIM_ACCEPTED = 0,
-    PIM_BAD_LENGTH = 1,    /* message under 4 or over 65,515 octets */
-    PIM_BAD_VERSION = 2,   /* version not 2 */
-    PIM_BAD_CHECKSUM = 3,
-    PIM_BAD_KIND = 4,      /* a kind that the call does not read or count */
-    PIM_NO_RECORD = 5,     /* Zero not 0, or no record in a packed message */
-    PIM_CUT = 6,           /* input ends in or before a due field, a count of 0, octets after a plain assert */
-    PIM_BAD_ADDRESS = 7,   /* address form, or an address that is not allowed */
-    PIM_NO_ROOM = 8,       /* lent buffer too small */
-    PIM_BAD_LIMIT = 9,     /* limit neither 0 nor in 38 to 65,515 */
-    PIM_BAD_LIST = 10,     /* entry list not whole, or start past its end */
-    PIM_TABLE_FULL = 11,   /* a new neighbour and 16 rows in use */
-    PIM_ABSENT = 12,       /* forgetting an absent neighbour, electing from an empty list */
-    PIM_BAD_OPTION = 13,   /* Hello option of wrong length or repeated; Pop-Count F, type or length */
-    PIM_BAD_SHEET = 14     /* a sheet or a table that breaks its rules */
+    PIM_BAD_LENGTH = 1,   /* length not 4 to 65,515 octets */
+    PIM_BAD_VERSION = 2,  /* version not 2 */
+    PIM_BAD_CHECKSUM = 3, /* checksum wrong */
+    PIM_BAD_KIND = 4,     /* kind not read here; or not counted */
+    PIM_NO_RECORD = 5,    /* Zero not 0, or no record; of a packed message */
+    PIM_CUT = 6,          /* cut short, or a number of records is 0; or octets follow a plain assert */
+    PIM_BAD_ADDRESS = 7,  /* address not allowed; or its form */
+    PIM_NO_ROOM = 8,      /* too little room; in a buffer that is lent */
+    PIM_BAD_LIMIT = 9,    /* limit not allowed; neither 0 nor 38 to 65,515 */
+    PIM_BAD_LIST = 10,    /* list not whole, or start past its end */
+    PIM_TABLE_FULL = 11,  /* table full; a new neighbour, and 16 rows in use */
+    PIM_ABSENT = 12,      /* no such neighbour; to forget, or none to elect */
+    PIM_BAD_OPTION = 13,  /* option or attribute against its rule; of a Hello, of Pop-Count */
+    PIM_BAD_SHEET = 14    /* sheet or table against its rule */
 };
 
+/* 16 octets */
 typedef struct {
     uint8_t number; /* enum pim_number */
-    size_t place;   /* the octet, or the entry, at fault */
+    size_t place;   /* the octet, or the entry, at fault; 0 where nothing is refused */
 } pim_refusal;
 
 /* ---- messages read */
 
+/* 24 octets */
 typedef struct {
     pim_refusal refusal;
     uint8_t kind; /* enum pim_kind */
@@ -68,84 +129,106 @@ typedef struct {
 /* The kind of the message of n octets at m. Refuses 1, 2, 3, 4 at place 0. */
 pim_header_answer pim_header(const uint8_t *m, size_t n);
 
-/* How many octets the body has that begins at m + 4: n - 4, or 0 where pim_header refuses. */
+/* How many octets the body has that begins at m + PIM_HEADER_SIZE: n - 4, or 0 where pim_header refuses. */
 size_t pim_body(const uint8_t *m, size_t n);
 
+/* The R bit, above the 31 bits of metric preference. */
+#define PIM_R_BIT 0x80000000u
+
+/* 48 octets */
 typedef struct {
     pim_refusal refusal;
-    size_t next;           /* the place past the record */
+    size_t next; /* the place past the record */
     uint32_t group;
     uint32_t source;
-    uint32_t r_preference; /* the R bit, and 31 bits of metric preference; 0 for a pair */
+    uint32_t r_preference; /* PIM_R_BIT, and 31 bits of preference; 0 for a pair */
     uint32_t metric;       /* 0 for a pair */
     bool is_pair;
 } pim_record_answer;
 
-/* The record of a kind at place `at` of n octets. What follows it is no fault. Refuses 4 at 0 for PIM_HELLO, PIM_AGGREGATED and
- * a number that is no kind; 6 and 7 at `at`. */
+/* The record of a kind at place `at` of n octets. What follows it is no fault. Refuses 4 at 0 for PIM_HELLO,
+ * PIM_AGGREGATED and a number that is no kind; 6 and 7 at `at`, which may be any number. */
 pim_record_answer pim_read_record(uint8_t kind, const uint8_t *o, size_t n, size_t at);
 
+/* 32 octets */
 typedef struct {
     pim_refusal refusal;
     size_t count; /* how many entries were written */
     uint8_t kind; /* enum pim_kind */
 } pim_read_answer;
 
-/* Reads a message of kind PIM_ASSERT, PIM_SIMPLE or PIM_AGGREGATED into entries of 16 octets: group, source, R with preference, metric.
- * Room past the entries stays. A message of n octets has at most n entries; 8 at place 0 says that there was less room than 16 octets for each.
- * Refuses 1 to 7, then 8. */
+/* Reads a message of kind PIM_ASSERT, PIM_SIMPLE or PIM_AGGREGATED into entries of PIM_ASSERT_ENTRY octets. `room`
+ * counts octets; those past the entries stay. PIM_MOST_ASSERTS(n) entries are always room enough. Refuses 1, 2, 3, 4 at
+ * 0; then, in the message's order, 5 to 7 at the first octet of the record at fault (of the aggregated record in an
+ * aggregated message), at 4 for Zero and Reserved, at 8 where there is no record, at 26 for octets after a plain
+ * assert; last 8 at 0, exactly if there is less room than all entries take. */
 pim_read_answer pim_read_asserts(const uint8_t *m, size_t n, uint8_t *entries, size_t room);
 
-/* The same for PIM_NULL_REGISTER and PIM_REGISTER_STOP: entries of 8 octets, group and source. */
+/* The same for PIM_NULL_REGISTER and PIM_REGISTER_STOP, with entries of PIM_PAIR_ENTRY octets. PIM_MOST_PAIRS(n) of
+ * them are always room enough. No record is 5 at 4. */
 pim_read_answer pim_read_pairs(const uint8_t *m, size_t n, uint8_t *entries, size_t room);
 
+/* 12 octets */
 typedef struct {
-    uint16_t holdtime; /* 105 where the Hello has none */
+    uint16_t holdtime; /* PIM_USUAL_HOLDTIME where the Hello has none */
     bool has_priority;
     uint32_t priority; /* 0 where it has none */
     bool packing;      /* the packed assert capability */
 } pim_hello;
 
+/* 32 octets */
 typedef struct {
     pim_refusal refusal;
     pim_hello hello;
 } pim_hello_answer;
 
-/* Reads a Hello. Refuses 1 to 4, then 6 and 13 at the option's first octet. */
+/* Reads a Hello. Refuses 1, 2, 3, 4 at 0, then 6 and 13 at the option's first octet. */
 pim_hello_answer pim_read_hello(const uint8_t *m, size_t n);
 
 /* ---- messages packed */
 
+/* 32 octets */
 typedef struct {
     pim_refusal refusal;
     size_t length; /* octets written; 0 at the end of the list: no message */
     size_t taken;  /* entries in the message */
 } pim_pack_answer;
 
-/* Each packs entries from number `start` on into one message at `buffer`: as many as fit the limit (pim_pack_assert: one). Limit 0 is read as 1,480. `entries`
- * has `size` octets; entries are those of pim_read_asserts, or of pim_read_pairs. The buffer needs room for the limit. Octets past the length stay.
- * Call again with start + taken until length is 0. Refuses 9, 8, 10 at 0, then 7 with the number of the first bad entry from the start on. */
-pim_pack_answer pim_pack_assert(const uint8_t *entries, size_t size, size_t start, size_t limit, uint8_t *buffer, size_t room);
-pim_pack_answer pim_pack_simple(const uint8_t *entries, size_t size, size_t start, size_t limit, uint8_t *buffer, size_t room);
-pim_pack_answer pim_pack_aggregated(const uint8_t *entries, size_t size, size_t start, size_t limit, uint8_t *buffer, size_t room);
-pim_pack_answer pim_pack_null_register(const uint8_t *entries, size_t size, size_t start, size_t limit, uint8_t *buffer, size_t room);
-pim_pack_answer pim_pack_register_stop(const uint8_t *entries, size_t size, size_t start, size_t limit, uint8_t *buffer, size_t room);
+/* Each packs entries from number `start` on, counted from 0, into one message at `buffer`: as many as fit the limit
+ * (pim_pack_assert: one). Limits run from PIM_LEAST_LIMIT to PIM_GREATEST_LIMIT; limit 0 is read as PIM_USUAL_LIMIT.
+ * `entries` has `size` octets; the entries are those of pim_read_asserts, or of pim_read_pairs. The buffer needs room
+ * for the limit, also where the message is shorter. Octets past the length stay. Call again with start + taken until
+ * length is 0: at the end of the list nothing is written, and taken is 0. Refuses 9, 8, 10 at 0, then 7 with the number
+ * of the first bad entry from the start on, also of one that this message would not take. */
+pim_pack_answer pim_pack_assert(const uint8_t *entries, size_t size, size_t start, size_t limit, uint8_t *buffer,
+                                size_t room);
+pim_pack_answer pim_pack_simple(const uint8_t *entries, size_t size, size_t start, size_t limit, uint8_t *buffer,
+                                size_t room);
+pim_pack_answer pim_pack_aggregated(const uint8_t *entries, size_t size, size_t start, size_t limit, uint8_t *buffer,
+                                    size_t room);
+pim_pack_answer pim_pack_null_register(const uint8_t *entries, size_t size, size_t start, size_t limit, uint8_t *buffer,
+                                       size_t room);
+pim_pack_answer pim_pack_register_stop(const uint8_t *entries, size_t size, size_t start, size_t limit, uint8_t *buffer,
+                                       size_t room);
 
+/* 40 octets */
 typedef struct {
     pim_refusal refusal;
-    size_t length; /* of the chosen message */
-    size_t taken;
+    size_t length;   /* of the chosen message; 0 at the end of the list */
+    size_t taken;    /* entries in the chosen message */
     bool aggregated; /* which buffer the chosen message stands in, from its start */
 } pim_choice_answer;
 
-/* Packs both forms, each into its own buffer, and chooses the one that took more entries, then the shorter, then the simple. */
-pim_choice_answer pim_pack_both(const uint8_t *entries, size_t size, size_t start, size_t limit, uint8_t *simple, size_t simple_room,
-                                uint8_t *aggregated, size_t aggregated_room);
+/* Packs both forms, each into its own buffer, and chooses the one that took more entries, then the shorter, then the
+ * simple. The other form overwrites the start of the other buffer all the same; how far is not told. At the end of the
+ * list neither is written: length 0, taken 0, the simple one. Refuses as pim_pack_simple does: 9; 8, if either buffer
+ * is smaller than the limit, and then neither is written; 10; 7. */
+pim_choice_answer pim_pack_both(const uint8_t *entries, size_t size, size_t start, size_t limit, uint8_t *simple,
+                                size_t simple_room, uint8_t *aggregated, size_t aggregated_room);
 
 /* ---- neighbours and election */
 
-#define PIM_ROWS 16
-
+/* 12 octets */
 typedef struct {
     uint32_t address;
     uint32_t priority; /* 0 where none was announced */
@@ -154,7 +237,7 @@ typedef struct {
     uint16_t holdtime;
 } pim_neighbour;
 
-/* The rows in use come first; the others are all 0. */
+/* 200 octets. The rows in use come first; the others are all 0. */
 typedef struct {
     pim_neighbour rows[PIM_ROWS];
     size_t count;
@@ -163,20 +246,29 @@ typedef struct {
 /* A table without neighbours. */
 pim_table pim_table_empty(void);
 
-enum pim_done { PIM_NOTHING_DONE = 0, PIM_REPLACED = 1, PIM_ADDED = 2, PIM_FORGOTTEN = 3 };
+enum pim_done {
+    PIM_NOTHING_DONE = 0, /* the call refused */
+    PIM_REPLACED = 1,     /* the row of the address was replaced */
+    PIM_ADDED = 2,        /* a new row went last */
+    PIM_FORGOTTEN = 3     /* the row went, and those after it moved up */
+};
 
+/* 224 octets */
 typedef struct {
     pim_refusal refusal;
     pim_table table; /* changed, or as it was */
     uint8_t done;    /* enum pim_done */
 } pim_table_answer;
 
-/* Hears a Hello from an address; holdtime 0 forgets it. Refuses 14 (the table), 7 (address 0), then 12 (holdtime 0, and absent) or 11 (full), at 0. */
+/* Hears a Hello from an address; holdtime 0 forgets it. Refuses 14 (the table), 7 (address 0), then 12 (holdtime 0, and
+ * absent) or 11 (full), at 0. Every call on a table looks at all of it first: over 16 rows, an address that is 0 or
+ * there twice, a holdtime 0, a priority without its flag or an unused row that is not 0 is 14. */
 pim_table_answer pim_hear(pim_table table, uint32_t address, pim_hello said);
 
 /* Forgets an address. Refuses 14, 7, 12 at 0. */
 pim_table_answer pim_forget(pim_table table, uint32_t address);
 
+/* 24 octets */
 typedef struct {
     pim_refusal refusal;
     bool allowed;
@@ -185,6 +277,7 @@ typedef struct {
 /* Whether every neighbour announced the packed assert capability. Refuses 14 at 0. */
 pim_allowed_answer pim_packing_allowed(pim_table table);
 
+/* 24 octets */
 typedef struct {
     pim_refusal refusal;
     uint32_t address; /* of the designated router */
@@ -193,22 +286,24 @@ typedef struct {
 /* Elects among the neighbours and our own router, which has an address and a priority. Refuses 14, 7 at 0. */
 pim_elect_answer pim_elect(pim_table table, uint32_t address, uint32_t priority);
 
-/* Elects among a lent list of rows of any number, without our own router. `count` counts rows, not octets. Only the rows' addresses are tested.
- * Refuses 12 (no row), 7 (an address is 0) at 0. */
+/* Elects among lent rows, of any number, without our own router. `count` counts rows. Of a row only the address is
+ * tested; packs and holdtime are not looked at. Refuses 12 (no row), 7 (an address is 0) at 0. */
 pim_elect_answer pim_elect_among(const pim_neighbour *rows, size_t count);
 
 /* ---- counters */
 
+/* 16 octets */
 typedef struct {
     uint64_t messages;
     uint64_t records;
 } pim_totals;
 
-/* One total for each kind, in the order of enum pim_kind. */
+/* 96 octets. One total for each kind, in the order of enum pim_kind. */
 typedef struct {
     pim_totals hello, assert_, simple, aggregated, null_register, register_stop;
 } pim_by_kind;
 
+/* 192 octets */
 typedef struct {
     pim_by_kind sent, received;
 } pim_counters;
@@ -216,11 +311,21 @@ typedef struct {
 /* Counters that have counted nothing. */
 pim_counters pim_counters_none(void);
 
-/* One message more of a kind, sent or received, and so many records, in the counters that are lent; each number stays at the 64-bit maximum.
- * The answer is the refusal, its number 0 where it counted. Refuses 4 at 0. */
+/* One message more of a kind, sent or received, and so many records, counted where `counters` points; each number stays
+ * at the 64-bit maximum. The answer is the refusal itself, its number 0 where the call counted. Refuses 4 at 0, for a
+ * number that is no kind. */
 pim_refusal pim_count(pim_counters *counters, bool received, uint8_t kind, uint64_t records);
 
 /* ---- Pop-Count attributes (RFC 6807) */
+
+/* The bits of `flags`. */
+enum pim_popcount_flag {
+    PIM_POPCOUNT_FLAG_SSM = 0x0001,         /* S: a member reported a source-specific group */
+    PIM_POPCOUNT_FLAG_ASM = 0x0002,         /* A: a member reported a group from any source */
+    PIM_POPCOUNT_FLAG_TUNNEL = 0x0004,      /* t: there are manually configured tunnels */
+    PIM_POPCOUNT_FLAG_AUTO_TUNNEL = 0x0008, /* a: there are auto-tunnels */
+    PIM_POPCOUNT_FLAG_CAPABLE = 0x0010      /* P: all downstream routers are Pop-Count capable */
+};
 
 /* The bits of `options`. */
 enum pim_popcount_option {
@@ -234,26 +339,28 @@ enum pim_popcount_option {
     PIM_POPCOUNT_TIME_ZONE = 0x0100
 };
 
-/* The values of the options: 0 where one is not present. */
+/* 16 octets. The values of the options: 0 where one is not present. */
 typedef struct {
     uint32_t transit, stub;
     uint16_t minimum_speed, maximum_speed; /* 6-bit exponent, 10-bit significand */
     uint8_t domain, node, diameter, time_zone;
 } pim_popcount_values;
 
+/* 24 octets */
 typedef struct {
     bool e;
     uint16_t mtu, flags, options; /* options as the attribute has them, unallocated bits too */
     pim_popcount_values values;
 } pim_popcount_attribute;
 
+/* 48 octets */
 typedef struct {
     pim_refusal refusal;
     size_t next; /* the place past the attribute */
     pim_popcount_attribute attribute;
 } pim_popcount_read_answer;
 
-/* Reads the attribute at place `at` of n octets. Refuses 13 and 6 at `at`. */
+/* Reads the attribute at place `at` of n octets. Refuses 13 and 6 at `at`, which may be any number. */
 pim_popcount_read_answer pim_popcount_read(const uint8_t *o, size_t n, size_t at);
 
 enum pim_popcount_order { PIM_POPCOUNT_LESS = 0, PIM_POPCOUNT_EQUAL = 1, PIM_POPCOUNT_GREATER = 2 };
@@ -261,27 +368,33 @@ enum pim_popcount_order { PIM_POPCOUNT_LESS = 0, PIM_POPCOUNT_EQUAL = 1, PIM_POP
 /* How link speed a stands to link speed b, by exact size: enum pim_popcount_order. */
 uint8_t pim_popcount_compare_speeds(uint16_t a, uint16_t b);
 
+/* 16 octets */
 typedef struct {
     uint16_t mtu, flags;
     uint32_t transit, stub;
     uint16_t minimum_speed, maximum_speed;
 } pim_popcount_own;
 
+/* 24 octets */
 typedef struct {
     pim_refusal refusal;
     size_t length; /* octets written */
 } pim_length_answer;
 
-/* Merges our own values with the attributes that stand one after another in `contributors`, possibly none, into one attribute at `buffer`. It needs 22 octets
- * at most; octets past the length stay. Refuses 13 and 6 at the first octet of the attribute at fault, then 8 at 0. */
-pim_length_answer pim_popcount_merge(pim_popcount_own own, bool e, const uint8_t *contributors, size_t n, uint8_t *buffer, size_t room);
+/* Merges our own values with the attributes that stand one after another in `contributors`, possibly none, into one
+ * attribute at `buffer`. It needs PIM_POPCOUNT_MERGED octets at most; octets past the length stay. Refuses 13 and 6 at
+ * the first octet of the attribute at fault, then 8 at 0. */
+pim_length_answer pim_popcount_merge(pim_popcount_own own, bool e, const uint8_t *contributors, size_t n,
+                                     uint8_t *buffer, size_t room);
 
 /* ---- the stored sheet */
 
+/* 24 octets */
 typedef struct {
     size_t asserts, pairs, neighbours;
 } pim_sheet_counts;
 
+/* 40 octets */
 typedef struct {
     pim_refusal refusal;
     pim_sheet_counts counts;
@@ -290,20 +403,25 @@ typedef struct {
 /* Checks a sheet. Refuses 14: at 0 for the header, else at the first octet of the entry at fault. */
 pim_check_answer pim_check_sheet(const uint8_t *o, size_t n);
 
+/* 240 octets */
 typedef struct {
     pim_refusal refusal;
     pim_sheet_counts counts;
     pim_table table; /* without neighbours where the call refuses */
 } pim_sheet_answer;
 
-/* Reads a sheet into assert entries (16 octets each), pair entries (8 octets each) and a table. Room past the entries stays.
- * Refuses 14 as pim_check_sheet does, then 8 at 0. */
-pim_sheet_answer pim_read_sheet(const uint8_t *o, size_t n, uint8_t *asserts, size_t assert_room, uint8_t *pairs, size_t pair_room);
+/* Reads a sheet into assert entries, pair entries and a table. Room past the entries stays. Refuses 14 as
+ * pim_check_sheet does, then 8 at 0, if either room is too small. A refused answer counts nothing: ask pim_check_sheet
+ * first how many entries there are, and lend PIM_ASSERT_ENTRY times counts.asserts and PIM_PAIR_ENTRY times
+ * counts.pairs octets. PIM_SHEET_ASSERTS and PIM_SHEET_PAIRS entries are always room enough. */
+pim_sheet_answer pim_read_sheet(const uint8_t *o, size_t n, uint8_t *asserts, size_t assert_room, uint8_t *pairs,
+                                size_t pair_room);
 
-/* Writes the sheet of two entry lists and a table: 12 octets, 16 for each assert, 8 for each pair, 12 for each neighbour; at most 24,780. Octets past it
- * stay. Refuses 10, 14, 8, 7, all at 0. */
-pim_length_answer pim_write_sheet(const uint8_t *asserts, size_t assert_size, const uint8_t *pairs, size_t pair_size, pim_table table,
-                                  uint8_t *buffer, size_t room);
+/* Writes the sheet of two entry lists and a table: PIM_SHEET_HEADER octets, then all entries as they stand, then
+ * PIM_SHEET_ROW octets for each neighbour; PIM_LONGEST_SHEET at most. Octets past it stay. Refuses 10 (a list is not
+ * whole), 14 (too many entries, or the table), 8, 7, all at 0. */
+pim_length_answer pim_write_sheet(const uint8_t *asserts, size_t assert_size, const uint8_t *pairs, size_t pair_size,
+                                  pim_table table, uint8_t *buffer, size_t room);
 
 /* ---- the checksum */
 

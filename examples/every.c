@@ -1,0 +1,1157 @@
+/* Every function of include/pim.h is called, and each answer compared with what the rule book says it is: the expected
+ * octets and numbers are worked out by hand, none is copied from an output. Sizes, offsets and constants are asserted
+ * when this file is compiled.
+ *
+ * In order: layout; constants; the most entries of a message; messages read; messages packed; neighbours and election;
+ * counters; Pop-Count attributes; the stored sheet; the checksum; lent memory (NULL, the same memory twice, any
+ * alignment).
+ *
+ * Build and run it from the top of the repository, as C99 or as C++ (.ci/face does both):
+ *
+ *     cc -std=c99 -Wall -Wextra -Iinclude examples/every.c target/staticlib/libpim.a -o target/every
+ *     target/every
+ *
+ * It prints how many calls it made. At the first answer that is not the expected one it says which, and the exit status
+ * is 1.
+ */
+#include "pim.h"
+
+#include <stdio.h>
+#include <stdlib.h>
+#include <string.h>
+
+/* ---- layout */
+
+#define JOINED(a, b) a##b
+#define NAMED(a, b) JOINED(a, b)
+#define HOLDS(condition) typedef char NAMED(holds_, __LINE__)[(condition) ? 1 : -1]
+#define FIELD(type, field, at, size) HOLDS(offsetof(type, field) == (at) && sizeof(((type *)0)->field) == (size))
+
+/* Whoever changes a size, an offset or a constant that is asserted here raises the version. */
+HOLDS(PIM_VERSION == 2);
+
+HOLDS(sizeof(size_t) == 8);
+HOLDS(sizeof(bool) == 1);
+
+HOLDS(sizeof(pim_refusal) == 16);
+FIELD(pim_refusal, number, 0, 1);
+FIELD(pim_refusal, place, 8, 8);
+
+HOLDS(sizeof(pim_header_answer) == 24);
+FIELD(pim_header_answer, refusal, 0, 16);
+FIELD(pim_header_answer, kind, 16, 1);
+
+HOLDS(sizeof(pim_record_answer) == 48);
+FIELD(pim_record_answer, refusal, 0, 16);
+FIELD(pim_record_answer, next, 16, 8);
+FIELD(pim_record_answer, group, 24, 4);
+FIELD(pim_record_answer, source, 28, 4);
+FIELD(pim_record_answer, r_preference, 32, 4);
+FIELD(pim_record_answer, metric, 36, 4);
+FIELD(pim_record_answer, is_pair, 40, 1);
+
+HOLDS(sizeof(pim_read_answer) == 32);
+FIELD(pim_read_answer, refusal, 0, 16);
+FIELD(pim_read_answer, count, 16, 8);
+FIELD(pim_read_answer, kind, 24, 1);
+
+HOLDS(sizeof(pim_hello) == 12);
+FIELD(pim_hello, holdtime, 0, 2);
+FIELD(pim_hello, has_priority, 2, 1);
+FIELD(pim_hello, priority, 4, 4);
+FIELD(pim_hello, packing, 8, 1);
+
+HOLDS(sizeof(pim_hello_answer) == 32);
+FIELD(pim_hello_answer, refusal, 0, 16);
+FIELD(pim_hello_answer, hello, 16, 12);
+
+HOLDS(sizeof(pim_pack_answer) == 32);
+FIELD(pim_pack_answer, refusal, 0, 16);
+FIELD(pim_pack_answer, length, 16, 8);
+FIELD(pim_pack_answer, taken, 24, 8);
+
+HOLDS(sizeof(pim_choice_answer) == 40);
+FIELD(pim_choice_answer, refusal, 0, 16);
+FIELD(pim_choice_answer, length, 16, 8);
+FIELD(pim_choice_answer, taken, 24, 8);
+FIELD(pim_choice_answer, aggregated, 32, 1);
+
+HOLDS(sizeof(pim_neighbour) == 12);
+FIELD(pim_neighbour, address, 0, 4);
+FIELD(pim_neighbour, priority, 4, 4);
+FIELD(pim_neighbour, has_priority, 8, 1);
+FIELD(pim_neighbour, packs, 9, 1);
+FIELD(pim_neighbour, holdtime, 10, 2);
+
+HOLDS(sizeof(pim_table) == 200);
+FIELD(pim_table, rows, 0, 192);
+FIELD(pim_table, count, 192, 8);
+
+HOLDS(sizeof(pim_table_answer) == 224);
+FIELD(pim_table_answer, refusal, 0, 16);
+FIELD(pim_table_answer, table, 16, 200);
+FIELD(pim_table_answer, done, 216, 1);
+
+HOLDS(sizeof(pim_allowed_answer) == 24);
+FIELD(pim_allowed_answer, refusal, 0, 16);
+FIELD(pim_allowed_answer, allowed, 16, 1);
+
+HOLDS(sizeof(pim_elect_answer) == 24);
+FIELD(pim_elect_answer, refusal, 0, 16);
+FIELD(pim_elect_answer, address, 16, 4);
+
+HOLDS(sizeof(pim_totals) == 16);
+FIELD(pim_totals, messages, 0, 8);
+FIELD(pim_totals, records, 8, 8);
+
+HOLDS(sizeof(pim_by_kind) == 96);
+FIELD(pim_by_kind, hello, 16 * PIM_HELLO, 16);
+FIELD(pim_by_kind, assert_, 16 * PIM_ASSERT, 16);
+FIELD(pim_by_kind, simple, 16 * PIM_SIMPLE, 16);
+FIELD(pim_by_kind, aggregated, 16 * PIM_AGGREGATED, 16);
+FIELD(pim_by_kind, null_register, 16 * PIM_NULL_REGISTER, 16);
+FIELD(pim_by_kind, register_stop, 16 * PIM_REGISTER_STOP, 16);
+
+HOLDS(sizeof(pim_counters) == 192);
+FIELD(pim_counters, sent, 0, 96);
+FIELD(pim_counters, received, 96, 96);
+
+HOLDS(sizeof(pim_popcount_values) == 16);
+FIELD(pim_popcount_values, transit, 0, 4);
+FIELD(pim_popcount_values, stub, 4, 4);
+FIELD(pim_popcount_values, minimum_speed, 8, 2);
+FIELD(pim_popcount_values, maximum_speed, 10, 2);
+FIELD(pim_popcount_values, domain, 12, 1);
+FIELD(pim_popcount_values, node, 13, 1);
+FIELD(pim_popcount_values, diameter, 14, 1);
+FIELD(pim_popcount_values, time_zone, 15, 1);
+
+HOLDS(sizeof(pim_popcount_attribute) == 24);
+FIELD(pim_popcount_attribute, e, 0, 1);
+FIELD(pim_popcount_attribute, mtu, 2, 2);
+FIELD(pim_popcount_attribute, flags, 4, 2);
+FIELD(pim_popcount_attribute, options, 6, 2);
+FIELD(pim_popcount_attribute, values, 8, 16);
+
+HOLDS(sizeof(pim_popcount_read_answer) == 48);
+FIELD(pim_popcount_read_answer, refusal, 0, 16);
+FIELD(pim_popcount_read_answer, next, 16, 8);
+FIELD(pim_popcount_read_answer, attribute, 24, 24);
+
+HOLDS(sizeof(pim_popcount_own) == 16);
+FIELD(pim_popcount_own, mtu, 0, 2);
+FIELD(pim_popcount_own, flags, 2, 2);
+FIELD(pim_popcount_own, transit, 4, 4);
+FIELD(pim_popcount_own, stub, 8, 4);
+FIELD(pim_popcount_own, minimum_speed, 12, 2);
+FIELD(pim_popcount_own, maximum_speed, 14, 2);
+
+HOLDS(sizeof(pim_length_answer) == 24);
+FIELD(pim_length_answer, refusal, 0, 16);
+FIELD(pim_length_answer, length, 16, 8);
+
+HOLDS(sizeof(pim_sheet_counts) == 24);
+FIELD(pim_sheet_counts, asserts, 0, 8);
+FIELD(pim_sheet_counts, pairs, 8, 8);
+FIELD(pim_sheet_counts, neighbours, 16, 8);
+
+HOLDS(sizeof(pim_check_answer) == 40);
+FIELD(pim_check_answer, refusal, 0, 16);
+FIELD(pim_check_answer, counts, 16, 24);
+
+HOLDS(sizeof(pim_sheet_answer) == 240);
+FIELD(pim_sheet_answer, refusal, 0, 16);
+FIELD(pim_sheet_answer, counts, 16, 24);
+FIELD(pim_sheet_answer, table, 40, 200);
+
+/* ---- constants, each from the rule book's own words */
+
+HOLDS(PIM_HEADER_SIZE == 4);
+HOLDS(PIM_SHORTEST_MESSAGE == 4);
+HOLDS(PIM_LONGEST_MESSAGE == 65515);
+HOLDS(PIM_ASSERT_ENTRY == 4 + 4 + 4 + 4);
+HOLDS(PIM_PAIR_ENTRY == 4 + 4);
+HOLDS(PIM_LEAST_LIMIT == 38);
+HOLDS(PIM_GREATEST_LIMIT == 65515);
+HOLDS(PIM_USUAL_LIMIT == 1480);
+HOLDS(PIM_R_BIT == 0xffffffffu - 0x7fffffffu);
+HOLDS(PIM_USUAL_HOLDTIME == 105);
+HOLDS(PIM_ROWS == 16);
+HOLDS(PIM_POPCOUNT_SHORTEST == 2 + 6);
+HOLDS(PIM_POPCOUNT_LONGEST == 2 + 255);
+HOLDS(PIM_POPCOUNT_MERGED == 2 + 6 + 4 + 4 + 2 + 2 + 1 + 1);
+HOLDS(PIM_SHEET_HEADER == 3 * (2 + 2));
+HOLDS(PIM_SHEET_ROW == 4 + 4 + 1 + 1 + 2);
+HOLDS(PIM_SHEET_ASSERTS == 1024);
+HOLDS(PIM_SHEET_PAIRS == 1024);
+HOLDS(PIM_LONGEST_SHEET == 12 + 1024 * 16 + 1024 * 8 + 16 * 12);
+
+/* S 1, A 2, t 4, a 8, P 16 */
+HOLDS(PIM_POPCOUNT_FLAG_SSM == 1);
+HOLDS(PIM_POPCOUNT_FLAG_ASM == 2);
+HOLDS(PIM_POPCOUNT_FLAG_TUNNEL == 4);
+HOLDS(PIM_POPCOUNT_FLAG_AUTO_TUNNEL == 8);
+HOLDS(PIM_POPCOUNT_FLAG_CAPABLE == 16);
+
+/* from the highest bit down */
+HOLDS(PIM_POPCOUNT_TRANSIT == 1 << 15);
+HOLDS(PIM_POPCOUNT_STUB == 1 << 14);
+HOLDS(PIM_POPCOUNT_MINIMUM_SPEED == 1 << 13);
+HOLDS(PIM_POPCOUNT_MAXIMUM_SPEED == 1 << 12);
+HOLDS(PIM_POPCOUNT_DOMAIN == 1 << 11);
+HOLDS(PIM_POPCOUNT_NODE == 1 << 10);
+HOLDS(PIM_POPCOUNT_DIAMETER == 1 << 9);
+HOLDS(PIM_POPCOUNT_TIME_ZONE == 1 << 8);
+
+/* They are constant where n is. */
+HOLDS(PIM_MOST_ASSERTS(PIM_USUAL_LIMIT) == 241);
+HOLDS(PIM_MOST_PAIRS(PIM_USUAL_LIMIT) == 105);
+
+/* ---- what can go wrong */
+
+static unsigned long calls;
+
+#define CALLED(call) (calls++, (call))
+#define EXPECT(condition) ((condition) ? (void)0 : fail(__LINE__, #condition))
+
+static void fail(int line, const char *what)
+{
+    fflush(stdout);
+    fprintf(stderr, "every: line %d: expected %s\n", line, what);
+    exit(EXIT_FAILURE);
+}
+
+static bool refused(pim_refusal refusal, unsigned number, size_t place)
+{
+    return refusal.number == number && refusal.place == place;
+}
+
+/* The place of an accepted answer is 0. */
+static bool accepted(pim_refusal refusal)
+{
+    return refused(refusal, PIM_ACCEPTED, 0);
+}
+
+/* What stands in memory before it is lent. */
+enum { UNTOUCHED = 0x5a };
+
+static bool untouched(const uint8_t *octets, size_t from, size_t to)
+{
+    size_t i;
+
+    for (i = from; i < to; i++)
+        if (octets[i] != UNTOUCHED)
+            return false;
+    return true;
+}
+
+/* Puts the checksum into a message: a second one, by RFC 1071's sum in a wide number. */
+static void seal(uint8_t *m, size_t n)
+{
+    uint32_t sum = 0;
+    size_t i;
+
+    m[2] = m[3] = 0;
+    for (i = 0; i < n; i++)
+        sum += i % 2 == 0 ? (uint32_t)m[i] << 8 : m[i];
+    while (sum > 0xffff)
+        sum = (sum >> 16) + (sum & 0xffff);
+    m[2] = (uint8_t)(~sum >> 8);
+    m[3] = (uint8_t)~sum;
+}
+
+/* ---- what several sections use */
+
+/* The rule book's first example, and its one entry. */
+static const uint8_t example[30] = {0x25, 0x01, 0xe5, 0x58, 0x00, 0x00, 0x00, 0x00, 0x01, 0x00,
+                                    0x00, 0x20, 0xe8, 0x01, 0x01, 0x01, 0x01, 0x00, 0x0a, 0x00,
+                                    0x00, 0x01, 0x00, 0x00, 0x00, 0x6e, 0x00, 0x00, 0x00, 0x14};
+static const uint8_t example_entry[16] = {0xe8, 0x01, 0x01, 0x01, 0x0a, 0x00, 0x00, 0x01,
+                                          0x00, 0x00, 0x00, 0x6e, 0x00, 0x00, 0x00, 0x14};
+
+/* Group 232.1.1.1 and source 10.0.0.1 as a message has them. */
+static const uint8_t pair_record[14] = {0x01, 0x00, 0x00, 0x20, 0xe8, 0x01, 0x01,
+                                        0x01, 0x01, 0x00, 0x0a, 0x00, 0x00, 0x01};
+
+/* ---- the most entries of a message */
+
+enum { LONGEST = PIM_LONGEST_MESSAGE, NONE = -1000000 };
+
+static int larger(int a, int b)
+{
+    return a > b ? a : b;
+}
+
+/* The most entries of what ends after n octets of an aggregated message, for every n: a group of a source aggregated
+ * record (18 octets, 8 for each of one or more groups); a group record without sources (12 octets, one entry); a source
+ * of a group record (12 octets, 6 for each source); whole aggregated records. An RP aggregated record has 12 octets
+ * before its one or more group records. */
+typedef struct {
+    int group[LONGEST + 1], no_source[LONGEST + 1], source[LONGEST + 1], whole[LONGEST + 1];
+} ends;
+
+static int most_at(const int *most, int n)
+{
+    return n < 8 ? NONE : most[n];
+}
+
+/* The most entries of group records that end after n octets, so that another one may follow. */
+static int group_records(const ends *e, int n)
+{
+    return larger(most_at(e->no_source, n), most_at(e->source, n));
+}
+
+/* Every way in which the octets before n can go on to n. */
+static void end_at(ends *e, int n)
+{
+    e->group[n] = larger(most_at(e->whole, n - 18 - 8), most_at(e->group, n - 8)) + 1;
+    e->no_source[n] = larger(most_at(e->whole, n - 12 - 12), group_records(e, n - 12)) + 1;
+    e->source[n] =
+        larger(larger(most_at(e->whole, n - 12 - 12 - 6), group_records(e, n - 12 - 6)), most_at(e->source, n - 6)) + 1;
+    e->whole[n] = n == 8 ? 0 : larger(e->group[n], group_records(e, n));
+}
+
+/* Both macros for every n: the most of all messages of up to n octets. A plain assert has 26 octets, a simple message 8
+ * + 22k, one of pairs 4 + 14k. */
+static void most_entries(void)
+{
+    static ends e;
+    int asserts = 0, pairs = 0, n;
+
+    for (n = 0; n <= LONGEST; n++) {
+        if (n >= 8)
+            end_at(&e, n);
+        if (n == 26)
+            asserts = larger(asserts, 1);
+        if (n >= 30 && (n - 8) % 22 == 0)
+            asserts = larger(asserts, (n - 8) / 22);
+        if (n > 8)
+            asserts = larger(asserts, e.whole[n]);
+        if (n >= 18 && (n - 4) % 14 == 0)
+            pairs = (n - 4) / 14;
+        EXPECT(PIM_MOST_ASSERTS(n) == asserts);
+        EXPECT(PIM_MOST_PAIRS(n) == pairs);
+    }
+    for (; n < LONGEST + 100; n++)
+        EXPECT(PIM_MOST_ASSERTS(n) == asserts && PIM_MOST_PAIRS(n) == pairs);
+}
+
+static size_t put(uint8_t *m, size_t at, const void *octets, size_t n)
+{
+    memcpy(m + at, octets, n);
+    return at + n;
+}
+
+/* A plain assert, two groups of one source, or k sources of one group: what gives k entries in the fewest octets. */
+static size_t smallest(uint8_t *m, size_t k)
+{
+    static const uint8_t packed[8] = {0x25, 0x03, 0, 0, 0, 0, 0, 0};
+    static const uint8_t rp[8] = {0x80, 0, 0, 0x6e, 0, 0, 0, 0x14};
+    const uint8_t number[4] = {(uint8_t)(k >> 8), (uint8_t)k, 0, 0}, one[4] = {0, 1, 0, 0};
+    size_t n, i;
+
+    if (k == 1) {
+        memcpy(m, example, 4);
+        m[1] = 0;
+        n = put(m, 4, example + 8, 22);
+    } else if (k == 2) {
+        n = put(m, put(m, 0, packed, 8), example + 22, 8);
+        n = put(m, put(m, n, example + 16, 6), number, 4);
+        n = put(m, put(m, n, pair_record, 8), pair_record, 8);
+    } else {
+        n = put(m, put(m, put(m, 0, packed, 8), rp, 8), one, 4);
+        n = put(m, put(m, n, pair_record, 8), number, 4);
+        for (i = 0; i < k; i++)
+            n = put(m, n, pair_record + 8, 6);
+    }
+    seal(m, n);
+    return n;
+}
+
+/* A message attains each bound, and needs all of the room that the bound says. */
+static void most_is_attained(void)
+{
+    static const size_t bounds[] = {26, 41, 42, 43, 49, 50, 55, 56, 62, PIM_USUAL_LIMIT, PIM_LONGEST_MESSAGE};
+    static uint8_t m[PIM_LONGEST_MESSAGE], entries[PIM_ASSERT_ENTRY * PIM_MOST_ASSERTS(PIM_LONGEST_MESSAGE)];
+    size_t i;
+
+    for (i = 0; i < sizeof bounds / sizeof bounds[0]; i++) {
+        size_t k = PIM_MOST_ASSERTS(bounds[i]);
+        size_t n = smallest(m, k);
+        pim_read_answer read;
+
+        EXPECT(n <= bounds[i] && PIM_MOST_ASSERTS(n) == k && PIM_MOST_ASSERTS(n - 1) == k - 1);
+        read = CALLED(pim_read_asserts(m, n, entries, PIM_ASSERT_ENTRY * k));
+        EXPECT(accepted(read.refusal) && read.count == k && read.kind == (k == 1 ? PIM_ASSERT : PIM_AGGREGATED));
+        read = CALLED(pim_read_asserts(m, n, entries, PIM_ASSERT_ENTRY * k - 1));
+        EXPECT(refused(read.refusal, PIM_NO_ROOM, 0));
+    }
+}
+
+/* The most pairs of the longest message: 4,679. */
+static void most_pairs_attained(void)
+{
+    enum { K = 4679, N = 4 + 14 * K };
+    static uint8_t m[N], entries[PIM_PAIR_ENTRY * K];
+    size_t i;
+    pim_read_answer read;
+
+    EXPECT(PIM_MOST_PAIRS(PIM_LONGEST_MESSAGE) == K && N <= PIM_LONGEST_MESSAGE);
+    m[0] = 0x2d;
+    m[1] = 0x10;
+    for (i = 0; i < K; i++)
+        put(m, 4 + 14 * i, pair_record, 14);
+    seal(m, N);
+    read = CALLED(pim_read_pairs(m, N, entries, PIM_PAIR_ENTRY * K));
+    EXPECT(accepted(read.refusal) && read.count == K && read.kind == PIM_REGISTER_STOP);
+    read = CALLED(pim_read_pairs(m, N, entries, PIM_PAIR_ENTRY * K - 1));
+    EXPECT(refused(read.refusal, PIM_NO_ROOM, 0));
+}
+
+/* ---- messages read */
+
+static void headers(void)
+{
+    uint8_t m[30];
+    pim_header_answer header = CALLED(pim_header(example, sizeof example));
+
+    EXPECT(accepted(header.refusal) && header.kind == PIM_SIMPLE);
+    EXPECT(CALLED(pim_body(example, sizeof example)) == 26);
+
+    memcpy(m, example, sizeof m);
+    m[29] = 0x15;
+    header = CALLED(pim_header(m, sizeof m));
+    EXPECT(refused(header.refusal, PIM_BAD_CHECKSUM, 0) && header.kind == 0);
+    EXPECT(CALLED(pim_body(m, sizeof m)) == 0);
+
+    EXPECT(refused(CALLED(pim_header(example, 3)).refusal, PIM_BAD_LENGTH, 0));
+    m[0] = 0x15; /* version 1 */
+    EXPECT(refused(CALLED(pim_header(m, sizeof m)).refusal, PIM_BAD_VERSION, 0));
+    m[0] = 0x23; /* Join/Prune */
+    seal(m, sizeof m);
+    EXPECT(refused(CALLED(pim_header(m, sizeof m)).refusal, PIM_BAD_KIND, 0));
+}
+
+static void records(void)
+{
+    pim_record_answer r = CALLED(pim_read_record(PIM_SIMPLE, example, sizeof example, 8));
+
+    EXPECT(accepted(r.refusal) && r.next == 30 && !r.is_pair);
+    EXPECT(r.group == 0xe8010101 && r.source == 0x0a000001 && r.r_preference == 110 && r.metric == 20);
+
+    /* the same octets as a pair: 8 for the group, 6 for the source */
+    r = CALLED(pim_read_record(PIM_REGISTER_STOP, example, sizeof example, 8));
+    EXPECT(accepted(r.refusal) && r.next == 22 && r.is_pair);
+    EXPECT(r.group == 0xe8010101 && r.source == 0x0a000001 && r.r_preference == 0 && r.metric == 0);
+
+    r = CALLED(pim_read_record(PIM_AGGREGATED, example, sizeof example, 8));
+    EXPECT(refused(r.refusal, PIM_BAD_KIND, 0) && r.next == 0 && r.group == 0 && !r.is_pair);
+    EXPECT(refused(CALLED(pim_read_record(PIM_HELLO, example, sizeof example, 8)).refusal, PIM_BAD_KIND, 0));
+    EXPECT(refused(CALLED(pim_read_record(6, example, sizeof example, 8)).refusal, PIM_BAD_KIND, 0));
+    EXPECT(refused(CALLED(pim_read_record(PIM_SIMPLE, example, sizeof example, 30)).refusal, PIM_CUT, 30));
+    EXPECT(refused(CALLED(pim_read_record(PIM_SIMPLE, example, sizeof example, SIZE_MAX)).refusal, PIM_CUT, SIZE_MAX));
+    /* 00 00 is no address form */
+    EXPECT(refused(CALLED(pim_read_record(PIM_SIMPLE, example, sizeof example, 9)).refusal, PIM_BAD_ADDRESS, 9));
+}
+
+static void asserts_read(void)
+{
+    uint8_t entries[20], m[30];
+    pim_read_answer read;
+
+    memset(entries, UNTOUCHED, sizeof entries);
+    read = CALLED(pim_read_asserts(example, sizeof example, entries, 15));
+    EXPECT(refused(read.refusal, PIM_NO_ROOM, 0) && read.count == 0 && read.kind == 0);
+    EXPECT(untouched(entries, 0, 20));
+    read = CALLED(pim_read_asserts(example, sizeof example, entries, sizeof entries));
+    EXPECT(accepted(read.refusal) && read.count == 1 && read.kind == PIM_SIMPLE);
+    EXPECT(memcmp(entries, example_entry, 16) == 0 && untouched(entries, 16, 20));
+
+    memcpy(m, example, sizeof m);
+    m[4] = 1; /* Zero */
+    seal(m, sizeof m);
+    EXPECT(refused(CALLED(pim_read_asserts(m, sizeof m, entries, sizeof entries)).refusal, PIM_NO_RECORD, 4));
+    m[4] = 0;
+    seal(m, 8);
+    EXPECT(refused(CALLED(pim_read_asserts(m, 8, entries, sizeof entries)).refusal, PIM_NO_RECORD, 8));
+    seal(m, 29);
+    EXPECT(refused(CALLED(pim_read_asserts(m, 29, entries, sizeof entries)).refusal, PIM_CUT, 8));
+    m[1] = 0; /* a plain assert, of which octets 4 to 11 are no group */
+    seal(m, sizeof m);
+    EXPECT(refused(CALLED(pim_read_asserts(m, sizeof m, entries, sizeof entries)).refusal, PIM_BAD_ADDRESS, 4));
+    memmove(m + 4, m + 8, 22);
+    seal(m, sizeof m);
+    EXPECT(refused(CALLED(pim_read_asserts(m, sizeof m, entries, sizeof entries)).refusal, PIM_CUT, 26));
+}
+
+static void pairs_read(void)
+{
+    uint8_t m[18] = {0x2d, 0x00}, entries[10];
+    pim_read_answer read;
+
+    put(m, 4, pair_record, 14);
+    seal(m, sizeof m);
+    memset(entries, UNTOUCHED, sizeof entries);
+    read = CALLED(pim_read_pairs(m, sizeof m, entries, 7));
+    EXPECT(refused(read.refusal, PIM_NO_ROOM, 0) && untouched(entries, 0, 10));
+    read = CALLED(pim_read_pairs(m, sizeof m, entries, sizeof entries));
+    EXPECT(accepted(read.refusal) && read.count == 1 && read.kind == PIM_NULL_REGISTER);
+    EXPECT(memcmp(entries, example_entry, 8) == 0 && untouched(entries, 8, 10));
+
+    EXPECT(refused(CALLED(pim_read_pairs(example, sizeof example, entries, sizeof entries)).refusal, PIM_BAD_KIND, 0));
+    EXPECT(refused(CALLED(pim_read_asserts(m, sizeof m, entries, sizeof entries)).refusal, PIM_BAD_KIND, 0));
+    memset(m + 14, 0, 4); /* source 0: for a Register-Stop only */
+    seal(m, sizeof m);
+    EXPECT(refused(CALLED(pim_read_pairs(m, sizeof m, entries, sizeof entries)).refusal, PIM_BAD_ADDRESS, 4));
+    m[1] = 0x10;
+    seal(m, sizeof m);
+    read = CALLED(pim_read_pairs(m, sizeof m, entries, sizeof entries));
+    EXPECT(accepted(read.refusal) && read.count == 1 && read.kind == PIM_REGISTER_STOP);
+    seal(m, 4);
+    EXPECT(refused(CALLED(pim_read_pairs(m, 4, entries, sizeof entries)).refusal, PIM_NO_RECORD, 4));
+}
+
+static void hellos(void)
+{
+    /* holdtime 210, DR priority 5, packed assert capability */
+    uint8_t m[22] = {0x20, 0, 0, 0, 0, 1, 0, 2, 0, 210, 0, 19, 0, 4, 0, 0, 0, 5, 0, 40, 0, 0};
+    pim_hello_answer h;
+
+    seal(m, sizeof m);
+    h = CALLED(pim_read_hello(m, sizeof m));
+    EXPECT(accepted(h.refusal) && h.hello.holdtime == 210 && h.hello.has_priority && h.hello.priority == 5 &&
+           h.hello.packing);
+    seal(m, 4);
+    h = CALLED(pim_read_hello(m, 4));
+    EXPECT(accepted(h.refusal) && h.hello.holdtime == PIM_USUAL_HOLDTIME && !h.hello.has_priority &&
+           h.hello.priority == 0 && !h.hello.packing);
+    seal(m, 20); /* the third option without its length */
+    EXPECT(refused(CALLED(pim_read_hello(m, 20)).refusal, PIM_CUT, 18));
+    m[11] = 1; /* holdtime again */
+    seal(m, sizeof m);
+    h = CALLED(pim_read_hello(m, sizeof m));
+    EXPECT(refused(h.refusal, PIM_BAD_OPTION, 10) && h.hello.holdtime == 0 && !h.hello.packing);
+}
+
+/* ---- messages packed */
+
+/* Entries for the packing calls: the example's, with other groups. */
+static void make_entries(uint8_t *entries, size_t count)
+{
+    size_t i;
+
+    for (i = 0; i < count; i++) {
+        memcpy(entries + PIM_ASSERT_ENTRY * i, example_entry, PIM_ASSERT_ENTRY);
+        entries[PIM_ASSERT_ENTRY * i + 3] = (uint8_t)(i + 1);
+    }
+}
+
+static bool packed(pim_pack_answer p, size_t length, size_t taken)
+{
+    return accepted(p.refusal) && p.length == length && p.taken == taken;
+}
+
+/* A plain assert, and the rule book's first example from its entry. */
+static void plain_and_simple(void)
+{
+    uint8_t entries[67 * PIM_ASSERT_ENTRY], buffer[PIM_USUAL_LIMIT], plain[26] = {0x25};
+    pim_pack_answer p;
+
+    make_entries(entries, 67);
+    put(plain, 4, example + 8, 22);
+    seal(plain, sizeof plain);
+    memset(buffer, UNTOUCHED, sizeof buffer);
+    p = CALLED(pim_pack_assert(entries, sizeof entries, 0, PIM_LEAST_LIMIT, buffer, sizeof buffer));
+    EXPECT(packed(p, 26, 1) && memcmp(buffer, plain, 26) == 0 && untouched(buffer, 26, sizeof buffer));
+
+    p = CALLED(pim_pack_simple(entries, PIM_ASSERT_ENTRY, 0, PIM_LEAST_LIMIT, buffer, sizeof buffer));
+    EXPECT(packed(p, 30, 1) && memcmp(buffer, example, 30) == 0 && untouched(buffer, 30, sizeof buffer));
+    /* 67 entries left at the usual limit: 66 taken, 1,460 octets; 66 left: the same */
+    p = CALLED(pim_pack_simple(entries, sizeof entries, 0, 0, buffer, sizeof buffer));
+    EXPECT(packed(p, 1460, 66) && CALLED(pim_checksum_holds(buffer, 1460)) && untouched(buffer, 1460, sizeof buffer));
+    p = CALLED(pim_pack_simple(entries, sizeof entries, 1, PIM_USUAL_LIMIT, buffer, sizeof buffer));
+    EXPECT(packed(p, 1460, 66));
+    p = CALLED(pim_pack_simple(entries, sizeof entries, 67, 0, buffer, sizeof buffer));
+    EXPECT(packed(p, 0, 0));
+}
+
+/* Three R=0 entries, one source and metric: 50 octets at limit 50; at 49, messages of 42 and 34. */
+static void source_aggregated(void)
+{
+    static const uint8_t head[26] = {0x25, 0x03, 0,    0, 0, 0,    0, 0, 0, 0, 0, 0x6e, 0,
+                                     0,    0,    0x14, 1, 0, 0x0a, 0, 0, 1, 0, 3, 0,    0};
+    uint8_t entries[3 * PIM_ASSERT_ENTRY], buffer[52], m[50];
+    pim_pack_answer p;
+    size_t i;
+
+    make_entries(entries, 3);
+    put(m, 0, head, sizeof head);
+    for (i = 0; i < 3; i++) {
+        put(m, 26 + 8 * i, pair_record, 8);
+        m[26 + 8 * i + 7] = (uint8_t)(i + 1);
+    }
+    seal(m, sizeof m);
+    memset(buffer, UNTOUCHED, sizeof buffer);
+    p = CALLED(pim_pack_aggregated(entries, sizeof entries, 0, 50, buffer, sizeof buffer));
+    EXPECT(packed(p, 50, 3) && memcmp(buffer, m, 50) == 0 && untouched(buffer, 50, 52));
+    p = CALLED(pim_pack_aggregated(entries, sizeof entries, 0, 49, buffer, sizeof buffer));
+    EXPECT(packed(p, 42, 2));
+    p = CALLED(pim_pack_aggregated(entries, sizeof entries, 2, 49, buffer, sizeof buffer));
+    EXPECT(packed(p, 34, 1));
+}
+
+/* One R=1 entry, source 0: 32 octets; other source: 38. Two, one group, both source 0: one group record, p=2, 44
+ * octets. */
+static void rp_aggregated(void)
+{
+    uint8_t entries[2 * PIM_ASSERT_ENTRY], buffer[44];
+    pim_pack_answer p;
+
+    make_entries(entries, 2);
+    entries[8] = entries[24] = 0x80;
+    p = CALLED(pim_pack_aggregated(entries, PIM_ASSERT_ENTRY, 0, PIM_LEAST_LIMIT, buffer, sizeof buffer));
+    EXPECT(packed(p, 38, 1) && buffer[8] == 0x80 && buffer[29] == 1);
+    entries[19] = entries[3]; /* one group, and no source */
+    memset(entries + 4, 0, 4);
+    memset(entries + 20, 0, 4);
+    p = CALLED(pim_pack_aggregated(entries, PIM_ASSERT_ENTRY, 0, PIM_LEAST_LIMIT, buffer, sizeof buffer));
+    EXPECT(packed(p, 32, 1) && buffer[29] == 0);
+    p = CALLED(pim_pack_aggregated(entries, sizeof entries, 0, 44, buffer, sizeof buffer));
+    EXPECT(packed(p, 44, 2) && buffer[17] == 1 && buffer[29] == 2);
+}
+
+static void pairs_packed(void)
+{
+    uint8_t entries[2 * PIM_PAIR_ENTRY], buffer[40], m[32] = {0x2d};
+    pim_pack_answer p;
+
+    put(entries, put(entries, 0, example_entry, 8), example_entry, 8);
+    put(m, put(m, 4, pair_record, 14), pair_record, 14);
+    seal(m, sizeof m);
+    memset(buffer, UNTOUCHED, sizeof buffer);
+    p = CALLED(pim_pack_null_register(entries, sizeof entries, 0, 40, buffer, sizeof buffer));
+    EXPECT(packed(p, 32, 2) && memcmp(buffer, m, 32) == 0 && untouched(buffer, 32, 40));
+
+    memset(entries + 12, 0, 4); /* source 0 in the second: for a Register-Stop only */
+    p = CALLED(pim_pack_null_register(entries, sizeof entries, 0, 40, buffer, sizeof buffer));
+    EXPECT(refused(p.refusal, PIM_BAD_ADDRESS, 1) && p.length == 0 && p.taken == 0 && memcmp(buffer, m, 32) == 0);
+    m[1] = 0x10;
+    memset(m + 28, 0, 4);
+    seal(m, sizeof m);
+    p = CALLED(pim_pack_register_stop(entries, sizeof entries, 0, 40, buffer, sizeof buffer));
+    EXPECT(packed(p, 32, 2) && memcmp(buffer, m, 32) == 0 && untouched(buffer, 32, 40));
+}
+
+/* 9, 8, 10, then 7: each call has the faults of those after it too. */
+static void packing_refuses(void)
+{
+    uint8_t entries[2 * PIM_ASSERT_ENTRY], buffer[PIM_LEAST_LIMIT];
+
+    make_entries(entries, 2);
+    entries[16] = 10; /* no group */
+    memset(buffer, UNTOUCHED, sizeof buffer);
+    EXPECT(refused(CALLED(pim_pack_aggregated(entries, 31, 0, 37, buffer, 37)).refusal, PIM_BAD_LIMIT, 0));
+    EXPECT(refused(CALLED(pim_pack_aggregated(entries, 31, 0, 65516, buffer, 37)).refusal, PIM_BAD_LIMIT, 0));
+    EXPECT(refused(CALLED(pim_pack_aggregated(entries, 31, 0, 38, buffer, 37)).refusal, PIM_NO_ROOM, 0));
+    EXPECT(refused(CALLED(pim_pack_aggregated(entries, 31, 0, 38, buffer, 38)).refusal, PIM_BAD_LIST, 0));
+    EXPECT(refused(CALLED(pim_pack_aggregated(entries, 32, 3, 38, buffer, 38)).refusal, PIM_BAD_LIST, 0));
+    /* also of an entry that the message would not take */
+    EXPECT(refused(CALLED(pim_pack_assert(entries, 32, 0, 38, buffer, 38)).refusal, PIM_BAD_ADDRESS, 1));
+    EXPECT(untouched(buffer, 0, sizeof buffer));
+}
+
+/* Two R=0 entries of one source: 52 octets as simple, 42 as aggregated. */
+static void choices(void)
+{
+    uint8_t entries[2 * PIM_ASSERT_ENTRY], simple[60], aggregated[60];
+    pim_choice_answer c;
+
+    make_entries(entries, 2);
+    memset(simple, UNTOUCHED, sizeof simple);
+    memset(aggregated, UNTOUCHED, sizeof aggregated);
+    c = CALLED(pim_pack_both(entries, 32, 0, 60, simple, 60, aggregated, 59));
+    EXPECT(refused(c.refusal, PIM_NO_ROOM, 0) && c.length == 0 && c.taken == 0 && !c.aggregated);
+    c = CALLED(pim_pack_both(entries, 32, 0, 60, simple, 59, aggregated, 60));
+    EXPECT(refused(c.refusal, PIM_NO_ROOM, 0));
+    EXPECT(refused(CALLED(pim_pack_both(entries, 32, 0, 37, simple, 60, aggregated, 60)).refusal, PIM_BAD_LIMIT, 0));
+    EXPECT(refused(CALLED(pim_pack_both(entries, 31, 0, 60, simple, 60, aggregated, 60)).refusal, PIM_BAD_LIST, 0));
+    entries[16] = 10; /* no group */
+    EXPECT(refused(CALLED(pim_pack_both(entries, 32, 0, 60, simple, 60, aggregated, 60)).refusal, PIM_BAD_ADDRESS, 1));
+    entries[16] = 0xe8;
+    c = CALLED(pim_pack_both(entries, 32, 2, 60, simple, 60, aggregated, 60));
+    EXPECT(accepted(c.refusal) && c.length == 0 && c.taken == 0 && !c.aggregated);
+    EXPECT(untouched(simple, 0, 60) && untouched(aggregated, 0, 60));
+
+    /* both take two, and the shorter is chosen; the other one is written too */
+    c = CALLED(pim_pack_both(entries, 32, 0, 60, simple, 60, aggregated, 60));
+    EXPECT(accepted(c.refusal) && c.length == 42 && c.taken == 2 && c.aggregated);
+    EXPECT(CALLED(pim_checksum_holds(aggregated, 42)) && untouched(aggregated, 42, 60));
+    EXPECT(CALLED(pim_checksum_holds(simple, 52)) && untouched(simple, 52, 60));
+    /* one entry: 30 octets as simple, 34 as aggregated */
+    c = CALLED(pim_pack_both(entries, 16, 0, 60, simple, 60, aggregated, 60));
+    EXPECT(accepted(c.refusal) && c.length == 30 && c.taken == 1 && !c.aggregated && memcmp(simple, example, 30) == 0);
+}
+
+/* ---- neighbours and election */
+
+static const pim_hello five = {105, true, 5, true};
+
+static bool row_is(pim_neighbour row, uint32_t address, const pim_hello *said)
+{
+    return row.address == address && row.priority == said->priority && row.has_priority == said->has_priority &&
+           row.packs == said->packing && row.holdtime == said->holdtime;
+}
+
+/* The rows from number `from` on are all 0. */
+static bool unused(const pim_table *table, size_t from)
+{
+    static const pim_hello nothing = {0, false, 0, false};
+    size_t i;
+
+    for (i = from; i < PIM_ROWS; i++)
+        if (!row_is(table->rows[i], 0, &nothing))
+            return false;
+    return true;
+}
+
+static void hearing(void)
+{
+    const pim_hello nine = {210, true, 9, false}, gone = {0, true, 9, false};
+    pim_table table = CALLED(pim_table_empty());
+    pim_table_answer t;
+
+    EXPECT(table.count == 0 && unused(&table, 0));
+    t = CALLED(pim_hear(table, 0x0a000002, five));
+    EXPECT(accepted(t.refusal) && t.done == PIM_ADDED && t.table.count == 1);
+    t = CALLED(pim_hear(t.table, 0x0a000003, five));
+    EXPECT(accepted(t.refusal) && t.done == PIM_ADDED && t.table.count == 2);
+    t = CALLED(pim_hear(t.table, 0x0a000003, nine));
+    EXPECT(accepted(t.refusal) && t.done == PIM_REPLACED && t.table.count == 2 && unused(&t.table, 2));
+    EXPECT(row_is(t.table.rows[0], 0x0a000002, &five) && row_is(t.table.rows[1], 0x0a000003, &nine));
+    EXPECT(!CALLED(pim_packing_allowed(t.table)).allowed);
+
+    t = CALLED(pim_hear(t.table, 0x0a000004, gone));
+    EXPECT(refused(t.refusal, PIM_ABSENT, 0) && t.done == PIM_NOTHING_DONE && t.table.count == 2);
+    t = CALLED(pim_hear(t.table, 0, five));
+    EXPECT(refused(t.refusal, PIM_BAD_ADDRESS, 0) && t.done == PIM_NOTHING_DONE);
+    EXPECT(row_is(t.table.rows[0], 0x0a000002, &five) && row_is(t.table.rows[1], 0x0a000003, &nine));
+    t = CALLED(pim_forget(t.table, 0x0a000002)); /* the row after it moves up */
+    EXPECT(accepted(t.refusal) && t.done == PIM_FORGOTTEN && t.table.count == 1 && unused(&t.table, 1));
+    EXPECT(row_is(t.table.rows[0], 0x0a000003, &nine));
+    EXPECT(refused(CALLED(pim_forget(t.table, 0x0a000002)).refusal, PIM_ABSENT, 0));
+    t = CALLED(pim_hear(t.table, 0x0a000003, gone));
+    EXPECT(accepted(t.refusal) && t.done == PIM_FORGOTTEN && t.table.count == 0 && unused(&t.table, 0));
+}
+
+static void full_and_bad_tables(void)
+{
+    pim_table_answer t;
+    uint32_t i;
+
+    t.table = CALLED(pim_table_empty());
+    for (i = 1; i <= PIM_ROWS; i++) {
+        t = CALLED(pim_hear(t.table, i, five));
+        EXPECT(accepted(t.refusal) && t.table.count == i);
+    }
+    t = CALLED(pim_hear(t.table, 17, five));
+    EXPECT(refused(t.refusal, PIM_TABLE_FULL, 0) && t.table.count == 16 && row_is(t.table.rows[15], 16, &five));
+    EXPECT(CALLED(pim_packing_allowed(t.table)).allowed);
+
+    t.table.rows[3].holdtime = 0;
+    EXPECT(refused(CALLED(pim_hear(t.table, 0, five)).refusal, PIM_BAD_SHEET, 0));
+    EXPECT(refused(CALLED(pim_forget(t.table, 1)).refusal, PIM_BAD_SHEET, 0));
+    EXPECT(refused(CALLED(pim_packing_allowed(t.table)).refusal, PIM_BAD_SHEET, 0));
+    EXPECT(refused(CALLED(pim_elect(t.table, 1, 1)).refusal, PIM_BAD_SHEET, 0));
+}
+
+/* Priorities 5 and 9: the 9. A third without priority: the highest address of three. */
+static void elections(void)
+{
+    static const pim_hello nine = {105, true, 9, true}, unsaid = {105, false, 0, true};
+    pim_table table = CALLED(pim_table_empty());
+    pim_elect_answer e = CALLED(pim_elect(table, 0x0a000001, 0));
+
+    EXPECT(accepted(e.refusal) && e.address == 0x0a000001);
+    table = CALLED(pim_hear(table, 0xc0000001, nine)).table;
+    e = CALLED(pim_elect(table, 0xc0000003, 5));
+    EXPECT(accepted(e.refusal) && e.address == 0xc0000001);
+    table = CALLED(pim_hear(table, 0x0a000002, unsaid)).table;
+    e = CALLED(pim_elect(table, 0xc0000003, 5));
+    EXPECT(accepted(e.refusal) && e.address == 0xc0000003);
+    e = CALLED(pim_elect(table, 0, 5));
+    EXPECT(refused(e.refusal, PIM_BAD_ADDRESS, 0) && e.address == 0);
+}
+
+/* More rows than a table holds, and such as no table may hold: only addresses are tested. */
+static void elections_among(void)
+{
+    pim_neighbour rows[40];
+    pim_elect_answer e;
+    size_t i;
+
+    memset(rows, 0, sizeof rows);
+    for (i = 0; i < 40; i++) {
+        rows[i].address = (uint32_t)(i + 1);
+        rows[i].priority = (uint32_t)(i == 22 ? 9 : 5);
+        rows[i].has_priority = true;
+    }
+    rows[39].address = 1; /* there twice, and no row has a holdtime */
+    e = CALLED(pim_elect_among(rows, 40));
+    EXPECT(accepted(e.refusal) && e.address == 23);
+    e = CALLED(pim_elect_among(rows, 22)); /* equal priorities: the highest address */
+    EXPECT(accepted(e.refusal) && e.address == 22);
+    rows[0].has_priority = false;
+    e = CALLED(pim_elect_among(rows, 40));
+    EXPECT(accepted(e.refusal) && e.address == 39);
+    e = CALLED(pim_elect_among(rows, 1));
+    EXPECT(accepted(e.refusal) && e.address == 1);
+    rows[39].address = 0;
+    e = CALLED(pim_elect_among(rows, 40));
+    EXPECT(refused(e.refusal, PIM_BAD_ADDRESS, 0) && e.address == 0);
+    e = CALLED(pim_elect_among(rows, 0));
+    EXPECT(refused(e.refusal, PIM_ABSENT, 0) && e.address == 0);
+}
+
+/* ---- counters */
+
+/* Counters are 24 numbers of 64 bits, one after another: two for each kind, those of what was sent first. */
+static bool counted(const pim_counters *c, size_t received, size_t kind, uint64_t messages, uint64_t records)
+{
+    uint64_t all[24], expected[24] = {0};
+
+    expected[12 * received + 2 * kind] = messages;
+    expected[12 * received + 2 * kind + 1] = records;
+    memcpy(all, c, sizeof all);
+    return memcmp(all, expected, sizeof all) == 0;
+}
+
+static void counters(void)
+{
+    uint8_t kind;
+    int received;
+
+    for (received = 0; received < 2; received++)
+        for (kind = PIM_HELLO; kind <= PIM_REGISTER_STOP; kind++) {
+            pim_counters c = CALLED(pim_counters_none());
+
+            EXPECT(counted(&c, 0, 0, 0, 0));
+            EXPECT(accepted(CALLED(pim_count(&c, received != 0, kind, 66))));
+            EXPECT(counted(&c, (size_t)received, kind, 1, 66));
+            EXPECT(accepted(CALLED(pim_count(&c, received != 0, kind, UINT64_MAX - 66))));
+            EXPECT(counted(&c, (size_t)received, kind, 2, UINT64_MAX));
+            EXPECT(accepted(CALLED(pim_count(&c, received != 0, kind, 1)))); /* it stays at the maximum */
+            EXPECT(counted(&c, (size_t)received, kind, 3, UINT64_MAX));
+            EXPECT(refused(CALLED(pim_count(&c, received != 0, 6, 1)), PIM_BAD_KIND, 0));
+            EXPECT(refused(CALLED(pim_count(&c, received != 0, 255, 1)), PIM_BAD_KIND, 0));
+            EXPECT(counted(&c, (size_t)received, kind, 3, UINT64_MAX));
+        }
+}
+
+/* ---- Pop-Count attributes */
+
+/* All eight options: MTU 1500, flags S and P, transit 10, stub 5, 100 x 10^2 and 100 x 10^4 kbit/s, domain 1, node 3,
+ * diameter 2, time zone 4. Then transit alone, E set: MTU 1400, flag S, transit 10. */
+static const uint8_t attributes[36] = {0x03, 0x16, 0x05, 0xdc, 0x00, 0x11, 0xff, 0x00, 0, 0, 0, 10,
+                                       0,    0,    0,    5,    0x08, 0x64, 0x10, 0x64, 1, 3, 2, 4,
+                                       0x43, 0x0a, 5,    0x78, 0,    1,    0x80, 0,    0, 0, 0, 10};
+
+static void attributes_read(void)
+{
+    const uint16_t flags = PIM_POPCOUNT_FLAG_SSM | PIM_POPCOUNT_FLAG_CAPABLE;
+    pim_popcount_read_answer r = CALLED(pim_popcount_read(attributes, sizeof attributes, 0));
+    pim_popcount_attribute a = r.attribute;
+
+    EXPECT(accepted(r.refusal) && r.next == 24 && !a.e && a.mtu == 1500 && a.flags == flags && a.options == 0xff00);
+    EXPECT(a.values.transit == 10 && a.values.stub == 5 && a.values.minimum_speed == 0x0864 &&
+           a.values.maximum_speed == 0x1064);
+    EXPECT(a.values.domain == 1 && a.values.node == 3 && a.values.diameter == 2 && a.values.time_zone == 4);
+    r = CALLED(pim_popcount_read(attributes, sizeof attributes, 24));
+    a = r.attribute;
+    EXPECT(accepted(r.refusal) && r.next == 36 && a.e && a.mtu == 1400 && a.flags == PIM_POPCOUNT_FLAG_SSM);
+    EXPECT(a.options == PIM_POPCOUNT_TRANSIT && a.values.transit == 10 && a.values.stub == 0 && a.values.node == 0);
+
+    r = CALLED(pim_popcount_read(attributes, 35, 24));
+    EXPECT(refused(r.refusal, PIM_CUT, 24) && r.next == 0 && !r.attribute.e && r.attribute.mtu == 0);
+    EXPECT(refused(CALLED(pim_popcount_read(attributes, 36, SIZE_MAX)).refusal, PIM_CUT, SIZE_MAX));
+    EXPECT(refused(CALLED(pim_popcount_read(attributes, 36, 1)).refusal, PIM_BAD_OPTION, 1)); /* type 0x16 */
+}
+
+/* Each option alone has its own bit, length and field; and the shortest and the longest attribute. */
+static void each_option(void)
+{
+    static const uint8_t sizes[8] = {4, 4, 2, 2, 1, 1, 1, 1};
+    uint8_t o[PIM_POPCOUNT_LONGEST] = {0x03, 6};
+    unsigned i;
+
+    EXPECT(CALLED(pim_popcount_read(o, PIM_POPCOUNT_SHORTEST, 0)).next == PIM_POPCOUNT_SHORTEST);
+    for (i = 0; i < 8; i++) {
+        pim_popcount_values v;
+        uint32_t fields[8];
+
+        o[1] = (uint8_t)(6 + sizes[i]);
+        o[6] = (uint8_t)(PIM_POPCOUNT_TRANSIT >> i >> 8);
+        o[7 + sizes[i]] = 77;
+        v = CALLED(pim_popcount_read(o, sizeof o, 0)).attribute.values;
+        o[7 + sizes[i]] = 0;
+        fields[0] = v.transit, fields[1] = v.stub, fields[2] = v.minimum_speed, fields[3] = v.maximum_speed;
+        fields[4] = v.domain, fields[5] = v.node, fields[6] = v.diameter, fields[7] = v.time_zone;
+        EXPECT(fields[i] == 77);
+        fields[i] = 0;
+        EXPECT((fields[0] | fields[1] | fields[2] | fields[3] | fields[4] | fields[5] | fields[6] | fields[7]) == 0);
+    }
+    o[1] = 255; /* an unallocated option: octets beyond the known ones are ignored */
+    o[7] = 1;
+    EXPECT(CALLED(pim_popcount_read(o, sizeof o, 0)).next == PIM_POPCOUNT_LONGEST);
+}
+
+static void speeds(void)
+{
+    /* 1 x 10^1 and 10 x 10^0 are equal; 100 x 10^0 is more */
+    EXPECT(CALLED(pim_popcount_compare_speeds(0x0401, 0x000a)) == PIM_POPCOUNT_EQUAL);
+    EXPECT(CALLED(pim_popcount_compare_speeds(0x0401, 0x0064)) == PIM_POPCOUNT_LESS);
+    EXPECT(CALLED(pim_popcount_compare_speeds(0x0064, 0x0401)) == PIM_POPCOUNT_GREATER);
+    /* 1 x 10^63 against 1023 x 10^60 */
+    EXPECT(CALLED(pim_popcount_compare_speeds(0xfc01, 0xf3ff)) == PIM_POPCOUNT_LESS);
+}
+
+/* MTU 1500, flags t and P, transit 2, stub 1, 10 x 10^3 and 100 x 10^4 kbit/s. */
+static const pim_popcount_own own = {1500, PIM_POPCOUNT_FLAG_TUNNEL | PIM_POPCOUNT_FLAG_CAPABLE, 2, 1, 0x0c0a, 0x1064};
+
+static void merges(void)
+{
+    /* of none: our own values, node and diameter 1 */
+    static const uint8_t alone[22] = {0x43, 0x14, 0x05, 0xdc, 0, 0x14, 0xf6, 0,    0,    0, 0,
+                                      2,    0,    0,    0,    1, 0x0c, 0x0a, 0x10, 0x64, 1, 1};
+    /* of both: the least MTU, flags S and t and no P, the one option that both have, 2 + 10 + 10 */
+    static const uint8_t merged[12] = {0x03, 0x0a, 0x05, 0x78, 0, 0x05, 0x80, 0, 0, 0, 0, 22};
+    uint8_t buffer[PIM_POPCOUNT_MERGED];
+    pim_length_answer l;
+
+    memset(buffer, UNTOUCHED, sizeof buffer);
+    l = CALLED(pim_popcount_merge(own, false, attributes, sizeof attributes, buffer, 11));
+    EXPECT(refused(l.refusal, PIM_NO_ROOM, 0) && l.length == 0);
+    l = CALLED(pim_popcount_merge(own, false, attributes, 35, buffer, sizeof buffer));
+    EXPECT(refused(l.refusal, PIM_CUT, 24) && untouched(buffer, 0, sizeof buffer));
+    l = CALLED(pim_popcount_merge(own, false, attributes, sizeof attributes, buffer, sizeof buffer));
+    EXPECT(accepted(l.refusal) && l.length == 12 && memcmp(buffer, merged, 12) == 0 &&
+           untouched(buffer, 12, sizeof buffer));
+    l = CALLED(pim_popcount_merge(own, true, attributes, 0, buffer, sizeof buffer));
+    EXPECT(accepted(l.refusal) && l.length == 22 && memcmp(buffer, alone, 22) == 0);
+}
+
+/* ---- the stored sheet */
+
+/* One assert, one pair with source 0, one neighbour: 10.0.0.2, priority 5, packs, holdtime 105. */
+static const uint8_t sheet[48] = {0,    1, 0, 12, 0,    1, 0, 28,   0, 1, 0, 36,   0xe8, 1, 1, 1,
+                                  0x0a, 0, 0, 1,  0,    0, 0, 0x6e, 0, 0, 0, 0x14, 0xe8, 1, 1, 2,
+                                  0,    0, 0, 0,  0x0a, 0, 0, 2,    0, 0, 0, 5,    3,    0, 0, 105};
+
+static pim_table one_row(void)
+{
+    return CALLED(pim_hear(CALLED(pim_table_empty()), 0x0a000002, five)).table;
+}
+
+static void sheets_read(void)
+{
+    uint8_t o[48], asserts[20], pairs[12];
+    pim_check_answer c = CALLED(pim_check_sheet(sheet, sizeof sheet));
+    pim_sheet_answer s;
+
+    EXPECT(accepted(c.refusal) && c.counts.asserts == 1 && c.counts.pairs == 1 && c.counts.neighbours == 1);
+    memset(asserts, UNTOUCHED, sizeof asserts);
+    memset(pairs, UNTOUCHED, sizeof pairs);
+    s = CALLED(pim_read_sheet(sheet, sizeof sheet, asserts, 15, pairs, 8));
+    EXPECT(refused(s.refusal, PIM_NO_ROOM, 0) && s.counts.asserts == 0 && s.table.count == 0 && unused(&s.table, 0));
+    s = CALLED(pim_read_sheet(sheet, sizeof sheet, asserts, 16, pairs, 7));
+    EXPECT(refused(s.refusal, PIM_NO_ROOM, 0) && untouched(asserts, 0, 20) && untouched(pairs, 0, 12));
+    s = CALLED(pim_read_sheet(sheet, sizeof sheet, asserts, sizeof asserts, pairs, sizeof pairs));
+    EXPECT(accepted(s.refusal) && s.counts.asserts == 1 && s.counts.pairs == 1 && s.counts.neighbours == 1);
+    EXPECT(memcmp(asserts, sheet + 12, 16) == 0 && untouched(asserts, 16, 20));
+    EXPECT(memcmp(pairs, sheet + 28, 8) == 0 && untouched(pairs, 8, 12));
+    EXPECT(s.table.count == 1 && row_is(s.table.rows[0], 0x0a000002, &five) && unused(&s.table, 1));
+
+    memcpy(o, sheet, sizeof o);
+    o[44] = 4; /* no such flag, and the priority's flag is gone */
+    EXPECT(refused(CALLED(pim_check_sheet(o, sizeof o)).refusal, PIM_BAD_SHEET, 36));
+    s = CALLED(pim_read_sheet(o, sizeof o, asserts, 0, pairs, 0));
+    EXPECT(refused(s.refusal, PIM_BAD_SHEET, 36) && s.table.count == 0);
+    c = CALLED(pim_check_sheet(sheet, 47));
+    EXPECT(refused(c.refusal, PIM_BAD_SHEET, 0) && c.counts.asserts == 0);
+}
+
+static void sheets_written(void)
+{
+    static const uint8_t many[PIM_ASSERT_ENTRY * (PIM_SHEET_ASSERTS + 1)] = {0};
+    uint8_t buffer[50], bad[16];
+    pim_table table = one_row();
+    pim_length_answer l;
+
+    memset(buffer, UNTOUCHED, sizeof buffer);
+    memcpy(bad, sheet + 12, 16);
+    bad[0] = 10; /* no group */
+    EXPECT(refused(CALLED(pim_write_sheet(bad, 15, bad, 8, table, buffer, 0)).refusal, PIM_BAD_LIST, 0));
+    EXPECT(refused(CALLED(pim_write_sheet(bad, 16, bad, 8, table, buffer, 47)).refusal, PIM_NO_ROOM, 0));
+    EXPECT(refused(CALLED(pim_write_sheet(bad, 16, bad, 8, table, buffer, 48)).refusal, PIM_BAD_ADDRESS, 0));
+    EXPECT(refused(CALLED(pim_write_sheet(many, sizeof many, bad, 8, table, buffer, 0)).refusal, PIM_BAD_SHEET, 0));
+    table.rows[1].packs = true; /* a row that is not in use */
+    l = CALLED(pim_write_sheet(sheet + 12, 16, sheet + 28, 8, table, buffer, 50));
+    EXPECT(refused(l.refusal, PIM_BAD_SHEET, 0) && l.length == 0 && untouched(buffer, 0, 50));
+    table.rows[1].packs = false;
+    l = CALLED(pim_write_sheet(sheet + 12, 16, sheet + 28, 8, table, buffer, 50));
+    EXPECT(accepted(l.refusal) && l.length == 48 && memcmp(buffer, sheet, 48) == 0 && untouched(buffer, 48, 50));
+}
+
+/* 1,024 asserts, 1,024 pairs and 16 neighbours. */
+static void longest_sheet(void)
+{
+    static uint8_t asserts[PIM_ASSERT_ENTRY * PIM_SHEET_ASSERTS], pairs[PIM_PAIR_ENTRY * PIM_SHEET_PAIRS];
+    static uint8_t longest[PIM_LONGEST_SHEET];
+    pim_table table = one_row();
+    pim_length_answer l;
+    size_t i;
+
+    make_entries(asserts, PIM_SHEET_ASSERTS);
+    for (i = 0; i < PIM_SHEET_PAIRS; i++)
+        put(pairs, PIM_PAIR_ENTRY * i, example_entry, PIM_PAIR_ENTRY);
+    for (i = 1; i < PIM_ROWS; i++)
+        table = CALLED(pim_hear(table, (uint32_t)(0x0a000002 + i), five)).table;
+    l = CALLED(pim_write_sheet(asserts, sizeof asserts, pairs, sizeof pairs, table, longest, sizeof longest - 1));
+    EXPECT(refused(l.refusal, PIM_NO_ROOM, 0));
+    l = CALLED(pim_write_sheet(asserts, sizeof asserts, pairs, sizeof pairs, table, longest, sizeof longest));
+    EXPECT(accepted(l.refusal) && l.length == PIM_LONGEST_SHEET);
+    EXPECT(accepted(CALLED(pim_check_sheet(longest, sizeof longest)).refusal));
+}
+
+/* ---- the checksum */
+
+static void checksums(void)
+{
+    static const uint8_t odd[5] = {0x25, 0x01, 0xe5, 0x58, 0x14};
+    uint8_t m[30];
+
+    EXPECT(CALLED(pim_checksum(example, sizeof example)) == 0xe558);
+    EXPECT(CALLED(pim_checksum_holds(example, sizeof example)));
+    memcpy(m, example, sizeof m);
+    m[29] = 0x15;
+    EXPECT(!CALLED(pim_checksum_holds(m, sizeof m)));
+    /* the field counts as 0, the last octet as a high one: 0x2501 + 0x1400 = 0x3901 */
+    EXPECT(CALLED(pim_checksum(odd, sizeof odd)) == 0xffff - 0x3901);
+}
+
+/* ---- lent memory */
+
+/* NULL where nothing is lent to be read. */
+static void nothing_to_read(void)
+{
+    uint8_t b[60], c[60];
+    pim_pack_answer (*const pack[5])(const uint8_t *, size_t, size_t, size_t, uint8_t *, size_t) = {
+        pim_pack_assert, pim_pack_simple, pim_pack_aggregated, pim_pack_null_register, pim_pack_register_stop};
+    size_t i;
+
+    memset(b, UNTOUCHED, sizeof b);
+    EXPECT(refused(CALLED(pim_header(NULL, 0)).refusal, PIM_BAD_LENGTH, 0));
+    EXPECT(CALLED(pim_body(NULL, 0)) == 0);
+    EXPECT(refused(CALLED(pim_read_record(PIM_ASSERT, NULL, 0, 0)).refusal, PIM_CUT, 0));
+    EXPECT(refused(CALLED(pim_read_record(PIM_REGISTER_STOP, NULL, 0, 5)).refusal, PIM_CUT, 5));
+    EXPECT(refused(CALLED(pim_read_asserts(NULL, 0, b, sizeof b)).refusal, PIM_BAD_LENGTH, 0));
+    EXPECT(refused(CALLED(pim_read_pairs(NULL, 0, b, sizeof b)).refusal, PIM_BAD_LENGTH, 0));
+    EXPECT(refused(CALLED(pim_read_hello(NULL, 0)).refusal, PIM_BAD_LENGTH, 0));
+    for (i = 0; i < 5; i++)
+        EXPECT(packed(CALLED(pack[i](NULL, 0, 0, 60, b, sizeof b)), 0, 0));
+    EXPECT(accepted(CALLED(pim_pack_both(NULL, 0, 0, 60, b, sizeof b, c, sizeof c)).refusal));
+    EXPECT(refused(CALLED(pim_elect_among(NULL, 0)).refusal, PIM_ABSENT, 0));
+    EXPECT(refused(CALLED(pim_popcount_read(NULL, 0, 0)).refusal, PIM_CUT, 0));
+    EXPECT(refused(CALLED(pim_check_sheet(NULL, 0)).refusal, PIM_BAD_SHEET, 0));
+    EXPECT(refused(CALLED(pim_read_sheet(NULL, 0, b, sizeof b, c, sizeof c)).refusal, PIM_BAD_SHEET, 0));
+    EXPECT(CALLED(pim_checksum(NULL, 0)) == 0xffff);
+    EXPECT(!CALLED(pim_checksum_holds(NULL, 0)));
+    EXPECT(untouched(b, 0, sizeof b));
+    EXPECT(CALLED(pim_popcount_merge(own, true, NULL, 0, b, sizeof b)).length == 22);
+    EXPECT(CALLED(pim_write_sheet(NULL, 0, NULL, 0, CALLED(pim_table_empty()), b, sizeof b)).length == 12);
+}
+
+/* NULL where nothing is lent to be written. */
+static void nothing_to_write(void)
+{
+    static const uint8_t empty[12] = {0, 0, 0, 12, 0, 0, 0, 12, 0, 0, 0, 12};
+    uint8_t pairs[18] = {0x2d};
+    const uint8_t *e = example_entry;
+
+    put(pairs, 4, pair_record, 14);
+    seal(pairs, sizeof pairs);
+    EXPECT(refused(CALLED(pim_read_asserts(example, sizeof example, NULL, 0)).refusal, PIM_NO_ROOM, 0));
+    EXPECT(refused(CALLED(pim_read_pairs(pairs, sizeof pairs, NULL, 0)).refusal, PIM_NO_ROOM, 0));
+    EXPECT(refused(CALLED(pim_pack_assert(e, 16, 0, 38, NULL, 0)).refusal, PIM_NO_ROOM, 0));
+    EXPECT(refused(CALLED(pim_pack_simple(e, 16, 0, 38, NULL, 0)).refusal, PIM_NO_ROOM, 0));
+    EXPECT(refused(CALLED(pim_pack_aggregated(e, 16, 0, 38, NULL, 0)).refusal, PIM_NO_ROOM, 0));
+    EXPECT(refused(CALLED(pim_pack_null_register(e, 8, 0, 38, NULL, 0)).refusal, PIM_NO_ROOM, 0));
+    EXPECT(refused(CALLED(pim_pack_register_stop(e, 8, 0, 38, NULL, 0)).refusal, PIM_NO_ROOM, 0));
+    EXPECT(refused(CALLED(pim_pack_both(e, 16, 0, 38, NULL, 0, NULL, 0)).refusal, PIM_NO_ROOM, 0));
+    EXPECT(refused(CALLED(pim_popcount_merge(own, true, attributes, 36, NULL, 0)).refusal, PIM_NO_ROOM, 0));
+    EXPECT(refused(CALLED(pim_read_sheet(sheet, sizeof sheet, NULL, 0, NULL, 0)).refusal, PIM_NO_ROOM, 0));
+    EXPECT(accepted(CALLED(pim_read_sheet(empty, sizeof empty, NULL, 0, NULL, 0)).refusal));
+    EXPECT(refused(CALLED(pim_write_sheet(e, 16, e, 8, one_row(), NULL, 0)).refusal, PIM_NO_ROOM, 0));
+}
+
+/* 16 octets that are one assert and two pairs: what is only read may be the same memory. */
+static void same_memory(void)
+{
+    static const uint8_t o[16] = {0xe8, 1, 1, 1, 0x0a, 0, 0, 1, 0xe8, 1, 1, 2, 0x0a, 0, 0, 2};
+    static const uint8_t header[12] = {0, 1, 0, 12, 0, 2, 0, 28, 0, 0, 0, 44};
+    uint8_t buffer[44];
+    pim_length_answer l = CALLED(pim_write_sheet(o, 16, o, 16, CALLED(pim_table_empty()), buffer, sizeof buffer));
+
+    EXPECT(accepted(l.refusal) && l.length == 44);
+    EXPECT(memcmp(buffer, header, 12) == 0 && memcmp(buffer + 12, o, 16) == 0 && memcmp(buffer + 28, o, 16) == 0);
+}
+
+/* A message and its entries at every alignment. */
+static void any_alignment(void)
+{
+    uint8_t m[30 + 8], entries[16 + 8];
+    size_t i, j;
+
+    for (i = 0; i < 8; i++)
+        for (j = 0; j < 8; j++) {
+            memcpy(m + i, example, sizeof example);
+            EXPECT(CALLED(pim_read_asserts(m + i, 30, entries + j, 16)).count == 1);
+            EXPECT(memcmp(entries + j, example_entry, 16) == 0);
+        }
+}
+
+int main(void)
+{
+    most_entries();
+    most_is_attained();
+    most_pairs_attained();
+    headers();
+    records();
+    asserts_read();
+    pairs_read();
+    hellos();
+    plain_and_simple();
+    source_aggregated();
+    rp_aggregated();
+    pairs_packed();
+    packing_refuses();
+    choices();
+    hearing();
+    full_and_bad_tables();
+    elections();
+    elections_among();
+    counters();
+    attributes_read();
+    each_option();
+    speeds();
+    merges();
+    sheets_read();
+    sheets_written();
+    longest_sheet();
+    checksums();
+    nothing_to_read();
+    nothing_to_write();
+    same_memory();
+    any_alignment();
+    printf("%lu calls, all as expected\n", calls);
+    return fflush(stdout) == 0 ? EXIT_SUCCESS : EXIT_FAILURE;
+}
