@@ -521,6 +521,10 @@ static void hellos(void)
     h = CALLED(pim_read_hello(m, sizeof m));
     EXPECT(accepted(h.refusal) && h.hello.holdtime == 210 && h.hello.has_priority && h.hello.priority == 5 &&
            h.hello.packing);
+    seal(m, 18); /* the first two options */
+    h = CALLED(pim_read_hello(m, 18));
+    EXPECT(accepted(h.refusal) && h.hello.holdtime == 210 && h.hello.has_priority && h.hello.priority == 5 &&
+           !h.hello.packing);
     seal(m, 4);
     h = CALLED(pim_read_hello(m, 4));
     EXPECT(accepted(h.refusal) && h.hello.holdtime == PIM_USUAL_HOLDTIME && !h.hello.has_priority &&
@@ -1100,9 +1104,12 @@ static void same_memory(void)
     static const uint8_t header[12] = {0, 1, 0, 12, 0, 2, 0, 28, 0, 0, 0, 44};
     uint8_t buffer[44];
     pim_length_answer l = CALLED(pim_write_sheet(o, 16, o, 16, CALLED(pim_table_empty()), buffer, sizeof buffer));
+    pim_sheet_counts c;
 
     EXPECT(accepted(l.refusal) && l.length == 44);
     EXPECT(memcmp(buffer, header, 12) == 0 && memcmp(buffer + 12, o, 16) == 0 && memcmp(buffer + 28, o, 16) == 0);
+    c = CALLED(pim_check_sheet(buffer, sizeof buffer)).counts;
+    EXPECT(c.asserts == 1 && c.pairs == 2 && c.neighbours == 0);
 }
 
 /* A message and its entries at every alignment. */

@@ -1,6 +1,6 @@
-// The library that other languages link: every call of the crates below under a name of its own, over numbers, byte slices and small records.
-// There is no logic here: each function hands its arguments on and puts the answer into a record that C can hold. include/pim.h describes
-// each of them.
+// The library that other languages link: every call of the crates below under a name of its own, over numbers, byte slices and small records,
+// of which counters and a list of rows are lent and the others passed. There is no logic here: each function hands its arguments on and
+// puts the answer into a record that C can hold. include/pim.h describes each of them.
 //
 // messages.rt     header, body, a record read singly, the reading calls
 // packs.rt        the packing calls
