@@ -158,10 +158,10 @@ typedef struct {
 } pim_read_answer;
 
 /* Reads a message of kind PIM_ASSERT, PIM_SIMPLE or PIM_AGGREGATED into entries of PIM_ASSERT_ENTRY octets. `room`
- * counts octets; those past the entries stay. PIM_MOST_ASSERTS(n) entries are always room enough. Refuses 1, 2, 3, 4 at
- * 0; then, in the message's order, 5 to 7 at the first octet of the record at fault (of the aggregated record in an
- * aggregated message), at 4 for Zero and Reserved, at 8 where there is no record, at 26 for octets after a plain
- * assert; last 8 at 0, exactly if there is less room than all entries take. */
+ * counts octets; those past the entries stay. PIM_MOST_ASSERTS(n) entries are always room enough.
+ * Refuses 1, 2, 3, 4 at 0; then, in the message's order, 5 to 7 at the first octet of the record at fault (in an
+ * aggregated message, of the aggregated record), at 4 for Zero and Reserved, at 8 where there is no record, at 26 for
+ * octets after a plain assert; last 8 at 0, exactly if all entries take more than the room. */
 pim_read_answer pim_read_asserts(const uint8_t *m, size_t n, uint8_t *entries, size_t room);
 
 /* The same for PIM_NULL_REGISTER and PIM_REGISTER_STOP, with entries of PIM_PAIR_ENTRY octets. PIM_MOST_PAIRS(n) of
@@ -198,8 +198,9 @@ typedef struct {
  * (pim_pack_assert: one). Limits run from PIM_LEAST_LIMIT to PIM_GREATEST_LIMIT; limit 0 is read as PIM_USUAL_LIMIT.
  * `entries` has `size` octets; the entries are those of pim_read_asserts, or of pim_read_pairs. The buffer needs room
  * for the limit, also where the message is shorter. Octets past the length stay. Call again with start + taken until
- * length is 0: at the end of the list nothing is written, and taken is 0. Refuses 9, 8, 10 at 0, then 7 with the number
- * of the first bad entry from the start on, also of one that this message would not take. */
+ * length is 0: at the end of the list nothing is written, and taken is 0.
+ * Refuses 9, 8, 10 at 0, then 7 with the number of the first bad entry from the start on, also of one that this message
+ * would not take. */
 pim_pack_answer pim_pack_assert(const uint8_t *entries, size_t size, size_t start, size_t limit, uint8_t *buffer,
                                 size_t room);
 pim_pack_answer pim_pack_simple(const uint8_t *entries, size_t size, size_t start, size_t limit, uint8_t *buffer,
@@ -221,8 +222,9 @@ typedef struct {
 
 /* Packs both forms, each into its own buffer, and chooses the one that took more entries, then the shorter, then the
  * simple. The other form overwrites the start of the other buffer all the same; how far is not told. At the end of the
- * list neither is written: length 0, taken 0, the simple one. Refuses as pim_pack_simple does: 9; 8, if either buffer
- * is smaller than the limit, and then neither is written; 10; 7. */
+ * list neither is written: length 0, taken 0, aggregated false.
+ * Refuses 9 at 0; 8 at 0, if either buffer is smaller than the limit; 10 at 0; then 7 with the number of the first bad
+ * entry from the start on. Where it refuses, neither buffer is written. */
 pim_choice_answer pim_pack_both(const uint8_t *entries, size_t size, size_t start, size_t limit, uint8_t *simple,
                                 size_t simple_room, uint8_t *aggregated, size_t aggregated_room);
 
@@ -260,9 +262,10 @@ typedef struct {
     uint8_t done;    /* enum pim_done */
 } pim_table_answer;
 
-/* Hears a Hello from an address; holdtime 0 forgets it. Refuses 14 (the table), 7 (address 0), then 12 (holdtime 0, and
- * absent) or 11 (full), at 0. Every call on a table looks at all of it first: over 16 rows, an address that is 0 or
- * there twice, a holdtime 0, a priority without its flag or an unused row that is not 0 is 14. */
+/* Hears a Hello from an address; holdtime 0 forgets it.
+ * Refuses 14 (the table), 7 (address 0), then 12 (holdtime 0, and absent) or 11 (full), at 0. Every call on a table
+ * looks at all of it first: over 16 rows, an address that is 0 or there twice, a holdtime 0, a priority without its
+ * flag or an unused row that is not 0 is 14. */
 pim_table_answer pim_hear(pim_table table, uint32_t address, pim_hello said);
 
 /* Forgets an address. Refuses 14, 7, 12 at 0. */
@@ -287,7 +290,8 @@ typedef struct {
 pim_elect_answer pim_elect(pim_table table, uint32_t address, uint32_t priority);
 
 /* Elects among lent rows, of any number, without our own router. `count` counts rows. Of a row only the address is
- * tested; packs and holdtime are not looked at. Refuses 12 (no row), 7 (an address is 0) at 0. */
+ * tested; packs and holdtime are not looked at, and priorities count where every row has one.
+ * Refuses 12 (no row), 7 (an address is 0) at 0. */
 pim_elect_answer pim_elect_among(const pim_neighbour *rows, size_t count);
 
 /* ---- counters */
@@ -312,8 +316,8 @@ typedef struct {
 pim_counters pim_counters_none(void);
 
 /* One message more of a kind, sent or received, and so many records, counted where `counters` points; each number stays
- * at the 64-bit maximum. The answer is the refusal itself, its number 0 where the call counted. Refuses 4 at 0, for a
- * number that is no kind. */
+ * at the 64-bit maximum. The answer is the refusal itself, its number 0 where the call counted.
+ * Refuses 4 at 0, for a number that is no kind. */
 pim_refusal pim_count(pim_counters *counters, bool received, uint8_t kind, uint64_t records);
 
 /* ---- Pop-Count attributes (RFC 6807) */
@@ -382,8 +386,8 @@ typedef struct {
 } pim_length_answer;
 
 /* Merges our own values with the attributes that stand one after another in `contributors`, possibly none, into one
- * attribute at `buffer`. It needs PIM_POPCOUNT_MERGED octets at most; octets past the length stay. Refuses 13 and 6 at
- * the first octet of the attribute at fault, then 8 at 0. */
+ * attribute at `buffer`. It needs PIM_POPCOUNT_MERGED octets at most; octets past the length stay.
+ * Refuses 13 and 6 at the first octet of the attribute at fault, then 8 at 0. */
 pim_length_answer pim_popcount_merge(pim_popcount_own own, bool e, const uint8_t *contributors, size_t n,
                                      uint8_t *buffer, size_t room);
 
@@ -410,16 +414,16 @@ typedef struct {
     pim_table table; /* without neighbours where the call refuses */
 } pim_sheet_answer;
 
-/* Reads a sheet into assert entries, pair entries and a table. Room past the entries stays. Refuses 14 as
- * pim_check_sheet does, then 8 at 0, if either room is too small. A refused answer counts nothing: ask pim_check_sheet
- * first how many entries there are, and lend PIM_ASSERT_ENTRY times counts.asserts and PIM_PAIR_ENTRY times
- * counts.pairs octets. PIM_SHEET_ASSERTS and PIM_SHEET_PAIRS entries are always room enough. */
+/* Reads a sheet into assert entries, pair entries and a table. Room past the entries stays.
+ * Refuses 14 as pim_check_sheet does, then 8 at 0, if either room is too small. A refused answer counts nothing: ask
+ * pim_check_sheet first how many entries there are, and lend PIM_ASSERT_ENTRY times counts.asserts and PIM_PAIR_ENTRY
+ * times counts.pairs octets. PIM_SHEET_ASSERTS and PIM_SHEET_PAIRS entries are always room enough. */
 pim_sheet_answer pim_read_sheet(const uint8_t *o, size_t n, uint8_t *asserts, size_t assert_room, uint8_t *pairs,
                                 size_t pair_room);
 
 /* Writes the sheet of two entry lists and a table: PIM_SHEET_HEADER octets, then all entries as they stand, then
- * PIM_SHEET_ROW octets for each neighbour; PIM_LONGEST_SHEET at most. Octets past it stay. Refuses 10 (a list is not
- * whole), 14 (too many entries, or the table), 8, 7, all at 0. */
+ * PIM_SHEET_ROW octets for each neighbour; PIM_LONGEST_SHEET at most. Octets past it stay.
+ * Refuses 10 (a list is not whole), 14 (too many entries, or the table), 8, 7, all at 0. */
 pim_length_answer pim_write_sheet(const uint8_t *asserts, size_t assert_size, const uint8_t *pairs, size_t pair_size,
                                   pim_table table, uint8_t *buffer, size_t room);
 
