@@ -1,65 +1,70 @@
-//! The first implementation's calls on slices. The pointer of a slice is never
-//! NULL, not even of an empty one, and `&mut` keeps written memory apart, which
-//! is all that `pim.h` asks of a caller.
+//! The first implementation's calls on lent memory. Its pointers are never
+//! NULL, not even those of no octets, and `&mut` keeps written memory apart,
+//! which is all that `pim.h` asks of a caller.
 
 use super::ffi::*;
+use super::lent::Lent;
 
-pub fn header(m: &[u8]) -> HeaderAnswer {
-    unsafe { pim_header(m.as_ptr(), m.len()) }
+pub fn header(m: &Lent) -> HeaderAnswer {
+    unsafe { pim_header(m.pointer(), m.length()) }
 }
 
-pub fn body(m: &[u8]) -> usize {
-    unsafe { pim_body(m.as_ptr(), m.len()) }
+pub fn body(m: &Lent) -> usize {
+    unsafe { pim_body(m.pointer(), m.length()) }
 }
 
-pub fn read_record(kind: u8, octets: &[u8], at: usize) -> RecordAnswer {
-    unsafe { pim_read_record(kind, octets.as_ptr(), octets.len(), at) }
+pub fn read_record(kind: u8, octets: &Lent, at: usize) -> RecordAnswer {
+    unsafe { pim_read_record(kind, octets.pointer(), octets.length(), at) }
 }
 
-pub fn read_asserts(m: &[u8], entries: &mut [u8]) -> ReadAnswer {
-    unsafe { pim_read_asserts(m.as_ptr(), m.len(), entries.as_mut_ptr(), entries.len()) }
+pub fn read_asserts(m: &Lent, entries: &mut Lent) -> ReadAnswer {
+    unsafe { pim_read_asserts(m.pointer(), m.length(), entries.pointer_mut(), entries.length()) }
 }
 
-pub fn read_pairs(m: &[u8], entries: &mut [u8]) -> ReadAnswer {
-    unsafe { pim_read_pairs(m.as_ptr(), m.len(), entries.as_mut_ptr(), entries.len()) }
+pub fn read_pairs(m: &Lent, entries: &mut Lent) -> ReadAnswer {
+    unsafe { pim_read_pairs(m.pointer(), m.length(), entries.pointer_mut(), entries.length()) }
 }
 
-pub fn read_hello(m: &[u8]) -> HelloAnswer {
-    unsafe { pim_read_hello(m.as_ptr(), m.len()) }
+pub fn read_hello(m: &Lent) -> HelloAnswer {
+    unsafe { pim_read_hello(m.pointer(), m.length()) }
 }
 
-pub fn pack_assert(list: &[u8], start: usize, limit: usize, buffer: &mut [u8]) -> PackAnswer {
-    unsafe { pim_pack_assert(list.as_ptr(), list.len(), start, limit, buffer.as_mut_ptr(), buffer.len()) }
+fn pack(call: Pack, list: &Lent, start: usize, limit: usize, buffer: &mut Lent) -> PackAnswer {
+    unsafe { call(list.pointer(), list.length(), start, limit, buffer.pointer_mut(), buffer.length()) }
 }
 
-pub fn pack_simple(list: &[u8], start: usize, limit: usize, buffer: &mut [u8]) -> PackAnswer {
-    unsafe { pim_pack_simple(list.as_ptr(), list.len(), start, limit, buffer.as_mut_ptr(), buffer.len()) }
+pub fn pack_assert(list: &Lent, start: usize, limit: usize, buffer: &mut Lent) -> PackAnswer {
+    pack(pim_pack_assert, list, start, limit, buffer)
 }
 
-pub fn pack_aggregated(list: &[u8], start: usize, limit: usize, buffer: &mut [u8]) -> PackAnswer {
-    unsafe { pim_pack_aggregated(list.as_ptr(), list.len(), start, limit, buffer.as_mut_ptr(), buffer.len()) }
+pub fn pack_simple(list: &Lent, start: usize, limit: usize, buffer: &mut Lent) -> PackAnswer {
+    pack(pim_pack_simple, list, start, limit, buffer)
 }
 
-pub fn pack_null_register(list: &[u8], start: usize, limit: usize, buffer: &mut [u8]) -> PackAnswer {
-    let (room, to) = (buffer.len(), buffer.as_mut_ptr());
-    unsafe { pim_pack_null_register(list.as_ptr(), list.len(), start, limit, to, room) }
+pub fn pack_aggregated(list: &Lent, start: usize, limit: usize, buffer: &mut Lent) -> PackAnswer {
+    pack(pim_pack_aggregated, list, start, limit, buffer)
 }
 
-pub fn pack_register_stop(list: &[u8], start: usize, limit: usize, buffer: &mut [u8]) -> PackAnswer {
-    let (room, to) = (buffer.len(), buffer.as_mut_ptr());
-    unsafe { pim_pack_register_stop(list.as_ptr(), list.len(), start, limit, to, room) }
+pub fn pack_null_register(list: &Lent, start: usize, limit: usize, buffer: &mut Lent) -> PackAnswer {
+    pack(pim_pack_null_register, list, start, limit, buffer)
+}
+
+pub fn pack_register_stop(list: &Lent, start: usize, limit: usize, buffer: &mut Lent) -> PackAnswer {
+    pack(pim_pack_register_stop, list, start, limit, buffer)
 }
 
 pub fn pack_both(
-    list: &[u8],
+    list: &Lent,
     start: usize,
     limit: usize,
-    simple: &mut [u8],
-    aggregated: &mut [u8],
+    simple: &mut Lent,
+    aggregated: &mut Lent,
 ) -> ChoiceAnswer {
-    let (simple_room, simple) = (simple.len(), simple.as_mut_ptr());
-    let (room, aggregated) = (aggregated.len(), aggregated.as_mut_ptr());
-    unsafe { pim_pack_both(list.as_ptr(), list.len(), start, limit, simple, simple_room, aggregated, room) }
+    let (simple_room, simple) = (simple.length(), simple.pointer_mut());
+    let (room, aggregated) = (aggregated.length(), aggregated.pointer_mut());
+    unsafe {
+        pim_pack_both(list.pointer(), list.length(), start, limit, simple, simple_room, aggregated, room)
+    }
 }
 
 pub fn table_empty() -> Table {
@@ -82,50 +87,55 @@ pub fn elect(table: Table, address: u32, priority: u32) -> ElectAnswer {
     unsafe { pim_elect(table, address, priority) }
 }
 
-pub fn elect_rows(table: Table) -> ElectAnswer {
-    unsafe { pim_elect_rows(table) }
+pub fn elect_among(rows: &Lent<Neighbour>) -> ElectAnswer {
+    unsafe { pim_elect_among(rows.pointer(), rows.length()) }
 }
 
 pub fn counters_none() -> Counters {
     unsafe { pim_counters_none() }
 }
 
-pub fn count(counters: Counters, received: bool, kind: u8, records: u64) -> CountAnswer {
-    unsafe { pim_count(counters, received, kind, records) }
+/// The counters are one record.
+pub fn count(counters: &mut Lent<Counters>, received: bool, kind: u8, records: u64) -> Refusal {
+    assert_eq!(counters.length(), 1);
+    unsafe { pim_count(counters.pointer_mut(), received, kind, records) }
 }
 
-pub fn read_attribute(octets: &[u8], at: usize) -> AttributeAnswer {
-    unsafe { pim_read_attribute(octets.as_ptr(), octets.len(), at) }
+pub fn popcount_read(octets: &Lent, at: usize) -> PopcountReadAnswer {
+    unsafe { pim_popcount_read(octets.pointer(), octets.length(), at) }
 }
 
-pub fn compare_speeds(a: u16, b: u16) -> u8 {
-    unsafe { pim_compare_speeds(a, b) }
+pub fn popcount_compare_speeds(a: u16, b: u16) -> u8 {
+    unsafe { pim_popcount_compare_speeds(a, b) }
 }
 
-pub fn merge(own: Own, e: bool, contributors: &[u8], buffer: &mut [u8]) -> LengthAnswer {
-    let (room, to) = (buffer.len(), buffer.as_mut_ptr());
-    unsafe { pim_merge(own, e, contributors.as_ptr(), contributors.len(), to, room) }
+pub fn popcount_merge(own: PopcountOwn, e: bool, contributors: &Lent, buffer: &mut Lent) -> LengthAnswer {
+    let (room, to) = (buffer.length(), buffer.pointer_mut());
+    unsafe { pim_popcount_merge(own, e, contributors.pointer(), contributors.length(), to, room) }
 }
 
-pub fn check_sheet(octets: &[u8]) -> CheckAnswer {
-    unsafe { pim_check_sheet(octets.as_ptr(), octets.len()) }
+pub fn check_sheet(octets: &Lent) -> CheckAnswer {
+    unsafe { pim_check_sheet(octets.pointer(), octets.length()) }
 }
 
-pub fn read_sheet(octets: &[u8], asserts: &mut [u8], pairs: &mut [u8]) -> SheetAnswer {
-    let (assert_room, asserts) = (asserts.len(), asserts.as_mut_ptr());
-    let (pair_room, pairs) = (pairs.len(), pairs.as_mut_ptr());
-    unsafe { pim_read_sheet(octets.as_ptr(), octets.len(), asserts, assert_room, pairs, pair_room) }
+pub fn read_sheet(octets: &Lent, asserts: &mut Lent, pairs: &mut Lent) -> SheetAnswer {
+    let (assert_room, asserts) = (asserts.length(), asserts.pointer_mut());
+    let (pair_room, pairs) = (pairs.length(), pairs.pointer_mut());
+    unsafe { pim_read_sheet(octets.pointer(), octets.length(), asserts, assert_room, pairs, pair_room) }
 }
 
-pub fn write_sheet(asserts: &[u8], pairs: &[u8], table: Table, buffer: &mut [u8]) -> LengthAnswer {
-    let (room, to) = (buffer.len(), buffer.as_mut_ptr());
-    unsafe { pim_write_sheet(asserts.as_ptr(), asserts.len(), pairs.as_ptr(), pairs.len(), table, to, room) }
+pub fn write_sheet(asserts: &Lent, pairs: &Lent, table: Table, buffer: &mut Lent) -> LengthAnswer {
+    let (assert_size, asserts) = (asserts.length(), asserts.pointer());
+    let (pair_size, pairs) = (pairs.length(), pairs.pointer());
+    unsafe {
+        pim_write_sheet(asserts, assert_size, pairs, pair_size, table, buffer.pointer_mut(), buffer.length())
+    }
 }
 
-pub fn checksum(m: &[u8]) -> u16 {
-    unsafe { pim_checksum(m.as_ptr(), m.len()) }
+pub fn checksum(m: &Lent) -> u16 {
+    unsafe { pim_checksum(m.pointer(), m.length()) }
 }
 
-pub fn checksum_holds(m: &[u8]) -> u8 {
-    unsafe { pim_checksum_holds(m.as_ptr(), m.len()) }
+pub fn checksum_holds(m: &Lent) -> u8 {
+    unsafe { pim_checksum_holds(m.pointer(), m.length()) }
 }

@@ -31,9 +31,9 @@ fn any(run: &mut Run, m: &[u8]) {
 /// Both checksum calls on a message.
 pub fn both(run: &mut Run, m: &[u8]) {
     let lent = run.input("message", m);
-    let (first, second) = (calls::checksum(lent.first()), field(m));
+    let (first, second) = (calls::checksum(&lent), field(m));
     run.tally.call("pim_checksum", format_args!("a message"), &[&lent], &first, &second);
-    let (first, second) = (calls::checksum_holds(lent.first()), u8::from(checksum(m) == 0));
+    let (first, second) = (calls::checksum_holds(&lent), u8::from(checksum(m) == 0));
     run.tally.call("pim_checksum_holds", format_args!("a message"), &[&lent], &first, &second);
 }
 

@@ -24,6 +24,12 @@ impl Answered for u8 {}
 impl Answered for ffi::Table {}
 impl Answered for ffi::Counters {}
 
+impl Answered for ffi::Refusal {
+    fn number(&self) -> Option<u8> {
+        Some(self.number)
+    }
+}
+
 /// An answer with a refusal in it.
 pub trait Refused: Answered + Default {
     fn refused(refusal: ffi::Refusal) -> Self;
@@ -46,7 +52,7 @@ macro_rules! with_refusal {
 
 with_refusal! {
     HeaderAnswer RecordAnswer ReadAnswer HelloAnswer PackAnswer ChoiceAnswer TableAnswer AllowedAnswer
-    ElectAnswer CountAnswer AttributeAnswer LengthAnswer CheckAnswer SheetAnswer
+    ElectAnswer PopcountReadAnswer LengthAnswer CheckAnswer SheetAnswer
 }
 
 fn refusal(refusal: Refusal) -> ffi::Refusal {
@@ -124,7 +130,7 @@ pub fn choice(answer: Answer<(bool, usize, usize)>) -> ffi::ChoiceAnswer {
     })
 }
 
-fn row_form(row: &Neighbour) -> ffi::Neighbour {
+pub fn row_form(row: &Neighbour) -> ffi::Neighbour {
     ffi::Neighbour {
         address: row.address,
         priority: row.priority,
@@ -192,27 +198,40 @@ pub fn counters_form(counters: &Counters) -> ffi::Counters {
     ffi::Counters { sent: by_kind(&counters.sent), received: by_kind(&counters.received) }
 }
 
-/// The counters come back changed, or as they were.
-pub fn count(after: &Counters, answer: Answer<()>) -> ffi::CountAnswer {
-    let refusal = answer.err().map(refusal).unwrap_or_default();
-    ffi::CountAnswer { refusal, counters: counters_form(after) }
+fn count(totals: &ffi::Totals) -> Count {
+    Count { messages: totals.messages, records: totals.records }
 }
 
-pub fn attribute(answer: Answer<(Attribute, usize)>) -> ffi::AttributeAnswer {
-    either(answer, |(attribute, next)| ffi::AttributeAnswer {
+fn counts_by_kind(form: &ffi::ByKind) -> [Count; 6] {
+    let ffi::ByKind { hello, assert, simple, aggregated, null_register, register_stop } = form;
+    [hello, assert, simple, aggregated, null_register, register_stop].map(count)
+}
+
+/// The counters that the C form holds.
+pub fn counters(form: &ffi::Counters) -> Counters {
+    Counters { sent: counts_by_kind(&form.sent), received: counts_by_kind(&form.received) }
+}
+
+/// The answer is the refusal itself; the counters are in lent memory.
+pub fn counted(answer: Answer<()>) -> ffi::Refusal {
+    answer.err().map(refusal).unwrap_or_default()
+}
+
+pub fn attribute(answer: Answer<(Attribute, usize)>) -> ffi::PopcountReadAnswer {
+    either(answer, |(attribute, next)| ffi::PopcountReadAnswer {
         next,
         attribute: attribute_form(&attribute),
         ..Default::default()
     })
 }
 
-fn attribute_form(a: &Attribute) -> ffi::Attribute {
-    ffi::Attribute {
+fn attribute_form(a: &Attribute) -> ffi::PopcountAttribute {
+    ffi::PopcountAttribute {
         e: u8::from(a.e),
         mtu: a.mtu,
         flags: a.flags,
         options: a.options,
-        values: ffi::Values {
+        values: ffi::PopcountValues {
             transit: a.transit.unwrap_or(0),
             stub: a.stub.unwrap_or(0),
             minimum_speed: a.least_speed.unwrap_or(0),
@@ -225,8 +244,8 @@ fn attribute_form(a: &Attribute) -> ffi::Attribute {
     }
 }
 
-pub fn own_form(own: &Own) -> ffi::Own {
-    ffi::Own {
+pub fn own_form(own: &Own) -> ffi::PopcountOwn {
+    ffi::PopcountOwn {
         mtu: own.mtu,
         flags: own.flags,
         transit: own.transit,
@@ -249,8 +268,8 @@ pub fn length(answer: Answer<usize>) -> ffi::LengthAnswer {
     either(answer, |length| ffi::LengthAnswer { length, ..Default::default() })
 }
 
-fn counts(asserts: usize, pairs: usize, table: &Table) -> ffi::Counts {
-    ffi::Counts { asserts, pairs, neighbours: table.count }
+fn counts(asserts: usize, pairs: usize, table: &Table) -> ffi::SheetCounts {
+    ffi::SheetCounts { asserts, pairs, neighbours: table.count }
 }
 
 pub fn check(answer: Answer<(usize, usize, Table)>) -> ffi::CheckAnswer {

@@ -112,12 +112,7 @@ records! {
         received: ByKind,
     }
 
-    CountAnswer {
-        refusal: Refusal,
-        counters: Counters,
-    }
-
-    Values {
+    PopcountValues {
         transit: u32,
         stub: u32,
         minimum_speed: u16,
@@ -128,21 +123,21 @@ records! {
         time_zone: u8,
     }
 
-    Attribute {
+    PopcountAttribute {
         e: u8,
         mtu: u16,
         flags: u16,
         options: u16,
-        values: Values,
+        values: PopcountValues,
     }
 
-    AttributeAnswer {
+    PopcountReadAnswer {
         refusal: Refusal,
         next: usize,
-        attribute: Attribute,
+        attribute: PopcountAttribute,
     }
 
-    Own {
+    PopcountOwn {
         mtu: u16,
         flags: u16,
         transit: u32,
@@ -156,7 +151,7 @@ records! {
         length: usize,
     }
 
-    Counts {
+    SheetCounts {
         asserts: usize,
         pairs: usize,
         neighbours: usize,
@@ -164,15 +159,18 @@ records! {
 
     CheckAnswer {
         refusal: Refusal,
-        counts: Counts,
+        counts: SheetCounts,
     }
 
     SheetAnswer {
         refusal: Refusal,
-        counts: Counts,
+        counts: SheetCounts,
         table: Table,
     }
 }
+
+/// A packing call.
+pub type Pack = unsafe extern "C" fn(*const u8, usize, usize, usize, *mut u8, usize) -> PackAnswer;
 
 #[link(name = "pim", kind = "static")]
 extern "C" {
@@ -239,15 +237,15 @@ extern "C" {
     pub fn pim_forget(table: Table, address: u32) -> TableAnswer;
     pub fn pim_packing_allowed(table: Table) -> AllowedAnswer;
     pub fn pim_elect(table: Table, address: u32, priority: u32) -> ElectAnswer;
-    pub fn pim_elect_rows(table: Table) -> ElectAnswer;
+    pub fn pim_elect_among(rows: *const Neighbour, count: usize) -> ElectAnswer;
 
     pub fn pim_counters_none() -> Counters;
-    pub fn pim_count(counters: Counters, received: bool, kind: u8, records: u64) -> CountAnswer;
+    pub fn pim_count(counters: *mut Counters, received: bool, kind: u8, records: u64) -> Refusal;
 
-    pub fn pim_read_attribute(o: *const u8, n: usize, at: usize) -> AttributeAnswer;
-    pub fn pim_compare_speeds(a: u16, b: u16) -> u8;
-    pub fn pim_merge(
-        own: Own,
+    pub fn pim_popcount_read(o: *const u8, n: usize, at: usize) -> PopcountReadAnswer;
+    pub fn pim_popcount_compare_speeds(a: u16, b: u16) -> u8;
+    pub fn pim_popcount_merge(
+        own: PopcountOwn,
         e: bool,
         contributors: *const u8,
         n: usize,

@@ -1,72 +1,133 @@
-//! Memory lent to both implementations: the same octets for each, with random
-//! octets on both sides that must stay too.
+//! Memory lent to both implementations: the same octets or records for each,
+//! with random ones on both sides that must stay too.
 
+use super::{expect, ffi, make};
 use second::rng::Rng;
+use std::fmt::Debug;
 
-/// How many octets stand on each side.
-pub const GUARD: usize = 13;
+/// How many octets or records stand on each side.
+const GUARD: usize = 13;
 
-pub struct Lent {
-    pub name: &'static str,
-    /// Whether a call may write here.
-    pub written: bool,
-    room: usize,
-    first: Vec<u8>,
-    second: Vec<u8>,
+/// What stands in lent memory: octets, or records whose fields fill them.
+pub trait Piece: Copy + Default + PartialEq + Debug {
+    /// Makes all of them random.
+    fn scatter(rng: &mut Rng, pieces: &mut [Self]);
+
+    fn shown(pieces: &[Self]) -> String {
+        format!("{pieces:?}")
+    }
 }
 
-impl Lent {
-    /// Octets that a call reads.
-    pub fn input(rng: &mut Rng, name: &'static str, octets: &[u8]) -> Lent {
+impl Piece for u8 {
+    /// Eight at a time.
+    fn scatter(rng: &mut Rng, octets: &mut [u8]) {
+        for eight in octets.chunks_mut(8) {
+            let random = rng.next_u64().to_le_bytes();
+            eight.copy_from_slice(&random[..eight.len()]);
+        }
+    }
+
+    fn shown(octets: &[u8]) -> String {
+        octets.iter().map(|octet| format!("{octet:02x}")).collect()
+    }
+}
+
+impl Piece for ffi::Neighbour {
+    fn scatter(rng: &mut Rng, rows: &mut [ffi::Neighbour]) {
+        rows.fill_with(|| expect::row_form(&make::any_row(rng)));
+    }
+}
+
+impl Piece for ffi::Counters {
+    fn scatter(rng: &mut Rng, counters: &mut [ffi::Counters]) {
+        counters.fill_with(|| expect::counters_form(&make::counters(rng)));
+    }
+}
+
+pub struct Lent<P = u8> {
+    name: &'static str,
+    /// Whether a call may write here.
+    written: bool,
+    room: usize,
+    first: Vec<P>,
+    second: Vec<P>,
+}
+
+impl<P: Piece> Lent<P> {
+    /// What a call reads.
+    pub fn input(rng: &mut Rng, name: &'static str, pieces: &[P]) -> Lent<P> {
+        Lent { written: false, ..Lent::state(rng, name, pieces) }
+    }
+
+    /// What a call reads and changes.
+    pub fn state(rng: &mut Rng, name: &'static str, pieces: &[P]) -> Lent<P> {
         let mut lent = Lent::room(rng, name, 0);
-        lent.first.splice(GUARD..GUARD, octets.iter().copied());
+        lent.first.splice(GUARD..GUARD, pieces.iter().copied());
         lent.second = lent.first.clone();
-        lent.room = octets.len();
-        lent.written = false;
+        lent.room = pieces.len();
         lent
     }
 
-    /// Random octets that a call writes to.
-    pub fn room(rng: &mut Rng, name: &'static str, room: usize) -> Lent {
-        let mut first = vec![0; room + 2 * GUARD];
-        scatter(rng, &mut first);
+    /// Random contents that a call writes to.
+    pub fn room(rng: &mut Rng, name: &'static str, room: usize) -> Lent<P> {
+        let mut first = vec![P::default(); room + 2 * GUARD];
+        P::scatter(rng, &mut first);
         let second = first.clone();
         Lent { name, written: true, room, first, second }
     }
 
+    /// How many octets or records are lent.
+    pub fn length(&self) -> usize {
+        self.room
+    }
+
+    /// Where the first implementation finds them.
+    pub fn pointer(&self) -> *const P {
+        self.first().as_ptr()
+    }
+
+    pub fn pointer_mut(&mut self) -> *mut P {
+        self.first[GUARD..GUARD + self.room].as_mut_ptr()
+    }
+
     /// What the first implementation is lent.
-    pub fn first(&self) -> &[u8] {
+    pub fn first(&self) -> &[P] {
         &self.first[GUARD..GUARD + self.room]
     }
 
-    pub fn first_mut(&mut self) -> &mut [u8] {
-        &mut self.first[GUARD..GUARD + self.room]
-    }
-
     /// What the library is lent.
-    pub fn second(&self) -> &[u8] {
+    pub fn second(&self) -> &[P] {
         &self.second[GUARD..GUARD + self.room]
     }
 
-    pub fn second_mut(&mut self) -> &mut [u8] {
+    pub fn second_mut(&mut self) -> &mut [P] {
         &mut self.second[GUARD..GUARD + self.room]
-    }
-
-    /// Whether all of it, with what stands around, is the same for both.
-    pub fn same(&self) -> bool {
-        self.first == self.second
-    }
-
-    /// All octets of each, those around included.
-    pub fn all(&self) -> (&[u8], &[u8]) {
-        (&self.first, &self.second)
     }
 }
 
-/// Random octets, eight at a time.
-fn scatter(rng: &mut Rng, octets: &mut [u8]) {
-    for eight in octets.chunks_mut(8) {
-        let random = rng.next_u64().to_le_bytes();
-        eight.copy_from_slice(&random[..eight.len()]);
+/// Lent memory, whatever stands in it.
+pub trait Memory {
+    /// Whether all of it, with what stands around, is the same for both.
+    fn same(&self) -> bool;
+
+    /// Prints what was read, and where it differs all of it.
+    fn describe(&self);
+}
+
+impl<P: Piece> Memory for Lent<P> {
+    fn same(&self) -> bool {
+        self.first == self.second
+    }
+
+    fn describe(&self) {
+        let (name, room) = (self.name, self.room);
+        if !self.written {
+            println!("{name} ({room}): {}", P::shown(self.second()));
+        }
+        if !self.same() {
+            println!("{name} ({room}) afterwards, with {GUARD} more on each side:");
+            println!("  first:  {}", P::shown(&self.first));
+            println!("  second: {}", P::shown(&self.second));
+        }
     }
 }

@@ -358,6 +358,50 @@ fn row(rng: &mut Rng, address: u32) -> Neighbour {
     Neighbour { address, priority, has_priority, packs: !rng.one_in(12), holdtime }
 }
 
+/// A row of which only the address has a rule: it is not 0.
+pub fn any_row(rng: &mut Rng) -> Neighbour {
+    let random = rng.next_u32();
+    Neighbour {
+        address: pick(rng, &[1, 2, 3, 0x7FFF_FFFF, 0x8000_0000, u32::MAX, random | 1, random | 1]),
+        priority: pick(rng, &[0, 1, 0x7FFF_FFFF, 0x8000_0000, u32::MAX, random]),
+        has_priority: rng.one_in(2),
+        packs: rng.one_in(2),
+        holdtime: pick(rng, &[0, 105, random as u16]),
+    }
+}
+
+/// A list of any rows. In most lists all of them have a priority, so that it
+/// decides; in some one row or few have an address of 0.
+pub fn rows(rng: &mut Rng, count: usize) -> Vec<Neighbour> {
+    let mut rows: Vec<Neighbour> = (0..count).map(|_| any_row(rng)).collect();
+    if !rng.one_in(4) {
+        rows.iter_mut().for_each(|row| row.has_priority = true);
+    }
+    if rng.one_in(4) && count > 0 {
+        let without = rng.below(count);
+        rows[without].has_priority = false;
+    }
+    for _ in 0..pick(rng, &[0, 0, 0, 0, 0, 1, 2]).min(count) {
+        let zero = rng.below(count);
+        rows[zero].address = 0;
+    }
+    rows
+}
+
+/// The highest priority of a low row.
+pub const LOW: u32 = 5;
+
+/// Rows with low addresses and low priorities.
+pub fn low_rows(rng: &mut Rng, count: usize) -> Vec<Neighbour> {
+    let low = |rng: &mut Rng| Neighbour {
+        address: 2 + rng.below(90) as u32,
+        priority: 1 + rng.below(LOW as usize) as u32,
+        has_priority: true,
+        ..any_row(rng)
+    };
+    (0..count).map(|_| low(rng)).collect()
+}
+
 /// A good table.
 pub fn table(rng: &mut Rng) -> Table {
     let count = rng.below(ROWS + 1);

@@ -1,7 +1,7 @@
 //! The neighbour table and the election.
 
-use super::ffi;
-use super::{calls, expect, make, Run};
+use super::lent::Lent;
+use super::{calls, expect, ffi, make, Run};
 use second::neighbours::*;
 
 pub fn compare(run: &mut Run) {
@@ -12,7 +12,7 @@ pub fn compare(run: &mut Run) {
         &calls::table_empty(),
         &expect::table_form(&Table::empty()),
     );
-    for _ in 0..300 * run.rounds {
+    for _ in 0..320 * run.rounds {
         history(run);
     }
     for _ in 0..20_000 * run.rounds {
@@ -22,6 +22,7 @@ pub fn compare(run: &mut Run) {
         every_call(run, &table);
     }
     each_fault(run);
+    lists(run);
 }
 
 /// Neighbours that come and go, from an empty table on.
@@ -123,7 +124,49 @@ fn questions(run: &mut Run, table: &Table, address: u32) {
     let numbers = format_args!("address {address}, priority {priority}, {table:?}");
     run.tally.call("pim_elect", numbers, &[], &first, &second);
 
-    let first = calls::elect_rows(form);
-    let second = expect::elected(elect_among(&table.rows[..table.count.min(ROWS)]));
-    run.tally.call("pim_elect_rows", format_args!("{table:?}"), &[], &first, &second);
+    among(run, &table.rows[..table.count.min(ROWS)]);
+}
+
+/// Lists of any number of rows, to more than a 16-bit number counts.
+fn lists(run: &mut Run) {
+    for count in (0..=40).chain([63, 64, 65, 100, 200, 255, 256, 257, 1_000, 5_000]) {
+        for _ in 0..40 * run.rounds {
+            let rows = make::rows(&mut run.rng, count);
+            among(run, &rows);
+        }
+    }
+    for count in (1..=18).chain([200]) {
+        for place in 0..count {
+            at_place(run, count, place);
+        }
+    }
+    for count in [65_535, 65_536, 65_537, 100_000] {
+        for place in [0, count / 2, count - 1] {
+            at_place(run, count, place);
+        }
+    }
+}
+
+/// Low rows, and at a place one that decides: by its priority, its address,
+/// its want of a priority or its address 0.
+fn at_place(run: &mut Run, count: usize, place: usize) {
+    let mut rows = make::low_rows(&mut run.rng, count);
+    for (address, has_priority, priority) in [
+        (1, true, u32::MAX),
+        (u32::MAX, true, make::LOW),
+        (u32::MAX, true, 0),
+        (u32::MAX, false, 0),
+        (1, false, u32::MAX),
+        (0, true, u32::MAX),
+    ] {
+        rows[place] = Neighbour { address, priority, has_priority, ..rows[place] };
+        among(run, &rows);
+    }
+}
+
+fn among(run: &mut Run, rows: &[Neighbour]) {
+    let form: Vec<ffi::Neighbour> = rows.iter().map(expect::row_form).collect();
+    let lent = Lent::input(&mut run.rng, "rows", &form);
+    let (first, second) = (calls::elect_among(&lent), expect::elected(elect_among(rows)));
+    run.tally.call("pim_elect_among", format_args!("{} rows", rows.len()), &[&lent], &first, &second);
 }

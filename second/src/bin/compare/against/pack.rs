@@ -6,7 +6,7 @@ use super::{calls, expect, make, read, Run};
 use second::pack::*;
 use second::Answer;
 
-type First = fn(&[u8], usize, usize, &mut [u8]) -> PackAnswer;
+type First = fn(&Lent, usize, usize, &mut Lent) -> PackAnswer;
 type Second = fn(&[u8], usize, usize, &mut [u8]) -> Answer<(usize, usize)>;
 
 /// A packing call of both implementations, and what reads its messages.
@@ -162,7 +162,7 @@ pub fn one(
     room: usize,
 ) -> (PackAnswer, Vec<u8>) {
     let mut buffer = run.room("buffer", room);
-    let first = (form.first)(list.first(), start, limit, buffer.first_mut());
+    let first = (form.first)(list, start, limit, &mut buffer);
     let second = expect::pack((form.second)(list.second(), start, limit, buffer.second_mut()));
     let numbers = format_args!("start {start}, limit {limit}, room {room}");
     run.tally.call(form.call, numbers, &[list, &buffer], &first, &second);
@@ -174,11 +174,11 @@ pub fn one(
 pub fn both(run: &mut Run, list: &Lent, start: usize, limit: usize, rooms: [usize; 2]) -> (usize, Vec<u8>) {
     let mut simple = run.room("simple buffer", rooms[0]);
     let mut aggregated = run.room("aggregated buffer", rooms[1]);
-    let first = calls::pack_both(list.first(), start, limit, simple.first_mut(), aggregated.first_mut());
+    let first = calls::pack_both(list, start, limit, &mut simple, &mut aggregated);
     let second = pack_both(list.second(), start, limit, simple.second_mut(), aggregated.second_mut());
     let numbers = format_args!("start {start}, limit {limit}, rooms {rooms:?}");
-    let lent = [list, &simple, &aggregated];
-    run.tally.call("pim_pack_both", numbers, &lent, &first, &expect::choice(second));
+    let second = expect::choice(second);
+    run.tally.call("pim_pack_both", numbers, &[list, &simple, &aggregated], &first, &second);
     let chosen = if first.aggregated == 0 { &simple } else { &aggregated };
     (first.taken, chosen.first()[..first.length].to_vec())
 }

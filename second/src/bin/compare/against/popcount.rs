@@ -40,8 +40,8 @@ fn speeds(run: &mut Run) {
 }
 
 fn speed_pair(run: &mut Run, a: u16, b: u16) {
-    let (first, second) = (calls::compare_speeds(a, b), expect::order(compare_speeds(a, b)));
-    run.tally.call("pim_compare_speeds", format_args!("{a:04x} and {b:04x}"), &[], &first, &second);
+    let (first, second) = (calls::popcount_compare_speeds(a, b), expect::order(compare_speeds(a, b)));
+    run.tally.call("pim_popcount_compare_speeds", format_args!("{a:04x} and {b:04x}"), &[], &first, &second);
 }
 
 /// Each octet changed to each value, the end cut at each octet, alone and
@@ -129,17 +129,17 @@ fn maxima(run: &mut Run, contributors: usize) {
 
 fn read_one(run: &mut Run, octets: &[u8], at: usize) {
     let lent = run.input("octets", octets);
-    let first = calls::read_attribute(lent.first(), at);
+    let first = calls::popcount_read(&lent, at);
     let second = expect::attribute(read_attribute(octets, at));
-    run.tally.call("pim_read_attribute", format_args!("at {at}"), &[&lent], &first, &second);
+    run.tally.call("pim_popcount_read", format_args!("at {at}"), &[&lent], &first, &second);
 }
 
 fn merge_one(run: &mut Run, own: &Own, contributors: &[u8], room: usize) {
     let e = run.rng.one_in(2);
     let lent = run.input("contributors", contributors);
     let mut buffer = run.room("buffer", room);
-    let first = calls::merge(expect::own_form(own), e, lent.first(), buffer.first_mut());
+    let first = calls::popcount_merge(expect::own_form(own), e, &lent, &mut buffer);
     let second = expect::length(merge(*own, contributors, e, buffer.second_mut()));
     let numbers = format_args!("e {e}, room {room}, {own:?}");
-    run.tally.call("pim_merge", numbers, &[&lent, &buffer], &first, &second);
+    run.tally.call("pim_popcount_merge", numbers, &[&lent, &buffer], &first, &second);
 }

@@ -144,21 +144,21 @@ fn rooms(run: &mut Run, size: usize, answer: &Answer<(Kind, usize)>) -> Vec<usiz
 
 fn header(run: &mut Run, m: &[u8]) {
     let lent = run.input("message", m);
-    let (first, second) = (calls::header(lent.first()), expect::header(read::header(m)));
+    let (first, second) = (calls::header(&lent), expect::header(read::header(m)));
     run.tally.call("pim_header", format_args!("a message"), &[&lent], &first, &second);
-    let (first, second) = (calls::body(lent.first()), read::body(m).len());
+    let (first, second) = (calls::body(&lent), read::body(m).len());
     run.tally.call("pim_body", format_args!("a message"), &[&lent], &first, &second);
 }
 
 fn hello(run: &mut Run, m: &[u8]) {
     let lent = run.input("message", m);
-    let (first, second) = (calls::read_hello(lent.first()), expect::hello(read_hello(m)));
+    let (first, second) = (calls::read_hello(&lent), expect::hello(read_hello(m)));
     run.tally.call("pim_read_hello", format_args!("a message"), &[&lent], &first, &second);
 }
 
 fn record(run: &mut Run, kind: u8, octets: &[u8], at: usize) {
     let lent = run.input("octets", octets);
-    let first = calls::read_record(kind, lent.first(), at);
+    let first = calls::read_record(kind, &lent, at);
     let second = match Kind::from_number(kind) {
         Some(kind) => read::read_record(octets, at, kind),
         None => Err(Refusal { number: 4, place: 0 }),
@@ -171,7 +171,7 @@ fn record(run: &mut Run, kind: u8, octets: &[u8], at: usize) {
 pub fn asserts(run: &mut Run, m: &[u8], room: usize) -> Vec<u8> {
     let lent = run.input("message", m);
     let mut entries = run.room("entries", room);
-    let first = calls::read_asserts(lent.first(), entries.first_mut());
+    let first = calls::read_asserts(&lent, &mut entries);
     let second = expect::read(read::read_asserts(m, entries.second_mut()));
     let numbers = format_args!("room {room}");
     run.tally.call("pim_read_asserts", numbers, &[&lent, &entries], &first, &second);
@@ -181,7 +181,7 @@ pub fn asserts(run: &mut Run, m: &[u8], room: usize) -> Vec<u8> {
 pub fn pairs(run: &mut Run, m: &[u8], room: usize) -> Vec<u8> {
     let lent = run.input("message", m);
     let mut entries = run.room("entries", room);
-    let first = calls::read_pairs(lent.first(), entries.first_mut());
+    let first = calls::read_pairs(&lent, &mut entries);
     let second = expect::read(read::read_pairs(m, entries.second_mut()));
     let numbers = format_args!("room {room}");
     run.tally.call("pim_read_pairs", numbers, &[&lent, &entries], &first, &second);

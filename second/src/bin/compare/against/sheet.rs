@@ -128,7 +128,7 @@ fn counts(sheet: &[u8]) -> second::Answer<(usize, usize, Table)> {
 
 fn check_one(run: &mut Run, sheet: &[u8]) {
     let lent = run.input("sheet", sheet);
-    let (first, second) = (calls::check_sheet(lent.first()), expect::check(counts(sheet)));
+    let (first, second) = (calls::check_sheet(&lent), expect::check(counts(sheet)));
     run.tally.call("pim_check_sheet", format_args!("a sheet"), &[&lent], &first, &second);
 }
 
@@ -136,7 +136,7 @@ fn read_one(run: &mut Run, sheet: &[u8], assert_room: usize, pair_room: usize) {
     let lent = run.input("sheet", sheet);
     let mut asserts = run.room("asserts", assert_room);
     let mut pairs = run.room("pairs", pair_room);
-    let first = calls::read_sheet(lent.first(), asserts.first_mut(), pairs.first_mut());
+    let first = calls::read_sheet(&lent, &mut asserts, &mut pairs);
     let second = expect::sheet(read_sheet(sheet, asserts.second_mut(), pairs.second_mut()));
     let numbers = format_args!("rooms {assert_room} and {pair_room}");
     run.tally.call("pim_read_sheet", numbers, &[&lent, &asserts, &pairs], &first, &second);
@@ -146,9 +146,9 @@ fn write_one(run: &mut Run, asserts: &[u8], pairs: &[u8], table: &Table, room: u
     let (asserts, pairs) = (run.input("asserts", asserts), run.input("pairs", pairs));
     let mut buffer = run.room("buffer", room);
     let form = expect::table_form(table);
-    let first = calls::write_sheet(asserts.first(), pairs.first(), form, buffer.first_mut());
+    let first = calls::write_sheet(&asserts, &pairs, form, &mut buffer);
     let second = write_sheet(asserts.second(), pairs.second(), table, buffer.second_mut());
     let numbers = format_args!("room {room}, {table:?}");
-    let lent = [&asserts, &pairs, &buffer];
-    run.tally.call("pim_write_sheet", numbers, &lent, &first, &expect::length(second));
+    let second = expect::length(second);
+    run.tally.call("pim_write_sheet", numbers, &[&asserts, &pairs, &buffer], &first, &second);
 }

@@ -1,7 +1,7 @@
 //! Counts comparisons and refusals, and stops at the first difference.
 
 use super::expect::Answered;
-use super::lent::{Lent, GUARD};
+use super::lent::{Lent, Memory};
 use crate::options::Options;
 use std::fmt::{Arguments, Debug};
 use std::process::{exit, ExitCode};
@@ -25,12 +25,12 @@ const CALLS: [&str; 28] = [
     "pim_forget",
     "pim_packing_allowed",
     "pim_elect",
-    "pim_elect_rows",
+    "pim_elect_among",
     "pim_counters_none",
     "pim_count",
-    "pim_read_attribute",
-    "pim_compare_speeds",
-    "pim_merge",
+    "pim_popcount_read",
+    "pim_popcount_compare_speeds",
+    "pim_popcount_merge",
     "pim_check_sheet",
     "pim_read_sheet",
     "pim_write_sheet",
@@ -66,7 +66,7 @@ impl Tally {
         &mut self,
         call: &'static str,
         numbers: Arguments,
-        lent: &[&Lent],
+        lent: &[&dyn Memory],
         first: &A,
         second: &A,
     ) {
@@ -92,14 +92,14 @@ impl Tally {
         &self,
         what: &str,
         numbers: Arguments,
-        lent: &[&Lent],
+        lent: &[&dyn Memory],
         first: &dyn Debug,
         second: &dyn Debug,
     ) -> ! {
         println!("difference: {what}");
         println!("input: {numbers}");
         for lent in lent {
-            describe(lent);
+            lent.describe();
         }
         println!("first answers:  {first:?}");
         println!("second answers: {second:?}");
@@ -158,22 +158,4 @@ fn print_rows(names: &[&str], counts: &[u64]) {
     for (name, count) in names.iter().zip(counts) {
         println!("{name:<34}{count:>10}");
     }
-}
-
-fn describe(lent: &Lent) {
-    let (name, room) = (lent.name, lent.second().len());
-    if !lent.written {
-        println!("{name} ({room} octets): {}", hex(lent.second()));
-    }
-    if lent.same() {
-        return;
-    }
-    println!("{name} ({room} octets) afterwards, with {GUARD} octets around on each side:");
-    let (first, second) = lent.all();
-    println!("  first:  {}", hex(first));
-    println!("  second: {}", hex(second));
-}
-
-fn hex(octets: &[u8]) -> String {
-    octets.iter().map(|octet| format!("{octet:02x}")).collect()
 }
