@@ -123,6 +123,32 @@ fn electing() {
     let odd = Neighbour { address: 9, priority: 4, has_priority: false, packs: false, holdtime: 0 };
     assert_eq!(elect_among(&[odd, odd, row(8, Some(9))]), Ok(9));
     assert_eq!(elect_among(&[row(8, Some(9)), row(9, Some(8)), row(7, Some(9))]), Ok(8));
+}
+
+#[test]
+fn electing_among_any_number() {
     let many: Vec<Neighbour> = (1..=40).map(|i| row(i, Some(i % 7))).collect();
     assert_eq!(elect_among(&many), Ok(34));
+    for count in [1, 2, 16, 17, 200, 70_000] {
+        // The priority falls as the address grows.
+        let mut rows: Vec<Neighbour> = (0..count).map(|i| row(1 + i, Some(count - i))).collect();
+        let last = rows.len() - 1;
+        assert_eq!(elect_among(&rows), Ok(1));
+        rows[last] = row(count, Some(u32::MAX));
+        assert_eq!(elect_among(&rows), Ok(count));
+        rows[0] = row(1, None);
+        assert_eq!(elect_among(&rows), Ok(count));
+        rows[last].address = 0;
+        assert_eq!(elect_among(&rows), refusal(7, 0));
+    }
+}
+
+#[test]
+fn own_router_in_the_table() {
+    // Its row there counts as any other one.
+    assert_eq!(elect(&full(), 3, 99), Ok(3));
+    let table = hear(full(), 3, hello(9, Some(99), true)).unwrap();
+    assert_eq!(elect(&table, 3, 1), Ok(3));
+    let table = hear(full(), 3, hello(9, None, true)).unwrap();
+    assert_eq!(elect(&table, 3, 99), Ok(16));
 }

@@ -119,6 +119,26 @@ fn merging_none_and_all() {
 }
 
 #[test]
+fn merging_flags() {
+    // P, which is 16, holds only if all have it; each other flag if any has it.
+    let flags = |ours: u16, theirs: [u16; 2]| {
+        let contributors = theirs.map(|flags| hex(&format!("03 06 FFFF {flags:04X} 0000"))).concat();
+        let octets = merged(Own { flags: ours, ..own() }, &contributors, false);
+        u16::from_be_bytes([octets[4], octets[5]])
+    };
+    for bit in 0..16 {
+        let flag = 1 << bit;
+        let any = if flag == FLAG_P { 0 } else { flag };
+        assert_eq!(flags(0, [0, 0]), 0);
+        assert_eq!(flags(flag, [0, 0]), any);
+        assert_eq!(flags(0, [flag, 0]), any);
+        assert_eq!(flags(0, [flag, flag]), any);
+        assert_eq!(flags(flag, [flag, 0]), any);
+        assert_eq!(flags(flag, [flag, flag]), flag);
+    }
+}
+
+#[test]
 fn merging_options_left_away() {
     let contributors = [hex("03 0B 0001 0010 4400 FFFFFFFF 07"), hex(ALL)].concat();
     assert_eq!(merged(own(), &contributors, false), hex("03 0B 0001 0013 4400 FFFFFFFF 0C"));

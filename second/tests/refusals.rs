@@ -97,10 +97,42 @@ fn number_4_kind() {
     assert_eq!(read_hello(&message(0x25, 0, &[])), refusal(4, 0));
     assert_eq!(read_record(&[], 9, Kind::Hello), refusal(4, 0));
     assert_eq!(read_record(&[], 9, Kind::Aggregated), refusal(4, 0));
-    let mut counters = Counters::default();
-    assert_eq!(add(&mut counters, Direction::Sent, 6, 1), refusal(4, 0));
-    assert_eq!(add(&mut counters, Direction::Received, 255, 1), refusal(4, 0));
-    assert_eq!(counters, Counters::default());
+    let before = Counters { sent: [Count { messages: 1, records: 2 }; 6], ..Counters::default() };
+    let mut counters = before;
+    for kind in 6..=255 {
+        assert_eq!(add(&mut counters, Direction::Sent, kind, 1), refusal(4, 0));
+        assert_eq!(add(&mut counters, Direction::Received, kind, 1), refusal(4, 0));
+    }
+    assert_eq!(counters, before);
+}
+
+#[test]
+fn body_of_each_kind() {
+    // Only the header is looked at: no kind has a body like this one.
+    let kinds = [(0x20, 0), (0x25, 0), (0x25, 1), (0x25, 3), (0x2D, 0), (0x2D, 0x10)];
+    for ((first, second), kind) in kinds.into_iter().zip(Kind::ALL) {
+        let mut m = message(first, second, &[0xFF; 3]);
+        assert_eq!(header(&m), Ok(kind));
+        assert_eq!(body(&m), [0xFF; 3]);
+        m[4] = 0;
+        assert!(body(&m).is_empty());
+    }
+}
+
+#[test]
+fn a_record_read_singly() {
+    let record = [assert_record(G, S, 110, 20), vec![0xFF; 3]].concat();
+    let found = AssertRecord { group: G, source: S, r_preference: 110, metric: 20 };
+    let pair = Record::Pair(PairRecord { group: G, source: S });
+    for kind in [Kind::Assert, Kind::Simple] {
+        assert_eq!(read_record(&record, 0, kind), Ok((Record::Assert(found), 22)));
+    }
+    for kind in [Kind::NullRegister, Kind::RegisterStop] {
+        assert_eq!(read_record(&record, 0, kind), Ok((pair, 14)));
+        for at in [25, 26, usize::MAX - 13, usize::MAX] {
+            assert_eq!(read_record(&record, at, kind), refusal(6, at));
+        }
+    }
 }
 
 #[test]
@@ -163,9 +195,22 @@ fn number_6_before_7_at_one_field() {
         assert_eq!(read_record(&bad[..cut], 0, Kind::RegisterStop), refusal(6, 0));
     }
     assert_eq!(read_record(&bad, 0, Kind::RegisterStop), refusal(7, 0));
+    // A source likewise.
+    let bad = [encoded_group(G), vec![1, 9, 10, 0, 0, 1]].concat();
+    for cut in 8..14 {
+        assert_eq!(read_record(&bad[..cut], 0, Kind::RegisterStop), refusal(6, 0));
+    }
+    assert_eq!(read_record(&bad, 0, Kind::RegisterStop), refusal(7, 0));
     // A bad group before the end of the octets, with more groups due.
     asserts_refused(&aggregated(&[source_aggregated(S, 3, &[G, 0x0A01_0101])]), 7, 8);
     asserts_refused(&aggregated(&[source_aggregated(S, 3, &[G, G])]), 6, 8);
+    // Likewise a bad source, and a bad group record.
+    let mut sources = group_record(G, 3, &[S, S]);
+    asserts_refused(&aggregated(&[rp_aggregated(1, &[sources.clone()])]), 6, 8);
+    sources[19] = 1;
+    asserts_refused(&aggregated(&[rp_aggregated(1, &[sources])]), 7, 8);
+    asserts_refused(&aggregated(&[rp_aggregated(3, &[group_record(G, 0, &[])])]), 6, 8);
+    asserts_refused(&aggregated(&[rp_aggregated(3, &[group_record(S, 0, &[])])]), 7, 8);
     // The zero source of an assert record is found at the R word.
     let record = assert_record(G, 0, 110, 20);
     assert_eq!(read_record(&record[..17], 0, Kind::Assert), refusal(6, 0));

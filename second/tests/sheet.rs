@@ -83,6 +83,16 @@ fn number_14_header() {
             }
         }
     }
+    // An empty section's offset is exact too.
+    for counts in [(0, 0, 0), (2, 0, 0), (0, 2, 0), (0, 0, 2)] {
+        let (asserts, pairs) = (entry(0xE000_0001, 1, 2, 3), pair(0xE000_0001, 1));
+        let sheet = written(&asserts.repeat(counts.0), &pairs.repeat(counts.1), &table(counts.2));
+        for at in [2, 3, 6, 7, 10, 11] {
+            let mut changed = sheet.clone();
+            changed[at] ^= 4;
+            fault(&changed, 0);
+        }
+    }
     // Too many of each, with offsets and end to match.
     for counts in [[1025usize, 0, 0], [0, 1025, 0], [0, 0, 17]] {
         let pairs = 12 + 16 * counts[0];
