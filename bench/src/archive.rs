@@ -57,7 +57,7 @@ pub struct Table {
 
 #[repr(C)]
 #[derive(Clone, Copy)]
-pub struct Own {
+pub struct PopcountOwn {
     pub mtu: u16,
     pub flags: u16,
     pub transit: u32,
@@ -74,7 +74,7 @@ pub struct LengthAnswer {
 
 #[repr(C)]
 #[derive(Clone, Copy, Debug, PartialEq, Eq)]
-pub struct Counts {
+pub struct SheetCounts {
     pub asserts: usize,
     pub pairs: usize,
     pub neighbours: usize,
@@ -83,13 +83,13 @@ pub struct Counts {
 #[repr(C)]
 pub struct CheckAnswer {
     pub refusal: Refusal,
-    pub counts: Counts,
+    pub counts: SheetCounts,
 }
 
 #[repr(C)]
 pub struct SheetAnswer {
     pub refusal: Refusal,
-    pub counts: Counts,
+    pub counts: SheetCounts,
     pub table: Table,
 }
 
@@ -131,7 +131,14 @@ extern "C" {
         b: *mut u8,
         room: usize,
     ) -> PackAnswer;
-    fn pim_merge(own: Own, e: bool, c: *const u8, n: usize, b: *mut u8, room: usize) -> LengthAnswer;
+    fn pim_popcount_merge(
+        own: PopcountOwn,
+        e: bool,
+        c: *const u8,
+        n: usize,
+        b: *mut u8,
+        room: usize,
+    ) -> LengthAnswer;
     fn pim_check_sheet(o: *const u8, n: usize) -> CheckAnswer;
     fn pim_read_sheet(
         o: *const u8,
@@ -197,8 +204,17 @@ pub fn pack_register_stop(entries: &[u8], start: usize, limit: usize, buffer: &m
 }
 
 #[inline(always)]
-pub fn merge(own: Own, e: bool, contributors: &[u8], buffer: &mut [u8]) -> LengthAnswer {
-    unsafe { pim_merge(own, e, contributors.as_ptr(), contributors.len(), buffer.as_mut_ptr(), buffer.len()) }
+pub fn popcount_merge(own: PopcountOwn, e: bool, contributors: &[u8], buffer: &mut [u8]) -> LengthAnswer {
+    unsafe {
+        pim_popcount_merge(
+            own,
+            e,
+            contributors.as_ptr(),
+            contributors.len(),
+            buffer.as_mut_ptr(),
+            buffer.len(),
+        )
+    }
 }
 
 #[inline(always)]

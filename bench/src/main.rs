@@ -1,57 +1,54 @@
-//! Measures the archive against the second program and writes what came out.
-//! Called by bench/run: the directory of the documents, the date, the compiler and its link-time
-//! optimisation.
+//! Measures the archive against the second program. Called by bench/run, in bench/: `pass` measures every row
+//! once and prints that; `report`, with the date, the compiler and its link-time optimisation, prints the
+//! tables of all passes on standard input, and with `--write` writes the documents too.
 
 mod archive;
 mod input;
 mod measure;
+mod page;
+mod passes;
 mod plot;
 mod report;
 mod rows;
+mod shift;
 
 use std::path::Path;
 use std::process::ExitCode;
 
-/// How often all rows are measured.
-pub const PASSES: usize = 15;
-
-const BEGIN: &str = "<!-- measured: written by bench/run, from here -->";
-const END: &str = "<!-- measured: to here -->";
+const DOCS: &str = "../docs";
 
 fn main() -> ExitCode {
     let arguments: Vec<String> = std::env::args().skip(1).collect();
-    let [docs, date, compiler, lto] = arguments.as_slice() else {
-        eprintln!("bench: use bench/run, which gives the arguments");
-        return ExitCode::FAILURE;
+    let words: Vec<&str> = arguments.iter().map(String::as_str).collect();
+    let done = match words[..] {
+        ["pass"] => pass(),
+        ["report", date, compiler, lto] => report(&report::Run { date, compiler, lto }, false),
+        ["report", date, compiler, lto, "--write"] => report(&report::Run { date, compiler, lto }, true),
+        _ => Err("use bench/run, which gives the arguments".to_string()),
     };
-    let measured = rows::quietest(PASSES);
-    let run = report::Run { date: date.clone(), compiler: compiler.clone(), lto: lto.clone() };
-    let part = report::measured_part(&measured, &run);
-    print!("{part}");
-    match write(Path::new(docs), &part, &plot::svg(&measured.rows)) {
+    match done {
         Ok(()) => ExitCode::SUCCESS,
-        Err(error) => {
-            eprintln!("bench: the documents cannot be written: {error}");
+        Err(fault) => {
+            eprintln!("bench: {fault}");
             ExitCode::FAILURE
         }
     }
 }
 
-/// Replaces the measured part of BENCHMARK.md, or makes the file, and writes the plot.
-fn write(docs: &Path, part: &str, svg: &str) -> std::io::Result<()> {
-    let page = docs.join("BENCHMARK.md");
-    let old = if page.exists() { std::fs::read_to_string(&page)? } else { "# Benchmark\n".to_string() };
-    std::fs::write(page, with_part(&old, part))?;
-    std::fs::write(docs.join("benchmark.svg"), svg)
+fn pass() -> Result<(), String> {
+    shift::keep();
+    print!("{}", passes::text(&rows::measure()));
+    Ok(())
 }
 
-/// The text with the part between its two marks; marks that are missing come last.
-fn with_part(text: &str, part: &str) -> String {
-    let marked = format!("{BEGIN}\n\n{part}\n{END}");
-    match (text.find(BEGIN), text.find(END)) {
-        (Some(begin), Some(end)) if begin < end => {
-            format!("{}{marked}{}", &text[..begin], &text[end + END.len()..])
-        }
-        _ => format!("{}\n\n{marked}\n", text.trim_end()),
+fn report(run: &report::Run, write: bool) -> Result<(), String> {
+    let text = std::io::read_to_string(std::io::stdin()).map_err(|error| format!("no passes: {error}"))?;
+    let measured = passes::read(&text).ok_or("standard input is no list of passes")?;
+    let part = report::measured_part(&measured, run);
+    print!("{part}");
+    if write {
+        page::write(Path::new(DOCS), &part, &plot::svg(&measured.rows))
+            .map_err(|error| format!("the documents cannot be written: {error}"))?;
     }
+    Ok(())
 }

@@ -1,13 +1,13 @@
-//! The ratios as a dot plot, written as SVG by hand.
+//! The ratios as a dot plot with their spread, written as SVG by hand.
 
 use crate::rows::Row;
 use std::fmt::Write;
 
 const LABELS: f64 = 330.0;
-/// Beside the plot, for the number of a dot at its edge.
+/// Beside the plot, for the number of a row that goes to its edge.
 const MARGIN: f64 = 40.0;
 const PLOT: f64 = 430.0;
-const TOP: f64 = 64.0;
+const TOP: f64 = 94.0;
 const STEP: f64 = 15.0;
 const BOTTOM: f64 = 34.0;
 
@@ -18,13 +18,13 @@ struct Scale {
 }
 
 impl Scale {
-    /// Holds all ratios and 1/2 to 2.
+    /// Holds all that is drawn, and 1/2 to 2.
     fn of(rows: &[Row]) -> Scale {
         let mut scale = Scale { low: -1, high: 1 };
         for row in rows {
-            let power = row.times.ratio().log2();
-            scale.low = scale.low.min(power.floor() as i32);
-            scale.high = scale.high.max(power.ceil() as i32);
+            let (ratio, control) = (row.ratio(), row.control());
+            scale.low = scale.low.min(ratio.least.min(control.lower).log2().floor() as i32);
+            scale.high = scale.high.max(ratio.greatest.max(control.upper).log2().ceil() as i32);
         }
         scale
     }
@@ -57,8 +57,12 @@ fn head(width: f64, height: f64) -> String {
          <rect width=\"{width}\" height=\"{height}\" fill=\"#ffffff\"/>\n\
          <text x=\"12\" y=\"20\" font-size=\"14\" fill=\"#222222\">Time of the second program divided by time of the \
          archive</text>\n\
-         <text x=\"12\" y=\"37\" fill=\"#555555\">To the right of 1 the archive is faster. The scale is \
-         logarithmic.</text>\n"
+         <text x=\"12\" y=\"38\" fill=\"#555555\">To the right of 1 the archive is faster. The scale is \
+         logarithmic.</text>\n\
+         <text x=\"12\" y=\"53\" fill=\"#555555\">A dot is the median of the passes, the thick bar their middle \
+         half, the thin line all of them.</text>\n\
+         <text x=\"12\" y=\"68\" fill=\"#555555\">The grey bar is the middle half of the control: the second \
+         program against itself.</text>\n"
     )
 }
 
@@ -102,29 +106,42 @@ fn axis(svg: &mut String, scale: &Scale, height: f64) {
     }
 }
 
-/// The row's name, a line from 1 to its ratio, a dot and the number.
+/// The row's name, the control's middle half, and the ratio: all passes, their middle half, the median as a
+/// dot and as a number.
 fn dot(svg: &mut String, scale: &Scale, row: &Row, y: f64) {
-    let ratio = row.times.ratio();
-    let (one, x) = (scale.x(1.0), scale.x(ratio));
-    let colour = if ratio < 1.0 { "#c2410c" } else { "#1d4ed8" };
-    let (anchor, side) = if ratio < 1.0 { ("end", -8.0) } else { ("start", 8.0) };
+    let (ratio, control) = (row.ratio(), row.control());
+    let under = ratio.median < 1.0;
+    let colour = if under { "#c2410c" } else { "#1d4ed8" };
+    bar(svg, scale, (control.lower, control.upper), y, 11.0, "#9ca3af");
+    bar(svg, scale, (ratio.least, ratio.greatest), y, 1.0, colour);
+    bar(svg, scale, (ratio.lower, ratio.upper), y, 5.0, colour);
+    let x = scale.x(ratio.median);
+    put(svg, format!("<circle cx=\"{x:.1}\" cy=\"{y}\" r=\"4\" fill=\"{colour}\" stroke=\"#ffffff\"/>"));
+    label(svg, LABELS, y, "end", "#222222", &row.name());
+    let number = format!("{:.2}", ratio.median);
+    if under {
+        label(svg, scale.x(ratio.least) - 8.0, y, "end", colour, &number);
+    } else {
+        label(svg, scale.x(ratio.greatest) + 8.0, y, "start", colour, &number);
+    }
+}
+
+/// A line along a row, at least as long as can be seen.
+fn bar(svg: &mut String, scale: &Scale, (from, to): (f64, f64), y: f64, width: f64, colour: &str) {
+    let (a, b) = (scale.x(from) - 0.5, scale.x(to) + 0.5);
+    put(
+        svg,
+        format!(
+            "<line x1=\"{a:.1}\" y1=\"{y}\" x2=\"{b:.1}\" y2=\"{y}\" stroke=\"{colour}\" stroke-width=\"{width}\"/>"
+        ),
+    );
+}
+
+fn label(svg: &mut String, x: f64, y: f64, anchor: &str, colour: &str, text: &str) {
     let base = y + 4.0;
     put(
         svg,
-        format!(
-            "<text x=\"{}\" y=\"{base}\" text-anchor=\"end\" fill=\"#222222\">{}</text>",
-            LABELS,
-            row.name()
-        ),
-    );
-    put(
-        svg,
-        format!(
-            "<line x1=\"{one:.1}\" y1=\"{y}\" x2=\"{x:.1}\" y2=\"{y}\" stroke=\"{colour}\" stroke-width=\"2\"/>\
-             <circle cx=\"{x:.1}\" cy=\"{y}\" r=\"4\" fill=\"{colour}\"/>\
-             <text x=\"{:.1}\" y=\"{base}\" text-anchor=\"{anchor}\" fill=\"{colour}\">{ratio:.2}</text>",
-            x + side
-        ),
+        format!("<text x=\"{x:.1}\" y=\"{base}\" text-anchor=\"{anchor}\" fill=\"{colour}\">{text}</text>"),
     );
 }
 

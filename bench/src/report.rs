@@ -1,21 +1,20 @@
 //! The tables, as Markdown that is readable as text.
 
-use crate::measure::ROUNDS;
-use crate::PASSES;
+use crate::measure::{Spread, ROUNDS};
 use crate::rows::{thousands, Measured, Row};
 
 /// What the caller knows of the run.
-pub struct Run {
-    pub date: String,
-    pub compiler: String,
-    pub lto: String,
+pub struct Run<'a> {
+    pub date: &'a str,
+    pub compiler: &'a str,
+    pub lto: &'a str,
 }
 
 /// The measured part of docs/BENCHMARK.md.
 pub fn measured_part(measured: &Measured, run: &Run) -> String {
     let rows = &measured.rows;
     [
-        how_measured(run),
+        how_measured(run, rows[0].passes.len()),
         summary(rows),
         table(&COLUMNS, rows.iter().map(row_cells).collect()),
         "![The ratio of each row](benchmark.svg)\n".to_string(),
@@ -25,18 +24,21 @@ pub fn measured_part(measured: &Measured, run: &Run) -> String {
     .join("\n")
 }
 
-fn how_measured(run: &Run) -> String {
+fn how_measured(run: &Run, passes: usize) -> String {
     format!(
         "Measured {} on {}. The second program is built by {} with `opt-level = 3`, one codegen unit, \
          link-time optimisation {} and the usual target, the archive by `rt staticlib pim`. Repeat it with \
-         `bench/run`.\n\n\
-         Both sides run in one process on the same input, in turn, in {} rounds; in each the second program \
-         runs twice. A time is the median of the rounds. All rows are measured {} times, and of each the \
-         time is kept at which the second program was fastest: then other work on the machine disturbed it \
-         least. Ratio is the second program's time divided by the \
-         archive's: from 1 on the archive is at least as fast. Control is the second program's time divided \
-         by its time at its other turn: what it is away from 1 is the machine's doing, and a ratio that is \
-         no further away says nothing.\n\n\
+         `bench/run --write`.\n\n\
+         Both sides run in one process on the same input, in turn, in {} rounds, in each of them twice. The \
+         time of a pass is the median of its turns. There are {} passes, and a time below is the median of the \
+         passes. Where code lies in the 64-octet lines of memory changes its time, that of a short loop most; \
+         so the passes take turns with four executables, in which the code of both sides is shifted by 0, 16, \
+         32 and 48 octets. Ratio is the second program's time divided by the archive's in the same pass: from 1 on \
+         the archive is at least as fast. Control is the second program's time at its first turns divided by \
+         that at its other turns in the same pass: what it is away from 1 is other work on the machine. Of \
+         both the table has the median of the passes and their middle half, from the lower to the upper \
+         quartile. Where the middle halves of ratio and control meet, the row does not tell the two programs \
+         apart.\n\n\
          Each row also checks that both sides give the same answers and octets. Buffers are not cleared \
          between calls. A train's time is that of all its calls, the last one, which finds nothing left, too; \
          its octets are those of all its messages.\n",
@@ -45,7 +47,7 @@ fn how_measured(run: &Run) -> String {
         run.compiler,
         run.lto,
         ROUNDS,
-        PASSES
+        passes
     )
 }
 
@@ -61,16 +63,39 @@ fn machine() -> String {
 
 /// The rows under 1, as two digits after the point show it.
 fn summary(rows: &[Row]) -> String {
-    let under = rows.iter().filter(|row| row.times.ratio() < 0.995);
-    let lines: Vec<String> =
-        under.map(|row| format!("- {}: {:.2}\n", row.name(), row.times.ratio())).collect();
-    if lines.is_empty() {
-        return format!("All {} rows have a ratio of at least 1.00.\n", rows.len());
+    let under: Vec<&Row> = rows.iter().filter(|row| row.ratio().median < 0.995).collect();
+    if under.is_empty() {
+        return format!("All {} rows have a median ratio of at least 1.00.\n", rows.len());
     }
-    format!("{} of {} rows have a ratio under 1.00:\n\n{}", lines.len(), rows.len(), lines.concat())
+    let apart = under.iter().filter(|row| row.ratio().is_apart_from(&row.control())).count();
+    let lines: Vec<String> = under.iter().map(|row| summary_line(row)).collect();
+    format!(
+        "{} of {} rows have a median ratio under 1.00; in {apart} of them the middle halves of ratio and \
+         control do not meet:\n\n{}",
+        under.len(),
+        rows.len(),
+        lines.concat()
+    )
 }
 
-const COLUMNS: [&str; 9] = [
+fn summary_line(row: &Row) -> String {
+    let (ratio, control) = (row.ratio(), row.control());
+    format!(
+        "- {}: {:.2} ({}), control {:.2} ({})\n",
+        row.name(),
+        ratio.median,
+        middle_half(&ratio),
+        control.median,
+        middle_half(&control)
+    )
+}
+
+/// From the lower to the upper quartile.
+fn middle_half(spread: &Spread) -> String {
+    format!("{:.2}–{:.2}", spread.lower, spread.upper)
+}
+
+const COLUMNS: [&str; 11] = [
     "row",
     "octets",
     "records",
@@ -78,23 +103,31 @@ const COLUMNS: [&str; 9] = [
     "second ns/octet",
     "archive ns/record",
     "second ns/record",
-    "ratio",
-    "control",
+    "ratio, median",
+    "ratio, middle half",
+    "control, median",
+    "control, middle half",
 ];
 
 fn row_cells(row: &Row) -> Vec<String> {
     let records = if row.records == 0 { "–".to_string() } else { thousands(row.records) };
-    vec![
+    let mut cells = vec![
         row.name(),
         thousands(row.octets),
         records,
-        each(row.times.archive, row.octets, 3),
-        each(row.times.second, row.octets, 3),
-        each(row.times.archive, row.records, 2),
-        each(row.times.second, row.records, 2),
-        format!("{:.2}", row.times.ratio()),
-        format!("{:.2}", row.times.control()),
-    ]
+        each(row.archive(), row.octets, 3),
+        each(row.second(), row.octets, 3),
+        each(row.archive(), row.records, 2),
+        each(row.second(), row.records, 2),
+    ];
+    cells.extend(spread_cells(row));
+    cells
+}
+
+/// The last four columns.
+fn spread_cells(row: &Row) -> Vec<String> {
+    let cells = |spread: Spread| [format!("{:.2}", spread.median), middle_half(&spread)];
+    [cells(row.ratio()), cells(row.control())].concat()
 }
 
 /// Nanoseconds for each of `n`, with so many digits.
@@ -107,15 +140,10 @@ fn each(ns: f64, n: usize, digits: usize) -> String {
 
 fn deferred_part(rows: &[Row]) -> String {
     let cells = rows.iter().map(|row| {
-        vec![
-            row.name(),
-            each(row.times.archive, row.octets, 3),
-            each(row.times.second, row.octets, 3),
-            format!("{:.2}", row.times.ratio()),
-            format!("{:.2}", row.times.control()),
-        ]
+        let times = [each(row.archive(), row.octets, 3), each(row.second(), row.octets, 3)];
+        [vec![row.name()], times.to_vec(), spread_cells(row)].concat()
     });
-    let columns = ["row", "archive ns/octet", "deferred ns/octet", "ratio", "control"];
+    let columns = [&["row", "archive ns/octet", "deferred ns/octet"], &COLUMNS[7..]].concat();
     format!(
         "## The checksum's limit\n\n\
          In all rows above both sides add the carry after each word. The second program can also fold all \
@@ -153,8 +181,8 @@ fn growth_cells(pair: &[Row]) -> Vec<String> {
         to.size.clone(),
         times(to.octets as f64 / from.octets as f64),
         looked_at,
-        times(to.times.archive / from.times.archive),
-        times(to.times.second / from.times.second),
+        times(to.archive() / from.archive()),
+        times(to.second() / from.second()),
     ]
 }
 

@@ -2,7 +2,7 @@
 
 use crate::archive::{self, PackAnswer, ReadAnswer};
 use crate::input;
-use crate::measure::{compare, side, Times};
+use crate::measure::{compare, side, Spread, Times};
 use second::{checksum, hello, pack, popcount, read, sheet, Answer, Kind};
 use std::hint::black_box;
 
@@ -21,12 +21,35 @@ pub struct Row {
     pub records: usize,
     /// The entries that the calls of a train look at, by the rule on refusal 7.
     pub looked_at: Option<usize>,
-    pub times: Times,
+    /// What each pass measured.
+    pub passes: Vec<Times>,
 }
 
 impl Row {
     pub fn name(&self) -> String {
         format!("{}, {}", self.family, self.size)
+    }
+
+    /// Of the archive's times the median.
+    pub fn archive(&self) -> f64 {
+        self.spread(|times| times.archive).median
+    }
+
+    /// Of the second program's times the median.
+    pub fn second(&self) -> f64 {
+        self.spread(|times| times.second).median
+    }
+
+    pub fn ratio(&self) -> Spread {
+        self.spread(Times::ratio)
+    }
+
+    pub fn control(&self) -> Spread {
+        self.spread(Times::control)
+    }
+
+    fn spread(&self, number: impl Fn(&Times) -> f64) -> Spread {
+        Spread::of(self.passes.iter().map(number).collect())
     }
 }
 
@@ -36,27 +59,8 @@ pub struct Measured {
     pub deferred: Vec<Row>,
 }
 
-/// All rows so many times; of each the one with the least time of the second program: the machine disturbed it least.
-pub fn quietest(passes: usize) -> Measured {
-    let mut kept = measure();
-    for _ in 1..passes {
-        let next = measure();
-        keep_quieter(&mut kept.rows, next.rows);
-        keep_quieter(&mut kept.deferred, next.deferred);
-    }
-    kept
-}
-
-fn keep_quieter(kept: &mut [Row], next: Vec<Row>) {
-    for (kept, next) in kept.iter_mut().zip(next) {
-        if next.times.second < kept.times.second {
-            *kept = next;
-        }
-    }
-}
-
-/// All rows, in the order of the report.
-fn measure() -> Measured {
+/// All rows in one pass, in the order of the report.
+pub fn measure() -> Measured {
     let mut measured = Measured { rows: Vec::new(), deferred: Vec::new() };
     reading(&mut measured.rows);
     trains(&mut measured.rows);
@@ -140,7 +144,7 @@ fn read_row(
         octets: message.len(),
         records: count,
         looked_at: None,
-        times,
+        passes: vec![times],
     }
 }
 
@@ -218,7 +222,7 @@ fn train_row(
         octets: train.iter().map(|(message, _)| message.len()).sum(),
         records: entries,
         looked_at: Some(looked_at(entries, &train)),
-        times,
+        passes: vec![times],
     }
 }
 
@@ -315,7 +319,7 @@ fn octets_row(family: &str, octets: usize, times: Times) -> Row {
         octets,
         records: 0,
         looked_at: None,
-        times,
+        passes: vec![times],
     }
 }
 
@@ -350,7 +354,7 @@ impl Full {
             octets: self.sheet.len(),
             records: 2 * SHEET_ENTRIES + self.ours.count,
             looked_at: None,
-            times,
+            passes: vec![times],
         }
     }
 }
@@ -435,12 +439,17 @@ fn merge() -> Row {
     let (a_own, s_own) = own_values();
     let mut a = [0; 22];
     let mut s = [0; 22];
-    let answer = archive::merge(a_own, true, &contributors, &mut a);
+    let answer = archive::popcount_merge(a_own, true, &contributors, &mut a);
     let length = popcount::merge(s_own, &contributors, true, &mut s).expect("the attributes are good");
     assert_eq!((answer.refusal.number, answer.length, a), (0, length, s), "merge");
     let times = compare(
         &mut side(|| {
-            black_box(archive::merge(black_box(a_own), true, black_box(&contributors), black_box(&mut a)));
+            black_box(archive::popcount_merge(
+                black_box(a_own),
+                true,
+                black_box(&contributors),
+                black_box(&mut a),
+            ));
         }),
         &mut side(|| {
             let answer = popcount::merge(black_box(s_own), black_box(&contributors), true, black_box(&mut s));
@@ -453,15 +462,15 @@ fn merge() -> Row {
         octets: contributors.len(),
         records: ATTRIBUTES,
         looked_at: None,
-        times,
+        passes: vec![times],
     }
 }
 
 /// Our own values for each side.
-fn own_values() -> (archive::Own, popcount::Own) {
+fn own_values() -> (archive::PopcountOwn, popcount::Own) {
     let (mtu, flags, transit, stub, least, greatest) = (1_500, 0x13, 3, 7, 0x0864, 0x1064);
     (
-        archive::Own { mtu, flags, transit, stub, minimum_speed: least, maximum_speed: greatest },
+        archive::PopcountOwn { mtu, flags, transit, stub, minimum_speed: least, maximum_speed: greatest },
         popcount::Own { mtu, flags, transit, stub, least_speed: least, greatest_speed: greatest },
     )
 }
