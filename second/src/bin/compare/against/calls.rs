@@ -1,6 +1,6 @@
-//! The first implementation's calls on lent memory. Its pointers are never
-//! NULL, not even those of no octets, and `&mut` keeps written memory apart,
-//! which is all that `pim.h` asks of a caller.
+//! The first implementation's calls on lent memory. `&mut` keeps written memory
+//! apart from all other, as `pim.h` asks; its pointers are NULL only where the
+//! length is 0.
 
 use super::ffi::*;
 use super::lent::Lent;

@@ -4,6 +4,7 @@
 use super::{expect, ffi, make};
 use second::rng::Rng;
 use std::fmt::Debug;
+use std::ptr;
 
 /// How many octets or records stand on each side.
 const GUARD: usize = 13;
@@ -49,6 +50,8 @@ pub struct Lent<P = u8> {
     /// Whether a call may write here.
     written: bool,
     room: usize,
+    /// Whether the first implementation gets NULL instead of a place for nothing.
+    null: bool,
     first: Vec<P>,
     second: Vec<P>,
 }
@@ -65,6 +68,7 @@ impl<P: Piece> Lent<P> {
         lent.first.splice(GUARD..GUARD, pieces.iter().copied());
         lent.second = lent.first.clone();
         lent.room = pieces.len();
+        lent.null &= pieces.is_empty();
         lent
     }
 
@@ -73,7 +77,9 @@ impl<P: Piece> Lent<P> {
         let mut first = vec![P::default(); room + 2 * GUARD];
         P::scatter(rng, &mut first);
         let second = first.clone();
-        Lent { name, written: true, room, first, second }
+        // The clone takes no random number from what comes after.
+        let null = room == 0 && rng.clone().one_in(2);
+        Lent { name, written: true, room, null, first, second }
     }
 
     /// How many octets or records are lent.
@@ -83,10 +89,16 @@ impl<P: Piece> Lent<P> {
 
     /// Where the first implementation finds them.
     pub fn pointer(&self) -> *const P {
+        if self.null {
+            return ptr::null();
+        }
         self.first().as_ptr()
     }
 
     pub fn pointer_mut(&mut self) -> *mut P {
+        if self.null {
+            return ptr::null_mut();
+        }
         self.first[GUARD..GUARD + self.room].as_mut_ptr()
     }
 
@@ -110,6 +122,9 @@ pub trait Memory {
     /// Whether all of it, with what stands around, is the same for both.
     fn same(&self) -> bool;
 
+    /// Whether it is nothing, lent as NULL.
+    fn is_null(&self) -> bool;
+
     /// Prints what was read, and where it differs all of it.
     fn describe(&self);
 }
@@ -119,10 +134,17 @@ impl<P: Piece> Memory for Lent<P> {
         self.first == self.second
     }
 
+    fn is_null(&self) -> bool {
+        self.null
+    }
+
     fn describe(&self) {
         let (name, room) = (self.name, self.room);
         if !self.written {
             println!("{name} ({room}): {}", P::shown(self.second()));
+        }
+        if self.null {
+            println!("{name} is NULL");
         }
         if !self.same() {
             println!("{name} ({room}) afterwards, with {GUARD} more on each side:");

@@ -83,6 +83,13 @@ pub fn pairs(rng: &mut Rng, count: usize, zero: bool) -> Vec<u8> {
     (0..count).flat_map(|_| words(&[pick(rng, &GROUPS), pick(rng, sources)])).collect()
 }
 
+/// Good assert entries that are also good pairs, two for each.
+pub fn asserts_and_pairs(rng: &mut Rng, count: usize) -> Vec<u8> {
+    let entry =
+        |rng: &mut Rng| [pick(rng, &GROUPS), pick(rng, &SOURCES), pick(rng, &GROUPS), pick(rng, &METRICS)];
+    (0..count).flat_map(|_| words(&entry(rng))).collect()
+}
+
 /// Spoils one entry of a list: its group, or its source and R.
 pub fn spoil_entry(rng: &mut Rng, list: &mut [u8], size: usize) {
     let count = list.len() / size;

@@ -24,6 +24,9 @@ pub fn compare(run: &mut Run) {
         random_reading(run);
         random_writing(run);
     }
+    for _ in 0..500 * run.rounds {
+        shared(run);
+    }
 }
 
 /// Each octet changed to several values, cut at each octet, octets more.
@@ -103,6 +106,21 @@ fn random_writing(run: &mut Run) {
     let exact = 12 + asserts.len() + pairs.len() + 12 * table.count.min(ROWS);
     for room in [exact, exact - 1, exact + 1 + run.below(20), run.below(exact)] {
         write_one(run, &asserts, &pairs, &table, room);
+    }
+}
+
+/// One list lent both as asserts and as pairs, which a call only reads.
+fn shared(run: &mut Run) {
+    let count = run.below(9);
+    let list = make::asserts_and_pairs(&mut run.rng, count);
+    let lent = run.input("asserts and pairs", &list);
+    let table = make::table(&mut run.rng);
+    for room in [600, 12 + 2 * list.len() + 12 * table.count] {
+        let mut buffer = run.room("buffer", room);
+        let first = calls::write_sheet(&lent, &lent, expect::table_form(&table), &mut buffer);
+        let second = expect::length(write_sheet(lent.second(), lent.second(), &table, buffer.second_mut()));
+        let numbers = format_args!("room {room}, {table:?}");
+        run.tally.call("pim_write_sheet", numbers, &[&lent, &buffer], &first, &second);
     }
 }
 

@@ -54,11 +54,14 @@ pub struct Tally {
     trains: [u64; TRAINS.len()],
     /// Accepted at 0, then by number of refusal.
     numbers: [u64; NUMBERS + 1],
+    /// Calls that were lent NULL, with length 0.
+    nulls: u64,
 }
 
 impl Tally {
     pub fn new(options: Options) -> Tally {
-        Tally { options, calls: [0; CALLS.len()], trains: [0; TRAINS.len()], numbers: [0; NUMBERS + 1] }
+        let (calls, trains) = ([0; CALLS.len()], [0; TRAINS.len()]);
+        Tally { options, calls, trains, numbers: [0; NUMBERS + 1], nulls: 0 }
     }
 
     /// One call: both answers, and all memory lent to it.
@@ -74,6 +77,7 @@ impl Tally {
             self.differ(call, numbers, lent, first, second);
         }
         *slot(&CALLS, &mut self.calls, call) += 1;
+        self.nulls += u64::from(lent.iter().any(|lent| lent.is_null()));
         if let Some(number) = first.number() {
             self.numbers[usize::from(number)] += 1;
         }
@@ -120,6 +124,7 @@ impl Tally {
         for number in 1..=NUMBERS {
             println!("{:<34}{:>10}", format!("refusal {number}"), self.numbers[number]);
         }
+        println!("{:<34}{:>10}", "calls lent NULL, with length 0", self.nulls);
         println!("{} comparisons, 0 differences", self.comparisons());
         let gaps = self.gaps();
         for gap in &gaps {
@@ -141,6 +146,9 @@ impl Tally {
             .collect();
         for number in (1..=NUMBERS).filter(|number| self.numbers[*number] == 0) {
             gaps.push(format!("refusal {number} never occurred"));
+        }
+        if self.nulls == 0 {
+            gaps.push("NULL was never lent".to_string());
         }
         if self.comparisons() < COMPARISONS_LEAST {
             gaps.push(format!("fewer than {COMPARISONS_LEAST} comparisons"));
