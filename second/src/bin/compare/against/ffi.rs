@@ -1,29 +1,31 @@
 //! The C interface of the first implementation, as `pim.h` declares it.
 //! A truth value is an octet here, so that one other than 0 and 1 is seen.
 
+/// Each record with its octets.
 macro_rules! records {
-    ($($(#[$note:meta])* $name:ident { $($field:ident: $form:ty,)* })*) => {$(
-        $(#[$note])*
+    ($($name:ident: $octets:literal { $($field:ident: $form:ty,)* })*) => {$(
         #[repr(C)]
         #[derive(Clone, Copy, Debug, Default, PartialEq, Eq)]
         pub struct $name {
             $(pub $field: $form,)*
         }
+
+        const _: () = assert!(size_of::<$name>() == $octets);
     )*};
 }
 
 records! {
-    Refusal {
+    Refusal: 16 {
         number: u8,
         place: usize,
     }
 
-    HeaderAnswer {
+    HeaderAnswer: 24 {
         refusal: Refusal,
         kind: u8,
     }
 
-    RecordAnswer {
+    RecordAnswer: 48 {
         refusal: Refusal,
         next: usize,
         group: u32,
@@ -33,38 +35,38 @@ records! {
         is_pair: u8,
     }
 
-    ReadAnswer {
+    ReadAnswer: 32 {
         refusal: Refusal,
         count: usize,
         kind: u8,
     }
 
-    Hello {
+    Hello: 12 {
         holdtime: u16,
         has_priority: u8,
         priority: u32,
         packing: u8,
     }
 
-    HelloAnswer {
+    HelloAnswer: 32 {
         refusal: Refusal,
         hello: Hello,
     }
 
-    PackAnswer {
+    PackAnswer: 32 {
         refusal: Refusal,
         length: usize,
         taken: usize,
     }
 
-    ChoiceAnswer {
+    ChoiceAnswer: 40 {
         refusal: Refusal,
         length: usize,
         taken: usize,
         aggregated: u8,
     }
 
-    Neighbour {
+    Neighbour: 12 {
         address: u32,
         priority: u32,
         has_priority: u8,
@@ -72,33 +74,33 @@ records! {
         holdtime: u16,
     }
 
-    Table {
+    Table: 200 {
         rows: [Neighbour; 16],
         count: usize,
     }
 
-    TableAnswer {
+    TableAnswer: 224 {
         refusal: Refusal,
         table: Table,
         done: u8,
     }
 
-    AllowedAnswer {
+    AllowedAnswer: 24 {
         refusal: Refusal,
         allowed: u8,
     }
 
-    ElectAnswer {
+    ElectAnswer: 24 {
         refusal: Refusal,
         address: u32,
     }
 
-    Totals {
+    Totals: 16 {
         messages: u64,
         records: u64,
     }
 
-    ByKind {
+    ByKind: 96 {
         hello: Totals,
         assert: Totals,
         simple: Totals,
@@ -107,12 +109,12 @@ records! {
         register_stop: Totals,
     }
 
-    Counters {
+    Counters: 192 {
         sent: ByKind,
         received: ByKind,
     }
 
-    PopcountValues {
+    PopcountValues: 16 {
         transit: u32,
         stub: u32,
         minimum_speed: u16,
@@ -123,7 +125,7 @@ records! {
         time_zone: u8,
     }
 
-    PopcountAttribute {
+    PopcountAttribute: 24 {
         e: u8,
         mtu: u16,
         flags: u16,
@@ -131,13 +133,13 @@ records! {
         values: PopcountValues,
     }
 
-    PopcountReadAnswer {
+    PopcountReadAnswer: 48 {
         refusal: Refusal,
         next: usize,
         attribute: PopcountAttribute,
     }
 
-    PopcountOwn {
+    PopcountOwn: 16 {
         mtu: u16,
         flags: u16,
         transit: u32,
@@ -146,23 +148,23 @@ records! {
         maximum_speed: u16,
     }
 
-    LengthAnswer {
+    LengthAnswer: 24 {
         refusal: Refusal,
         length: usize,
     }
 
-    SheetCounts {
+    SheetCounts: 24 {
         asserts: usize,
         pairs: usize,
         neighbours: usize,
     }
 
-    CheckAnswer {
+    CheckAnswer: 40 {
         refusal: Refusal,
         counts: SheetCounts,
     }
 
-    SheetAnswer {
+    SheetAnswer: 240 {
         refusal: Refusal,
         counts: SheetCounts,
         table: Table,
