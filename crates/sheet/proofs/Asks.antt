@@ -5,9 +5,9 @@
 --     storable-limits                       what that says of lengths
 --     listed-fine, listed-bad, seven-fine, seven-not     7: every entry of a list is allowed
 --     due-10, due-14, due-8, due-7, due-7-pairs, due-fine     what writing asks, test by test
---     due-gives                             what an answer that wrote says of it
---     stored-answer, stored-buffer, stored-nothing     the answer, and the buffer where it wrote and where it refused
---     Filling, filling, filled              what the contents that are stored have, and a sheet written part by part
+--     due-gives, due-refuses                what the answer says
+--     filled                                a sheet written part by part
+--     stored-gives, stored-refuses          the answer and the buffer
 -- Assumes nothing.
 use Prim.Native.Nat.{ℕ, _+_, _*_, _/_, _%_, _≤_, _<_}
 use native.Mathlib.Omega.{arith}
