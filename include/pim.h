@@ -10,7 +10,7 @@
  * on Linux. Of other libraries it needs the C library's memory functions alone (memcpy and such).
  *
  * Lent memory is a pointer and a length, and a call keeps no pointer after it returns. The length counts octets; that
- * of a list of rows counts rows.
+ * of a list of rows counts rows. Counters are lent by a pointer alone, to one record, never NULL.
  * - A pointer lent with length 0 may be NULL: nothing is read or written through it. Any other pointer is not NULL.
  * - Octets need no alignment. Rows and counters are aligned as C aligns them.
  * - Memory that a call only reads (const) may be the same as, or overlap, other memory that it only reads. Memory that
@@ -18,9 +18,9 @@
  * - Calls share nothing and keep nothing. Any calls may run at the same time in threads, as long as none writes memory
  *   that is lent to another.
  *
- * Records go by value; each has its size beside it. Compare them field by field: octets between fields are not set. A
- * bool in a record, or passed by itself, must be 0 or 1, as C's conversions make it. No call refuses another one, and
- * with it nothing is promised.
+ * All other records go by value; each has its size beside it. Compare them field by field: octets between fields are
+ * not set. A bool in a record, or passed by itself, must be 0 or 1, as C's conversions make it. No call refuses another
+ * one, and with it nothing is promised.
  *
  * Numbers in messages, entries and sheets are big-endian; numbers in records are plain numbers of this machine.
  * Addresses are IPv4, 10.0.0.1 being 0x0a000001.
@@ -129,7 +129,7 @@ typedef struct {
 /* The kind of the message of n octets at m. Refuses 1, 2, 3, 4 at place 0. */
 pim_header_answer pim_header(const uint8_t *m, size_t n);
 
-/* How many octets the body has that begins at m + PIM_HEADER_SIZE: n - 4, or 0 where pim_header refuses. */
+/* How many octets the body has that begins at m + PIM_HEADER_SIZE: all that follow, or 0 where pim_header refuses. */
 size_t pim_body(const uint8_t *m, size_t n);
 
 /* The R bit, above the 31 bits of metric preference. */
@@ -289,8 +289,9 @@ typedef struct {
 /* Elects among the neighbours and our own router, which has an address and a priority. Refuses 14, 7 at 0. */
 pim_elect_answer pim_elect(pim_table table, uint32_t address, uint32_t priority);
 
-/* Elects among lent rows, of any number, without our own router. `count` counts rows. Of a row only the address is
- * tested; packs and holdtime are not looked at, and priorities count where every row has one.
+/* Elects among lent rows, of any number, without our own router. `count` counts rows. Where has_priority is false in
+ * any row, the highest address is elected and no priority counts; else the highest priority, then address. Only
+ * addresses are tested; packs and holdtime are not looked at.
  * Refuses 12 (no row), 7 (an address is 0) at 0. */
 pim_elect_answer pim_elect_among(const pim_neighbour *rows, size_t count);
 
