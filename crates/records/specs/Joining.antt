@@ -5,7 +5,8 @@
 --     groupRecords              the group records for a run of one group
 --     aggregated                the aggregated record for a run
 --     joined                    the aggregated records for a list of entries
--- Nothing is sorted and nothing is left out: that joining is lossless and least is proved in proofs/.
+-- Nothing is sorted and nothing is left out: that joining is lossless and least is proved in proofs/. What the last sentence says of the records
+-- that are written is stated in NoSources.antt.
 -- Assumes nothing: these are definitions.
 use Prim.Native.Nat.{ℕ, _*_}
 use mathlib.Core.Bool.{Bool, true, _&&_, _||_, cond}

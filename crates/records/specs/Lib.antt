@@ -3,5 +3,6 @@ pub mod Records
 pub mod Runs
 pub mod Joining
 pub mod Sizes
+pub mod NoSources
 pub mod Most
 pub mod Train
