@@ -74,7 +74,7 @@ zeros-written w few short long = joined-written (Zeros few) w (λ g s ss. zeros 
 
 -- ---- addresses of 4 octets
 
--- of two lists one is empty and the other is not
+-- a list with a first element is not empty
 no-cons : {A : Type 0} {a : A} {l : List A} → a ∷ l ≡ [] → ⊥
 no-cons e = let never : _≡_ {A = ℕ} 0 1 = cc in omega arith
 
