@@ -1,45 +1,72 @@
 -- Every row of the table of marked examples holds of the definitions.
---     no-message       calls on an empty list write nothing, at every allowed limit and with any buffers
---     marked-right     01's starred examples
+--     allowed-read         01's limits are those that calls read
+--     comes-to-nothing     calls for the empty list, at every allowed limit and with any buffers
+--     marked-right         01's starred examples
 -- Assumes nothing.
-use Prim.Native.Nat.{ℕ}
-use mathlib.Core.Bool.{Bool, true, false, cond}
-use mathlib.Core.Path.{_≡_, refl}
+use Prim.Native.Nat.{ℕ, _≤_, _<_}
+use native.Mathlib.Omega.{arith}
+use native.Mathlib.Decide.{decLe}
+use mathlib.Core.Bool.{true}
+use mathlib.Core.Path.{_≡_, refl, ap, _∙_}
 use mathlib.Core.List.{List, [], _∷_}
+use borrow.Author.Tests.{le-leb, ne-eqb}
 use lib.ListN.{length}
-use lib.Dec.{ltb}
+use Rattle.octets.proofs.Laws.{put-nil}
 use Rattle.records.specs.Every.{Every}
-use Rattle.format.specs.Outcome
-use Rattle.format.specs.Outcome.{gives, refuses, refuseIf}
-use Rattle.format.specs.Entry.{count, whole, entriesOf, entriesAt}
 use Rattle.records.specs.Most.{most}
+use Rattle.format.specs.Outcome.{gives, refuses}
 use Rattle.format.specs.Family.{ipv4}
-use Rattle.format.specs.Packing.{octetsOf, tookOf, simple, aggregated, readLimit, packing, asked, firstBad, packDue, pack, taken, written, wrote}
+use Rattle.format.specs.Entry.{Entries, count, whole, entriesOf, entriesAt}
+use Rattle.format.specs.Packing.{Form, plain, simple, aggregated, nullRegister, registerStop, usualLimit, leastLimit, readLimit, firstBad, pack, taken, wrote, packing}
 use Rattle.format.specs.Train.{takenBy, messageOf, calls, messagesOf}
+use Rattle.format.proofs.Calls.{packing-gives, packing-short}
 use Rattle.cases.specs.Computed.{computed}
-use Rattle.cases.specs.Marked.{AssertForm, Right, marked, flows, shared, ranked, unranked}
+use Rattle.cases.specs.Marked.{Allowed, usual, told, Nothing, Right, marked, flows, shared, ranked, unranked}
 
--- a call at the end of the list is refused with 8, or takes 0 and writes nothing
-at-end : (F : AssertForm) → F .atMost 0 ≡ 0 → (limit l : ℕ) → readLimit ipv4 limit ≡ gives l → (d : List ℕ)
-    → packing F [] 0 limit d .answer ≡ cond (ltb (length d) l) (refuses 8 0) (gives (wrote 0 0))
-unfolding packing asked Outcome._>>=_ Outcome._>>_ refuseIf count whole entriesOf entriesAt firstBad packDue pack octetsOf tookOf taken most written
-at-end F none limit l e d = go (ltb (length d) l) refl
-  where
-    go : (b : Bool) → ltb (length d) l ≡ b → packing F [] 0 limit d .answer ≡ cond (ltb (length d) l) (refuses 8 0) (gives (wrote 0 0))
-    go true t = rw (e, t)
-    go false t = rw (e, t, none)
+allowed-read : (limit l : ℕ) → Allowed limit l → readLimit ipv4 limit ≡ gives l
+unfolding readLimit usualLimit leastLimit
+allowed-read limit l usual = refl
+allowed-read limit l (told least greatest) = rw (ne-eqb limit 0 (λ z. omega arith), le-leb 38 limit least, le-leb limit 65515 greatest)
 
-no-message : (F : AssertForm) → F .atMost 0 ≡ 0 → (limit l : ℕ) → readLimit ipv4 limit ≡ gives l → (buffers : List (List ℕ))
-    → messagesOf (calls F [] limit 0 buffers) ≡ []
-unfolding messagesOf messageOf takenBy calls
-no-message F none limit l e [] = refl
-no-message F none limit l e (d ∷ ds) = go (ltb (length d) l) refl (no-message F none limit l e ds)
-  where
-    go : (b : Bool) → ltb (length d) l ≡ b → messagesOf (calls F [] limit 0 ds) ≡ [] → messagesOf (calls F [] limit 0 (d ∷ ds)) ≡ []
-    go true t rest = rw (at-end F none limit l e d, t) rest
-    go false t rest = rw (at-end F none limit l e d, t) rest
+-- of a kind of which a message of no entries takes none
+module _ {E : Entries} (F : Form E) (isWhole : whole E [] ≡ true) (noEntries : count E [] ≡ 0) (none : F .atMost 0 ≡ 0)
+    (limit l : ℕ) (read : readLimit (E .family) limit ≡ gives l) where
+  enough : (d : List ℕ) → l ≤ length d → packing F [] 0 limit d ≡ record { answer = gives (wrote 0 0); buffer = d }
+  unfolding entriesOf entriesAt firstBad pack taken most
+  enough d room =
+      packing-gives F [] 0 limit l d [] 0
+      (record { limitRead = read; enough = room; wholeList = isWhole; inside = omega arith; allowed = rw noEntries })
+      (rw (noEntries, none))
+      ∙ ap (λ (b : List ℕ). record { answer = gives (wrote 0 0); buffer = b }) (put-nil d 0)
+
+  less : (d : List ℕ) → length d < l → packing F [] 0 limit d ≡ record { answer = refuses 8 0; buffer = d }
+  less d short = packing-short F [] 0 limit l d read short
+
+  no-message : (buffers : List (List ℕ)) → messagesOf (calls F [] limit 0 buffers) ≡ []
+  unfolding messagesOf messageOf takenBy calls
+  no-message [] = refl
+  no-message (d ∷ ds) = go (decLe l (length d)) (no-message ds)
+    where
+      go : Dec (l ≤ length d) → messagesOf (calls F [] limit 0 ds) ≡ [] → messagesOf (calls F [] limit 0 (d ∷ ds)) ≡ []
+      go (yes room) rest = rw (enough d room) rest
+      go (no short) rest = rw (less d (omega arith)) rest
+
+comes-to-nothing : {E : Entries} (F : Form E) → whole E [] ≡ true → count E [] ≡ 0 → F .atMost 0 ≡ 0
+    → ((limit l : ℕ) → Allowed limit l → readLimit (E .family) limit ≡ gives l) → (limit l : ℕ) → Allowed limit l → Nothing F limit l
+comes-to-nothing F isWhole noEntries none reads limit l a =
+    let read = reads limit l a in
+    record {
+      enough = enough F isWhole noEntries none limit l read;
+      less = less F isWhole noEntries none limit l read;
+      noMessage = no-message F isWhole noEntries none limit l read;
+    }
 
 pub marked-right : Every Right marked
 unfolding computed Every Right marked flows shared ranked unranked
 marked-right =
-    (refl, (refl, (refl, (refl, (refl, (refl, (refl, (refl, (refl, (refl, (refl, (refl, (refl, (refl, (refl, (refl, (refl, (refl, (no-message (simple ipv4) refl, (no-message (aggregated ipv4) refl, tt))))))))))))))))))))
+    let p = comes-to-nothing (plain ipv4) refl refl refl allowed-read in
+    let s = comes-to-nothing (simple ipv4) refl refl refl allowed-read in
+    let a = comes-to-nothing (aggregated ipv4) refl refl refl allowed-read in
+    let n = comes-to-nothing (nullRegister ipv4) refl refl refl allowed-read in
+    let r = comes-to-nothing (registerStop ipv4) refl refl refl allowed-read in
+    (refl, (refl, (refl, (refl, (refl, (refl, (refl, (refl, (refl, (refl, (refl, (refl, (refl, (refl, (refl, (refl, (refl, (refl, (p, (s, (a, (n, (r, tt)))))))))))))))))))))))

@@ -1,9 +1,10 @@
 -- The examples that 01 stars ("Examples he marks"), as one table.
---     Row         what an example says
---     marked      the table, in 01's order
---     Right       what it is for a row to hold of the definitions
+--     Allowed, Nothing     "any allowed limit", and what calls for the empty list come to
+--     Row                  what an example says
+--     Right                what it is for a row to hold of the definitions
+--     marked               the table, in 01's order
 -- That every row is right is one theorem, in proofs/Marked.antt. Assumes nothing: these are definitions.
-use Prim.Native.Nat.{ℕ, zero, suc, _+_}
+use Prim.Native.Nat.{ℕ, zero, suc, _+_, _≤_, _<_}
 use mathlib.Core.Path.{_≡_}
 use mathlib.Core.Bool.{true, false}
 use mathlib.Core.List.{List, [], _∷_, map}
@@ -12,9 +13,9 @@ use Rattle.octets.specs.Octets.{be}
 use Rattle.records.specs.Records.{AssertRecord, assert}
 use Rattle.format.specs.Outcome.{Outcome, gives, refuses}
 use Rattle.format.specs.Family.{ipv4}
-use Rattle.format.specs.Entry.{assertEntries, entriesOctets}
+use Rattle.format.specs.Entry.{Entries, assertEntries, entriesOctets}
 use Rattle.format.specs.Unpacking.{Unpacked, unpacked, unpackAsserts}
-use Rattle.format.specs.Packing.{Form, simple, aggregated, Wrote, wrote, packing, readLimit}
+use Rattle.format.specs.Packing.{Form, plain, simple, aggregated, nullRegister, registerStop, Wrote, wrote, packing}
 use Rattle.format.specs.Train.{calls, messagesOf, train}
 use Rattle.format.specs.declared.Kind.the-variants.{Simple}
 use Rattle.neighbours.specs.Rows.{tableOf}
@@ -24,7 +25,23 @@ use Rattle.neighbours.specs.declared.Neighbour.{Neighbour}
 abbrev pub AssertForm : Type 0
 AssertForm = Form (assertEntries ipv4)
 
-pub data Row : Type 0 where
+-- ---- what a row says
+
+-- "Limits run from 38 to 65,515; limit 0 is read as 1,480": a limit, and the octets it allows
+pub data Allowed : ℕ → ℕ → Type 0 where
+  usual : Allowed 0 1480
+  told : {limit : ℕ} → 38 ≤ limit → limit ≤ 65515 → Allowed limit limit
+
+-- calls for the empty list at a limit of l octets
+pub record Nothing {E : Entries} (F : Form E) (limit l : ℕ) : Type 0 where
+  -- with a buffer of the limit's size or more: length 0, taken 0, and nothing is refused or written
+  pub enough : (d : List ℕ) → l ≤ length d → packing F [] 0 limit d ≡ record { answer = gives (wrote 0 0); buffer = d }
+  -- with a smaller one: 8, and nothing is written
+  pub less : (d : List ℕ) → length d < l → packing F [] 0 limit d ≡ record { answer = refuses 8 0; buffer = d }
+  -- so no message, whatever buffers calls are lent
+  pub noMessage : (buffers : List (List ℕ)) → messagesOf (calls F [] limit 0 buffers) ≡ []
+
+pub data Row : Type 1 where
   -- these octets, read as asserts, unpack to this
   reads : List ℕ → Outcome (Unpacked AssertRecord) → Row
   -- a packing call for entries from a start at a limit, with a buffer of that size, answers this
@@ -35,8 +52,8 @@ pub data Row : Type 0 where
   isMessage : AssertForm → List AssertRecord → ℕ → List ℕ → Row
   -- over the table of these rows and our own router, of an address and a priority, this address is elected
   elects : List Neighbour → ℕ → ℕ → ℕ → Row
-  -- at every allowed limit, with any buffers, calls for entries write no message
-  noMessage : AssertForm → List AssertRecord → Row
+  -- calls for the empty list of a kind of entries, at any allowed limit, come to nothing
+  nothing : {E : Entries} → Form E → Row
 
 unfoldable pub Right : Row → Type 0
 Right (reads o u) = unpackAsserts ipv4 o ≡ u
@@ -45,9 +62,7 @@ Right (packs F es start limit a) =
 Right (lengths F es limit ls) = map (λ (m : List ℕ). length m) (train F (entriesOctets (assertEntries ipv4) es) limit) ≡ ls
 Right (isMessage F es limit m) = train F (entriesOctets (assertEntries ipv4) es) limit ≡ m ∷ []
 Right (elects l ours priority a) = electing (tableOf l) ours priority ≡ gives a
-Right (noMessage F es) =
-    (limit l : ℕ) → readLimit ipv4 limit ≡ gives l → (buffers : List (List ℕ))
-    → messagesOf (calls F (entriesOctets (assertEntries ipv4) es) limit 0 buffers) ≡ []
+Right (nothing F) = (limit l : ℕ) → Allowed limit l → Nothing F limit l
 
 -- ---- the entries of the examples
 
@@ -101,6 +116,9 @@ marked =
     ∷ elects (ranked 0x0a00_0003 9 ∷ unranked 0x0a00_0002 ∷ []) 0x0a00_0001 5 0x0a00_0003
     ∷ elects (ranked 0x0a00_0003 5 ∷ unranked 0x0a00_0001 ∷ []) 0x0a00_0002 9 0x0a00_0003
     -- 8. "Empty list, any allowed limit: no message"
-    ∷ noMessage (simple ipv4) []
-    ∷ noMessage (aggregated ipv4) []
+    ∷ nothing (plain ipv4)
+    ∷ nothing (simple ipv4)
+    ∷ nothing (aggregated ipv4)
+    ∷ nothing (nullRegister ipv4)
+    ∷ nothing (registerStop ipv4)
     ∷ []
