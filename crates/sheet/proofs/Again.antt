@@ -1,11 +1,11 @@
--- A sheet that passes the check, read and written again, gives the same octets.
---     at-part, part-from        octets of a sheet from a place on
---     Checks, checked           what the check asked of a sheet
---     Header, header-parts      and of its header
---     sheet-again               the sheet of its contents is the sheet
---     again                     so writing them gives it back
---     read-writes-back          for 01's sheet
---     sizes                     the parts of a sheet that passes the check lie in it
+-- The contents of a sheet that passes the check: their sheet is that sheet. What this says of calls is in RoundTrip.antt.
+--     at-part, part-from           octets of a sheet from a place on
+--     Checks, checked              what the check asked of a sheet
+--     Header, header-parts         and of its header
+--     asserts-long, pairs-long     the lists have as many entries as the header says
+--     sheet-again                  the sheet of its contents is the sheet
+--     writes-again, short-again    so writing asks for these octets, or refuses with 8
+--     sizes                        the parts of a sheet that passes the check lie in it
 -- Assumes nothing.
 use Prim.Native.Nat.{ℕ, _+_, _*_, _/_, _%_, _≤_, _<_}
 use native.Mathlib.Nat.{mul-div-right, mul-mod-right}
@@ -13,13 +13,12 @@ use native.Mathlib.Omega.{arith}
 use mathlib.Core.Path.{_≡_, refl, sym, ap, subst, _∙_}
 use mathlib.Core.Bool.{true}
 use mathlib.Core.List.{List, [], _++_, append-assoc, append-nil}
-use borrow.Author.Tests.{not-false, eqb-true, ltb-false, le-ltb, eq-eqb}
-use lib.Dec.{lit<, lit≤}
+use borrow.Author.Tests.{not-false, eqb-true, ltb-false, lt-ltb, le-ltb, eq-eqb}
 use lib.ListN.{length, take, drop, length-drop, take-append-drop}
 use lib.Seq.{length-take-le, drop-drop, drop-length}
 use Rattle.octets.specs.Octets.{Octets}
 use Rattle.format.specs.Outcome
-use Rattle.format.specs.Outcome.{Outcome, gives, refuseIf}
+use Rattle.format.specs.Outcome.{Outcome, gives, refuses, refuseIf}
 use Rattle.format.specs.Family.{Family, ipv4}
 use Rattle.format.specs.Entry.{Entries, count, whole, entriesOf}
 use Rattle.format.specs.Packing.{firstBad}
@@ -116,6 +115,7 @@ module _ (L : Layout) (f : Family) (o : List ℕ) (c : Counts) (h : Header L f o
 
 -- n entries that stand in a sheet are a whole list of n allowed ones
 record Listed (E : Entries) (e : List ℕ) (n : ℕ) : Type 0 where
+  long : length e ≡ E .size * n
   isWhole : whole E e ≡ true
   many : count E e ≡ n
   fine : firstBad (E .allowed) 0 (entriesOf E e) ≡ gives tt
@@ -128,6 +128,7 @@ listed E loc some o at n h g =
     let long : length e ≡ E .size * n = length-take-le (E .size * n) (drop at o) (simp length-drop (omega arith)) in
     let many : length e / E .size ≡ n = rw long (mul-div-right n some) in
     record {
+      long = long;
       isWhole = eq-eqb (length e % E .size) 0 (rw long (mul-mod-right (E .size) n));
       many = many;
       fine = rw many (every-allowed (E .allowed) 0 _ (check-every E loc e (at-part o at (E .size * n) h) n 0 (omega arith) (omega arith) g));
@@ -155,6 +156,12 @@ module _ (L : Layout) (f : Family) (some : 0 < f .width) (few : L .rowLimit ≤ 
   pairs-listed : Listed (pairsIn f) (these .pairs) (c .pairs)
   unfolding contentsAt rowsFrom
   pairs-listed = listed (pairsIn f) (pairs-local f) (omega arith) o (pairsFrom L f c) (c .pairs) (omega (arith, fits)) (checks .pairs)
+
+  pub asserts-long : length (these .asserts) ≡ assertsIn f .size * c .asserts
+  asserts-long = asserts-listed .long
+
+  pub pairs-long : length (these .pairs) ≡ pairsIn f .size * c .pairs
+  pairs-long = pairs-listed .long
 
   few-rows : length (these .rows) ≤ most
   unfolding contentsAt
@@ -202,9 +209,10 @@ module _ (L : Layout) (f : Family) (some : 0 < f .width) (few : L .rowLimit ≤ 
       let p = pairs-listed in
       rw (a .isWhole, p .isWhole, counts-again, header .allowed, table-valid, sheet-again, le-ltb room (length o) h, a .fine, p .fine)
 
-pub read-writes-back : (o : List ℕ) → Octets o → (c : Counts) → checking base ipv4 o ≡ gives c → (room : ℕ) → length o ≤ room
-    → asked base ipv4 (contentsAt base ipv4 o c .asserts) (contentsAt base ipv4 o c .pairs) (tableOf (contentsAt base ipv4 o c .rows)) room ≡ gives o
-read-writes-back o octets c e room h = writes-again base ipv4 (lit< tt) (lit≤ tt) o octets c (checked base ipv4 o c e) room h
+  pub short-again : (room : ℕ) → room < length o → asked L f (these .asserts) (these .pairs) (tableOf (these .rows)) room ≡ refuses 8 0
+  unfolding asked atZero refuseIf Outcome._>>_
+  short-again room h =
+      rw (asserts-listed .isWhole, pairs-listed .isWhole, counts-again, header .allowed, table-valid, sheet-again, lt-ltb room (length o) h)
 
 -- ---- for code: the parts of a sheet that passes the check lie in it
 

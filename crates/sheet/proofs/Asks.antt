@@ -1,20 +1,21 @@
 -- Writing a sheet, by the tests that code makes.
 --     length-sheet, used-few                the octets of a sheet, by its parts; rows in use
 --     whole-not, whole-both                 10: both lists are whole
---     storable-asserts, storable-pairs, storable-rest     14: no count is over its limit, and the table is valid
+--     Storable, storable-asserts, storable-pairs, storable-rest     14: no count is over its limit, and the table is valid
 --     storable-limits                       what that says of lengths
---     listed-fine, listed-bad, seven-fine, seven-not     7: every entry of a list is allowed
+--     listed-fine, listed-bad, seven-not, seven-fine     7: every entry of a list is allowed
 --     due-10, due-14, due-8, due-7, due-7-pairs, due-fine     what writing asks, test by test
---     due-gives, due-refuses                what the answer says
+--     due-gives                             an answer of a length says that the octets are those of the sheet
+--     stored-answer, stored-buffer, stored-nothing     the answer and the buffer are those of the call
+--     counted, Filling, filling             the counts as code has them, and what filling a buffer asks
 --     filled                                a sheet written part by part
---     stored-gives, stored-refuses          the answer and the buffer
 -- Assumes nothing.
 use Prim.Native.Nat.{ℕ, _+_, _*_, _/_, _%_, _≤_, _<_}
 use native.Mathlib.Omega.{arith}
 use mathlib.Core.Path.{_≡_, refl, sym, ap, _∙_}
 use mathlib.Core.Bool.{Bool, true, false, not, cond, _&&_}
 use mathlib.Core.List.{List, _++_}
-use borrow.Author.Tests.{not-true, not-false, lt-leb, le-leb, lt-ltb, le-ltb, leb-true, ltb-false, eqb-true, eq-eqb, ne-eqb}
+use borrow.Author.Tests.{not-true, not-false, lt-leb, le-leb, lt-ltb, le-ltb, leb-true, eqb-true, eq-eqb, ne-eqb}
 use lib.Dec.{eqb, leb}
 use lib.ListN.{length, take, drop, length-append, length-take}
 use lib.Seq.{take-length}
@@ -22,12 +23,12 @@ use Rattle.octets.specs.Octets.{put}
 use Rattle.octets.proofs.Laws.{put-next}
 use Rattle.format.specs.Outcome
 use Rattle.format.specs.Outcome.{Outcome, gives, refuses, refuseIf}
-use Rattle.format.specs.Family.{Family, ipv4}
+use Rattle.format.specs.Family.{ipv4}
 use Rattle.format.specs.Entry.{Entries, count, whole, entriesOf}
 use Rattle.format.specs.Packing.{firstBad}
 use Rattle.format.specs.Record.{each}
 use Rattle.format.specs.declared.Refusal.{Refusal}
-use Rattle.format.proofs.Outcomes.{no-refusal, then-gives, unless-gives}
+use Rattle.format.proofs.Outcomes.{no-refusal}
 use Rattle.packing.specs.Answers.{listedBy}
 use Rattle.packing.specs.declared.entry.Listed.{Listed}
 use Rattle.packing.specs.declared.entry.Listed.the-variants.{Allowed, Bad}
@@ -35,7 +36,7 @@ use Rattle.neighbours.specs.Rows.{most, used, valid}
 use Rattle.neighbours.specs.declared.Table.{Table}
 use Rattle.neighbours.proofs.Rows.{used-long}
 use Rattle.neighbours.proofs.Tables.{and-true, valid-parts}
-use Rattle.sections.specs.Layout.{Layout, base, assertsIn, pairsIn, headerOctets}
+use Rattle.sections.specs.Layout.{base, assertsIn, pairsIn, headerOctets}
 use Rattle.sections.specs.Contents.{rowOctets, countsOf, sheetOctets}
 use Rattle.sections.specs.Checking.{countsAllowed}
 use Rattle.sections.specs.declared.Counts.{Counts}
@@ -43,7 +44,7 @@ use Rattle.sheet.specs.Calls.{contentsOf, atZero, asked, lengthOf, store
 use Rattle.sheet.specs.declared.Stored.{Stored}
 use Rattle.sheet.specs.declared.Stored.the-variants.{Wrote, Refused}
 use Rattle.sheet.proofs.Rows.{length-rows}
-use Rattle.sheet.proofs.Written.{accepted, length-header}
+use Rattle.sheet.proofs.Written.{accepted, asked-is, length-header}
 
 pub length-sheet : (ea ep : List ℕ) (t : Table) {n : ℕ} → length (used t) ≡ n
     → length (sheetOctets base ipv4 (contentsOf ea ep t)) ≡ 12 + length ea + length ep + 12 * n
@@ -143,17 +144,6 @@ module _ (ea ep : List ℕ) (t : Table) (room : ℕ) where
           pub due-fine : atZero (firstBad (pairsIn ipv4 .allowed) 0 (entriesOf (pairsIn ipv4) ep)) ≡ gives tt → Due ≡ gives n
           unfolding asked lengthOf refuseIf Outcome._>>_
           due-fine e = rw (w, s, long, le-ltb room n enough, fine, e) (ap gives long)
-
-asked-is : (L : Layout) (f : Family) (ea ep : List ℕ) (t : Table) (room : ℕ) (o : List ℕ) → asked L f ea ep t room ≡ gives o
-    → (asked L f ea ep t room ≡ gives (sheetOctets L f (contentsOf ea ep t))) × (length (sheetOctets L f (contentsOf ea ep t)) ≤ room)
-unfolding asked
-asked-is L f ea ep t room o e =
-    unless-gives _ 10 0 _ o e (λ a e1.
-    unless-gives _ 14 0 _ o e1 (λ b e2.
-    unless-gives _ 8 0 _ o e2 (λ c e3.
-    then-gives (atZero (firstBad (assertsIn f .allowed) 0 (entriesOf (assertsIn f) ea))) _ o e3 (λ u x e4.
-    then-gives (atZero (firstBad (pairsIn f .allowed) 0 (entriesOf (pairsIn f) ep))) _ o e4 (λ v y e5.
-    (e ∙ sym e5, ltb-false room (length (sheetOctets L f (contentsOf ea ep t))) c))))))
 
 module _ (ea ep : List ℕ) (t : Table) (d : List ℕ) (x : Stored) (said : storedBy x ≡ lengthOf (asked base ipv4 ea ep t (length d))) where
   -- what the answer says

@@ -1,61 +1,47 @@
--- A sheet as it is written: it passes the check, it reads back, and no two contents have one sheet.
---     base-roomy                the fields of 01's header hold every count and offset
---     Accepted, accepted        what writing asked of contents that it accepts
---     length-header, Offsets    the length of a header, and its offsets
---     header-checks             a header that stands at the start of a sheet of its length passes the check
---     written-checks            a sheet that was written passes the check, with the counts of its contents
---     written-contents          and holds them
---     written-reads-back        so reading it gives the two lists and the table
---     sheets-differ             two contents of one sheet are the same
---     something-holds, something-held     the conditions can be met
+-- The sheet of contents that writing accepts: it passes the check, it reads back, and no two contents have one sheet. What this says of calls
+-- is in RoundTrip.antt.
+--     Accepted, accepted, asked-is        what writing asked of contents that it accepts, and the octets it writes
+--     length-header, Offsets              the length of a header, and its offsets
+--     header-checks                       a header that stands at the start of a sheet of its length passes the check
+--     written-checks                      the sheet passes the check, with the counts of its contents
+--     written-contents                    and holds them
+--     written-reads-back, written-short   so reading it gives the two lists and the table, or 8
+--     sheets-differ                       two contents of one sheet are the same
 -- Assumes nothing.
 use Prim.Native.Nat.{ℕ, _+_, _*_, _%_, _^_, _≤_, _<_}
 use native.Mathlib.Nat.{div-add-mod, zero-add}
 use native.Mathlib.Omega.{arith}
+use native.Mathlib.Decide.{decLe}
 use mathlib.Core.Path.{_≡_, refl, sym, ap, _∙_}
 use mathlib.Core.Bool.{true, false}
 use mathlib.Core.List.{List, [], _∷_, _++_}
-use borrow.Author.Tests.{not-false, eqb-true, le-ltb, eq-eqb}
-use lib.Dec.{lit<}
+use borrow.Author.Tests.{not-false, eqb-true, ltb-false, lt-ltb, le-ltb, eq-eqb}
 use lib.ListN.{length, take, drop, length-append}
-use Rattle.octets.specs.Octets.{numberAt, value, be, put}
+use Rattle.octets.specs.Octets.{numberAt, be, put}
 use Rattle.octets.proofs.Laws.{length-be}
 use Rattle.records.specs.Every.{Every}
 use Rattle.format.specs.Outcome
 use Rattle.format.specs.Outcome.{Outcome, gives, refuses, refuseIf, _>>=_, _>>_}
-use Rattle.format.specs.Family.{Family, ipv4, mayBeSource}
-use Rattle.format.specs.Entry.{Entries, count, whole, entriesOf, entriesAt, assertAt, pairAt, allowedAssert, allowedPair}
+use Rattle.format.specs.Family.{Family}
+use Rattle.format.specs.Entry.{Entries, count, whole, entriesOf}
 use Rattle.format.specs.Packing.{firstBad}
 use Rattle.format.specs.Record.{each}
 use Rattle.format.proofs.Outcomes.{no-refusal, gives-same, then-gives, unless-gives}
 use Rattle.format.proofs.Readers.{At, at-left, at-right, at-end}
 use Rattle.format.proofs.Calls.{allowed-every}
-use Rattle.format.proofs.Lengths.{number, _then_}
-use Rattle.neighbours.specs.Rows.{noRow, isZero, allZero, allowed, has, sheetRows, used, valid, tableOf}
+use Rattle.neighbours.specs.Rows.{allowed, has, used, valid, tableOf}
 use Rattle.neighbours.specs.declared.Neighbour.{Neighbour}
 use Rattle.neighbours.specs.declared.Table.{Table}
 use Rattle.neighbours.proofs.Tables.{and-true, valid-parts}
 use Rattle.neighbours.proofs.Changes.{valid-table}
-use Rattle.sections.specs.Layout.{Layout, base, assertsIn, pairsIn, rowSize, headerSize, pairsFrom, rowsFrom, end, headerOctets}
+use Rattle.sections.specs.Layout.{Layout, assertsIn, pairsIn, rowSize, headerSize, pairsFrom, rowsFrom, end, headerOctets}
 use Rattle.sections.specs.Contents.{Contents, rowOctets, countsOf, contentsAt, sheetOctets}
 use Rattle.sections.specs.Checking.{fault, countsIn, countsAllowed, offsetsAgree, checkHeader, checkEntries, checkRows, checking}
 use Rattle.sections.specs.declared.Counts.{Counts}
-use Rattle.sections.proofs.Header.{counts-within}
 use Rattle.sheet.specs.Calls.{contentsOf, atZero, asked, roomFor, delivered, reading}
-use Rattle.sheet.specs.Valid.{Roomy, Held, Holds}
+use Rattle.sheet.specs.Valid.{Roomy, Held}
 use Rattle.sheet.proofs.Places.{number-at, rest-at, asserts-local, pairs-local, check-fine}
 use Rattle.sheet.proofs.Rows.{length-rows, rows-at, check-rows}
-
--- ---- what fits
-
-pub base-roomy : Roomy base ipv4
-unfolding pairsFrom rowsFrom
-base-roomy = record {
-  asserts = λ c ok. omega (arith, counts-within base c ok);
-  pairs = λ c ok. omega (arith, counts-within base c ok);
-  neighbours = λ c ok. omega (arith, counts-within base c ok);
-  offsets = λ c ok. omega (arith, counts-within base c ok);
-}
 
 -- ---- what writing asked
 
@@ -90,6 +76,17 @@ accepted L f ea ep t room o e =
       assertsFine = at-zero-gives _ u x;
       pairsFine = at-zero-gives _ v y;
     })))))
+
+pub asked-is : (L : Layout) (f : Family) (ea ep : List ℕ) (t : Table) (room : ℕ) (o : List ℕ) → asked L f ea ep t room ≡ gives o
+    → (asked L f ea ep t room ≡ gives (sheetOctets L f (contentsOf ea ep t))) × (length (sheetOctets L f (contentsOf ea ep t)) ≤ room)
+unfolding asked
+asked-is L f ea ep t room o e =
+    unless-gives _ 10 0 _ o e (λ a e1.
+    unless-gives _ 14 0 _ o e1 (λ b e2.
+    unless-gives _ 8 0 _ o e2 (λ c e3.
+    then-gives (atZero (firstBad (assertsIn f .allowed) 0 (entriesOf (assertsIn f) ea))) _ o e3 (λ u x e4.
+    then-gives (atZero (firstBad (pairsIn f .allowed) 0 (entriesOf (pairsIn f) ep))) _ o e4 (λ v y e5.
+    (e ∙ sym e5, ltb-false room (length (sheetOctets L f (contentsOf ea ep t))) c))))))
 
 -- a whole list has the octets of its entries
 whole-is : (E : Entries) (e : List ℕ) → whole E e ≡ true → length e ≡ E .size * count E e
@@ -152,7 +149,7 @@ unfolding has Every
 every-nothing [] = tt
 every-nothing (n ∷ l) = (refl, every-nothing l)
 
-module _ (L : Layout) (f : Family) (roomy : Roomy L f) (ea ep : List ℕ) (t : Table) (holds : Holds L f ea ep t) (held : Held f t) where
+module _ (L : Layout) (f : Family) (roomy : Roomy L f) (ea ep : List ℕ) (t : Table) (was : Accepted L f ea ep t) (held : Held f t) where
   abbrev these : Contents
   these = contentsOf ea ep t
 
@@ -161,9 +158,6 @@ module _ (L : Layout) (f : Family) (roomy : Roomy L f) (ea ep : List ℕ) (t : T
 
   abbrev octets : List ℕ
   octets = sheetOctets L f (contentsOf ea ep t)
-
-  was : Accepted L f ea ep t
-  was = accepted L f ea ep t _ octets (holds .accepted)
 
   asserts-long : length ea ≡ assertsIn f .size * (counts .asserts)
   unfolding contentsOf countsOf
@@ -244,42 +238,31 @@ module _ (L : Layout) (f : Family) (roomy : Roomy L f) (ea ep : List ℕ) (t : T
   written-reads-back da dp ra rp =
       rw (written-checks, written-contents, le-ltb (length da) (length ea) ra, le-ltb (length dp) (length ep) rp) (written-delivered da dp)
 
+  -- and into others
+  pub written-short : (da dp : List ℕ) → ((length ea ≤ length da) × (length ep ≤ length dp) → ⊥)
+      → reading L f octets da dp ≡ record { answer = refuses 8 0; asserts = da; pairs = dp; table = tableOf [] }
+  unfolding reading roomFor delivered contentsOf refuseIf Outcome._>>=_ Outcome._>>_
+  written-short da dp less = go (decLe (length ea) (length da))
+    where
+      go : Dec (length ea ≤ length da) → reading L f octets da dp ≡ record { answer = refuses 8 0; asserts = da; pairs = dp; table = tableOf [] }
+      go (yes enough) =
+          let more : length ep ≤ length dp → ⊥ = λ k. less (enough, k) in
+          let short : length dp < length ep = omega arith in
+          rw (written-checks, written-contents, le-ltb (length da) (length ea) enough, lt-ltb (length dp) (length ep) short)
+      go (no short) = rw (written-checks, written-contents, lt-ltb (length da) (length ea) (omega arith))
+
 -- ---- two contents
 
-module _ (L : Layout) (f : Family) (roomy : Roomy L f) (ea ep : List ℕ) (t : Table) (holds : Holds L f ea ep t) (held : Held f t)
-    (ea′ ep′ : List ℕ) (t′ : Table) (holds′ : Holds L f ea′ ep′ t′) (held′ : Held f t′) where
+module _ (L : Layout) (f : Family) (roomy : Roomy L f) (ea ep : List ℕ) (t : Table) (was : Accepted L f ea ep t) (held : Held f t)
+    (ea′ ep′ : List ℕ) (t′ : Table) (was′ : Accepted L f ea′ ep′ t′) (held′ : Held f t′) where
   pub sheets-differ : sheetOctets L f (contentsOf ea ep t) ≡ sheetOctets L f (contentsOf ea′ ep′ t′) → (ea ≡ ea′) × (ep ≡ ep′) × (t ≡ t′)
   unfolding contentsOf
   sheets-differ e =
       let counts : countsOf f (contentsOf ea ep t) ≡ countsOf f (contentsOf ea′ ep′ t′) =
-      gives-same (sym (written-checks L f roomy ea ep t holds held) ∙ ap (checking L f) e ∙ written-checks L f roomy ea′ ep′ t′ holds′ held′) in
+      gives-same (sym (written-checks L f roomy ea ep t was held) ∙ ap (checking L f) e ∙ written-checks L f roomy ea′ ep′ t′ was′ held′) in
       let same : contentsOf ea ep t ≡ contentsOf ea′ ep′ t′ =
-      sym (written-contents L f roomy ea ep t holds held) ∙ (λ i. contentsAt L f (e i) (counts i)) ∙ written-contents L f roomy ea′ ep′ t′ holds′ held′ in (
+      sym (written-contents L f roomy ea ep t was held) ∙ (λ i. contentsAt L f (e i) (counts i)) ∙ written-contents L f roomy ea′ ep′ t′ was′ held′ in (
         ap (λ (c : Contents). c .asserts) same,
         ap (λ (c : Contents). c .pairs) same,
-        sym (same-table L f roomy ea ep t holds held) ∙ ap (λ (c : Contents). tableOf (c .rows)) same ∙ same-table L f roomy ea′ ep′ t′ holds′ held′,
+        sym (same-table L f roomy ea ep t was held) ∙ ap (λ (c : Contents). tableOf (c .rows)) same ∙ same-table L f roomy ea′ ep′ t′ was′ held′,
       )
-
--- ---- the conditions can be met
-
--- an assert, a pair with source 0 and a neighbour without priority
-abbrev some-assert : List ℕ
-some-assert = be 4 0xe801_0101 ++ (be 4 0x0a00_0001 ++ (be 4 110 ++ be 4 20))
-
-abbrev some-pair : List ℕ
-some-pair = be 4 0xe801_0101 ++ be 4 0
-
-abbrev some-row : Neighbour
-some-row = record { address = 0x0a00_0002; priority = 0; «has_priority» = false; packs = true; holdtime = 105 }
-
-pub something-holds : Holds base ipv4 some-assert some-pair (tableOf (some-row ∷ []))
-unfolding asked whole count countsAllowed countsOf contentsOf sheetOctets headerOctets pairsFrom rowsFrom rowOctets each be valid sheetRows allowed has allZero isZero noRow tableOf firstBad entriesOf entriesAt assertAt pairAt numberAt value allowedAssert allowedPair mayBeSource atZero refuseIf Outcome._>>_
-something-holds = record {
-  asserts = (number 4 0xe801_0101 then number 4 0x0a00_0001 then number 4 110 then number 4 20) .below;
-  pairs = (number 4 0xe801_0101 then number 4 0) .below;
-  accepted = refl;
-}
-
-pub something-held : Held ipv4 (tableOf (some-row ∷ []))
-unfolding tableOf Every
-something-held = record { full = refl; fits = (record { address = lit< tt; priority = lit< tt; holdtime = lit< tt }, tt) }

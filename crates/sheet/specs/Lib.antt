@@ -1,2 +1,3 @@
 pub mod Calls
 pub mod Valid
+pub mod RoundTrip

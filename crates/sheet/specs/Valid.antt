@@ -1,25 +1,19 @@
--- Contents that a sheet may hold, for the theorems: what writing accepts, and that numbers fit their fields.
+-- What the theorems on sheets ask beside a call's answer: that numbers fit their fields.
 --     Roomy            a layout whose fields hold every count and offset that it allows
 --     RowFits, Held    a row, and a table, as code can hold it
---     Holds            two entry lists and a table that writing refuses for no buffer but a short one
 -- Assumes nothing: these are definitions.
 use mathlib.Core.Path.{_≡_}
 use mathlib.Core.Bool.{true}
-use mathlib.Core.List.{List}
-use Prim.Native.Nat.{ℕ, _^_, _<_}
+use Prim.Native.Nat.{_^_, _<_}
 use lib.ListN.{length}
-use Rattle.octets.specs.Octets.{Octets}
 use Rattle.records.specs.Every.{Every}
-use Rattle.format.specs.Outcome.{gives}
 use Rattle.format.specs.Family.{Family}
 use Rattle.neighbours.specs.Rows.{most, used}
 use Rattle.neighbours.specs.declared.Neighbour.{Neighbour}
 use Rattle.neighbours.specs.declared.Table.{Table}
 use Rattle.sections.specs.Layout.{Layout, rowsFrom}
-use Rattle.sections.specs.Contents.{sheetOctets}
 use Rattle.sections.specs.Checking.{countsAllowed}
 use Rattle.sections.specs.declared.Counts.{Counts}
-use Rattle.sheet.specs.Calls.{contentsOf, asked}
 
 -- the last offset is the greatest
 pub record Roomy (L : Layout) (f : Family) : Type 0 where
@@ -37,8 +31,3 @@ pub record RowFits (f : Family) (n : Neighbour) : Type 0 where
 pub record Held (f : Family) (t : Table) : Type 0 where
   pub full : length (t .rows) ≡ most
   pub fits : Every (RowFits f) (used t)
-
-pub record Holds (L : Layout) (f : Family) (ea ep : List ℕ) (t : Table) : Type 0 where
-  pub asserts : Octets ea
-  pub pairs : Octets ep
-  pub accepted : asked L f ea ep t (length (sheetOctets L f (contentsOf ea ep t))) ≡ gives (sheetOctets L f (contentsOf ea ep t))
