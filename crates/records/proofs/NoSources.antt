@@ -12,7 +12,7 @@ use mathlib.Core.List.{List, [], _∷_, map}
 use lib.ListN.{length, replicate, length-replicate}
 use lib.Dec.{lit<, lit≤}
 use borrow.Author.Tests.{eqb-true}
-use Rattle.records.specs.Records.{AssertRecord, GroupRecord, ofGroup, AggregatedRecord, rBit}
+use Rattle.records.specs.Records.{AssertRecord, GroupRecord, ofGroup, rBit}
 use Rattle.records.specs.Runs.{Run, run, ofRun, runs}
 use Rattle.records.specs.Joining.{together, sameGroup, allZero, groupRecords, allGroupRecords, aggregated, joined}
 use Rattle.records.specs.NoSources.{OneZero, Zeros, Shorter, Groups, end, next, Written, source, rp}

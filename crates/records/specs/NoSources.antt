@@ -25,6 +25,7 @@ pub record OneZero (g : ℕ) (ss : List ℕ) (rs : List GroupRecord) : Type 0 wh
   -- every other is written with all its sources: p is the number of its entries
   pub all : (ss ≡ 0 ∷ [] → ⊥) → rs ≡ ofGroup g ss ∷ []
 
+-- With addresses of any width: how many zeros are few is what Shorter says, 1 with addresses of 4 octets.
 pub record Zeros (few g : ℕ) (ss : List ℕ) (rs : List GroupRecord) : Type 0 where
   -- z entries with source 0, few of them, are z group records with p=0
   pub none : (z : ℕ) → z ≤ few → ss ≡ replicate z 0 → rs ≡ replicate z (ofGroup g [])
