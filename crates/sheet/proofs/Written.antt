@@ -8,14 +8,14 @@
 --     written-reads-back, written-short   so reading it gives the two lists and the table, or 8
 --     sheets-differ                       two contents of one sheet are the same
 -- Assumes nothing.
-use Prim.Native.Nat.{ℕ, _+_, _*_, _%_, _^_, _≤_, _<_}
-use native.Mathlib.Nat.{div-add-mod, zero-add}
+use Prim.Native.Nat.{ℕ, _+_, _*_, _^_, _≤_, _<_}
+use native.Mathlib.Nat.{zero-add}
 use native.Mathlib.Omega.{arith}
 use native.Mathlib.Decide.{decLe}
 use mathlib.Core.Path.{_≡_, refl, sym, ap, _∙_}
 use mathlib.Core.Bool.{true, false}
 use mathlib.Core.List.{List, [], _∷_, _++_}
-use borrow.Author.Tests.{not-false, eqb-true, ltb-false, lt-ltb, le-ltb, eq-eqb}
+use borrow.Author.Tests.{not-false, ltb-false, lt-ltb, le-ltb, eq-eqb}
 use lib.ListN.{length, take, drop, length-append}
 use Rattle.octets.specs.Octets.{numberAt, be, put}
 use Rattle.octets.proofs.Laws.{length-be}
@@ -23,12 +23,13 @@ use Rattle.records.specs.Every.{Every}
 use Rattle.format.specs.Outcome
 use Rattle.format.specs.Outcome.{Outcome, gives, refuses, refuseIf, _>>=_, _>>_}
 use Rattle.format.specs.Family.{Family}
-use Rattle.format.specs.Entry.{Entries, count, whole, entriesOf}
+use Rattle.format.specs.Entry.{whole, entriesOf}
 use Rattle.format.specs.Packing.{firstBad}
 use Rattle.format.specs.Record.{each}
 use Rattle.format.proofs.Outcomes.{no-refusal, gives-same, then-gives, unless-gives}
 use Rattle.format.proofs.Readers.{At, at-left, at-right, at-end}
 use Rattle.format.proofs.Calls.{allowed-every}
+use Rattle.format.proofs.Faithful.{whole-long}
 use Rattle.neighbours.specs.Rows.{allowed, has, used, valid, tableOf}
 use Rattle.neighbours.specs.declared.Neighbour.{Neighbour}
 use Rattle.neighbours.specs.declared.Table.{Table}
@@ -87,11 +88,6 @@ asked-is L f ea ep t room o e =
     then-gives (atZero (firstBad (assertsIn f .allowed) 0 (entriesOf (assertsIn f) ea))) _ o e3 (λ u x e4.
     then-gives (atZero (firstBad (pairsIn f .allowed) 0 (entriesOf (pairsIn f) ep))) _ o e4 (λ v y e5.
     (e ∙ sym e5, ltb-false room (length (sheetOctets L f (contentsOf ea ep t))) c))))))
-
--- a whole list has the octets of its entries
-whole-is : (E : Entries) (e : List ℕ) → whole E e ≡ true → length e ≡ E .size * count E e
-unfolding whole count
-whole-is E e h = let none : length e % E .size ≡ 0 = eqb-true (length e % E .size) 0 h in omega (arith, div-add-mod (length e) (E .size))
 
 -- ---- the header
 
@@ -161,11 +157,11 @@ module _ (L : Layout) (f : Family) (roomy : Roomy L f) (ea ep : List ℕ) (t : T
 
   asserts-long : length ea ≡ assertsIn f .size * (counts .asserts)
   unfolding contentsOf countsOf
-  asserts-long = whole-is (assertsIn f) ea (was .asserts)
+  asserts-long = sym (whole-long (assertsIn f) ea (was .asserts))
 
   pairs-long : length ep ≡ pairsIn f .size * (counts .pairs)
   unfolding contentsOf countsOf
-  pairs-long = whole-is (pairsIn f) ep (was .pairs)
+  pairs-long = sym (whole-long (pairsIn f) ep (was .pairs))
 
   rows-long : length (each (rowOctets f) (used t)) ≡ rowSize f * (counts .neighbours)
   unfolding contentsOf countsOf
