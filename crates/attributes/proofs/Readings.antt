@@ -1,10 +1,9 @@
 -- What an attribute reads as, by the answers that the code got: laws over the readers of specs/Attribute.antt and specs/Answers.antt.
 --     refused                                a refusal as the code makes it
---     fieldBy, number-is, optional-is        a field and an option's value, as they were answered
---     optional-below                         an option's value fits its octets
+--     optional-got, optional-cut             an option's value, as it was answered
+--     optional-below                         it fits its octets
 --     then-got, then-bad                     a reader that goes on
 --     must-yes, must-no, must-bad            a field that has to pass a test
---     octets-short, octets-there             octets
 --     values-apart, values-short, values-on  the values: those of more than an octet, then the others
 --     has-f, other-type, pop-count           the first octet
 --     agrees-least, fields-read              a length that agrees has all the options, and what is past them is ignored
@@ -16,15 +15,14 @@ use native.Mathlib.Omega.{arith}
 use mathlib.Core.Path.{_≡_, refl, sym, ap, _∙_}
 use mathlib.Core.Bool.{Bool, true, false, cond}
 use mathlib.Core.List.{List}
-use borrow.Author.Tests.{le-leb, lt-leb, leb-true, eq-eqb, ne-eqb, eqb-true}
+use borrow.Author.Tests.{leb-true, eq-eqb, ne-eqb, eqb-true}
 use lib.Dec.{leb, eqb}
-use lib.ListN.{length, take, drop}
-use Rattle.octets.specs.Octets.{Octets, value}
-use Rattle.octets.specs.Field.{fieldAt}
+use Rattle.octets.specs.Octets.{Octets}
+use Rattle.octets.specs.Field.{fieldOf, placeOf}
 use Rattle.octets.specs.declared.Field.{Field}
 use Rattle.octets.specs.declared.Field.the-variants.{Got, Short}
-use Rattle.octets.proofs.Laws.{field-lt}
-use Rattle.format.specs.Reader.{Read, Reader, got, bad, continue, _>>=_, _>>_, give, octets, number, must, placed, handUp, inRecord}
+use Rattle.octets.proofs.Laws.{number-lt, read-got, read-cut}
+use Rattle.format.specs.Reader.{Read, Reader, got, bad, continue, _>>=_, give, number, must, placed, handUp, inRecord}
 use Rattle.attributes.specs.Options.{Option, bitOf, sizeOf, present, sizes, unallocated}
 use Rattle.attributes.specs.Attribute.{isPopCount, lengthAgrees, optional, values, attributeFields, attribute}
 use Rattle.attributes.specs.Answers.{readBy, valuesBy, hasBit, optionAt, wideValues, oneOctetValues, valuesAfter, fieldsAfter}
@@ -42,40 +40,21 @@ refused e = rw e
 
 -- ---- fields
 
--- what the answer of a field reader at a place says
-abbrev pub fieldBy : ℕ → Field → Read ℕ
-fieldBy at (Got v next) = got v next
-fieldBy at (Short p) = bad 6 at
+module _ (w : ℕ) (i : Option) (o : List ℕ) (at : ℕ) {f : Field} (e : fieldOf f ≡ optionAt (sizeOf i) w (bitOf i) o at) where
+  pub optional-got : {v n : ℕ} → f ≡ Got v n → optional w i o at ≡ got v n
+  unfolding optional present optionAt hasBit
+  optional-got g = read-got e g
 
-number-field : (k : ℕ) (o : List ℕ) (at : ℕ) → number k o at ≡ fieldBy at (fieldAt k o at)
-unfolding number octets fieldAt _>>=_ continue give
-number-field k o at = go (leb (at + k) (length o))
+  pub optional-cut : {p q : ℕ} → f ≡ Short p → q ≡ placeOf (fieldOf f) → optional w i o at ≡ bad 6 q
+  unfolding optional present optionAt hasBit
+  optional-cut g h = read-cut e g h
+
+pub optional-below : (k w bit : ℕ) (o : List ℕ) (at : ℕ) {v n : ℕ} → optionAt k w bit o at ≡ got v n → Octets o → v < 256 ^ k
+unfolding optionAt give
+optional-below k w bit o at {v} {n} e l = go (hasBit w bit) e
   where
-    go : (b : Bool) → continue (cond b (got (take k (drop at o)) (at + k)) (bad 6 at)) (λ x n. got (value x) n)
-        ≡ fieldBy at (cond b (Got (value (take k (drop at o))) (at + k)) (Short at))
-    go true = refl
-    go false = refl
-
-pub number-is : (k : ℕ) (o : List ℕ) (at : ℕ) {f g : Field} → f ≡ fieldAt k o at → f ≡ g → number k o at ≡ fieldBy at g
-number-is k o at e h = number-field k o at ∙ ap (fieldBy at) (sym e ∙ h)
-
-optional-field : (w : ℕ) (i : Option) (o : List ℕ) (at : ℕ) → optional w i o at ≡ fieldBy at (optionAt (sizeOf i) w (bitOf i) o at)
-unfolding optional present optionAt hasBit give
-optional-field w i o at = go (eqb (w / bitOf i % 2) 1)
-  where
-    go : (b : Bool) → cond b (number (sizeOf i)) (λ (o : List ℕ) (at : ℕ). got 0 at) o at ≡ fieldBy at (cond b (fieldAt (sizeOf i) o at) (Got 0 at))
-    go true = number-field (sizeOf i) o at
-    go false = refl
-
-pub optional-is : (w : ℕ) (i : Option) (o : List ℕ) (at : ℕ) {f g : Field} → f ≡ optionAt (sizeOf i) w (bitOf i) o at → f ≡ g → optional w i o at ≡ fieldBy at g
-optional-is w i o at e h = optional-field w i o at ∙ ap (fieldBy at) (sym e ∙ h)
-
-pub optional-below : (k w bit : ℕ) (o : List ℕ) (at : ℕ) {f : Field} {v n : ℕ} → f ≡ optionAt k w bit o at → f ≡ Got v n → Octets o → v < 256 ^ k
-unfolding optionAt
-optional-below k w bit o at {v = v} {n = n} e h l = go (hasBit w bit) (sym e ∙ h)
-  where
-    go : (b : Bool) → cond b (fieldAt k o at) (Got 0 at) ≡ Got v n → v < 256 ^ k
-    go true p = field-lt k o at p l
+    go : (b : Bool) → cond b (number k) (λ (o : List ℕ) (at : ℕ). got 0 at) o at ≡ got v n → v < 256 ^ k
+    go true p = number-lt k o at p l
     go false p = let z : 0 ≡ v = cc in rw (← z) (one-le-pow k 256 (omega arith))
 
 -- ---- readers that go on
@@ -101,14 +80,6 @@ module _ {A : Type 0} (m : ℕ) (test : A → Bool) (r : Reader A) (o : List ℕ
   pub must-bad : {n p : ℕ} → r o at ≡ bad n p → must m test r o at ≡ bad n p
   unfolding must continue
   must-bad e = rw e
-
-pub octets-short : (k : ℕ) (o : List ℕ) (at : ℕ) → length o < at + k → octets k o at ≡ bad 6 at
-unfolding octets
-octets-short k o at h = rw (lt-leb _ _ h)
-
-pub octets-there : (k : ℕ) (o : List ℕ) (at : ℕ) → at + k ≤ length o → octets k o at ≡ got (take k (drop at o)) (at + k)
-unfolding octets
-octets-there k o at h = rw (le-leb _ _ h)
 
 -- ---- the values
 

@@ -6,11 +6,7 @@
 -- Assumes nothing: these are definitions.
 use Prim.Native.Nat.{ℕ, _+_, _-_, _/_, _%_}
 use mathlib.Core.Bool.{Bool, cond}
-use mathlib.Core.List.{List}
 use lib.Dec.{eqb}
-use Rattle.octets.specs.Field.{fieldAt}
-use Rattle.octets.specs.declared.Field.{Field}
-use Rattle.octets.specs.declared.Field.the-variants.{Got}
 use Rattle.format.specs.Reader.{Read, Reader, got, bad, _>>=_, _>>_, give, octets, number, must}
 use Rattle.attributes.specs.Options.{transit, stub, minimumSpeed, maximumSpeed, domain, node, diameter, timeZone, sizes}
 use Rattle.attributes.specs.Attribute.{lengthAgrees, optional, values}
@@ -34,8 +30,8 @@ unfoldable pub hasBit : ℕ → ℕ → Bool
 hasBit w bit = eqb (w / bit % 2) 1
 
 -- 0 where it is not present
-unfoldable pub optionAt : ℕ → ℕ → ℕ → List ℕ → ℕ → Field
-optionAt k w bit o at = cond (hasBit w bit) (fieldAt k o at) (Got 0 at)
+unfoldable pub optionAt : ℕ → ℕ → ℕ → Reader ℕ
+optionAt k w bit = cond (hasBit w bit) (number k) (give 0)
 
 unfoldable pub wideValues : ℕ → Reader Values
 wideValues w = do

@@ -4,6 +4,8 @@
 ghost use mathlib.Core.Path.{_≡_};
 ghost use mathlib.Core.Bool.{cond};
 ghost use Prim.Native.Nat.{_*_, _^_, _≤_, _<_, min};
+ghost use Rattle.octets.specs.Field.{fieldOf, placeOf};
+ghost use Rattle.format.specs.Reader.{bad};
 ghost use Rattle.attributes.specs.Speed.{order, compared};
 ghost use Rattle.attributes.specs.Options.{sizes};
 ghost use Rattle.attributes.specs.Attribute.{lengthAgrees, values, attributeFields, attribute};
@@ -161,7 +163,7 @@ pub fn sizes(options: u16) -> u32
 // An option's value in one octet: 0 where it is not present.
 fn optional8(o: &[u8], at: usize, options: u16, bit: u16) -> Field
     requires { ⌜ 0 < bit ⌝ }
-    ensures { λ r. ⌜ r ≡ optionAt 1 options bit (now (o .entry)) at ⌝ }
+    ensures { λ r. ⌜ fieldOf r ≡ optionAt 1 options bit (now (o .entry)) at ⌝ }
 {
     if has_bit(options, bit) {
         return octets::read8(o, at);
@@ -172,7 +174,7 @@ fn optional8(o: &[u8], at: usize, options: u16, bit: u16) -> Field
 // In two.
 fn optional16(o: &[u8], at: usize, options: u16, bit: u16) -> Field
     requires { ⌜ 0 < bit ⌝ }
-    ensures { λ r. ⌜ r ≡ optionAt 2 options bit (now (o .entry)) at ⌝ }
+    ensures { λ r. ⌜ fieldOf r ≡ optionAt 2 options bit (now (o .entry)) at ⌝ }
 {
     if has_bit(options, bit) {
         return octets::read16(o, at);
@@ -183,7 +185,7 @@ fn optional16(o: &[u8], at: usize, options: u16, bit: u16) -> Field
 // In four.
 fn optional32(o: &[u8], at: usize, options: u16, bit: u16) -> Field
     requires { ⌜ 0 < bit ⌝ }
-    ensures { λ r. ⌜ r ≡ optionAt 4 options bit (now (o .entry)) at ⌝ }
+    ensures { λ r. ⌜ fieldOf r ≡ optionAt 4 options bit (now (o .entry)) at ⌝ }
 {
     if has_bit(options, bit) {
         return octets::read32(o, at);
@@ -191,7 +193,7 @@ fn optional32(o: &[u8], at: usize, options: u16, bit: u16) -> Field
     Field::Got { value: 0, next: at }
 }
 
-// The values of more than an octet, which come first. In an `else`, `next` is still the place where the value was due.
+// The values of more than an octet, which come first.
 fn wide_values(o: &[u8], at: usize, options: u16) -> ValuesRead
     ensures { λ r. ⌜ valuesBy r ≡ wideValues options (now (o .entry)) at ⌝ }
 {
@@ -207,22 +209,22 @@ fn wide_values(o: &[u8], at: usize, options: u16) -> ValuesRead
     };
     let t = optional32(o, at, options, TRANSIT);
     let Field::Got { value, next } = t else {
-        return ValuesRead::Short(at);
+        return ValuesRead::Short(octets::place(t));
     };
     v.transit = value;
     let s = optional32(o, next, options, STUB);
     let Field::Got { value, next } = s else {
-        return ValuesRead::Short(next);
+        return ValuesRead::Short(octets::place(s));
     };
     v.stub = value;
     let l = optional16(o, next, options, MINIMUM_SPEED);
     let Field::Got { value, next } = l else {
-        return ValuesRead::Short(next);
+        return ValuesRead::Short(octets::place(l));
     };
     v.minimum_speed = value as u16;
     let g = optional16(o, next, options, MAXIMUM_SPEED);
     let Field::Got { value, next } = g else {
-        return ValuesRead::Short(next);
+        return ValuesRead::Short(octets::place(g));
     };
     v.maximum_speed = value as u16;
     ValuesRead::All(v, next)
@@ -239,22 +241,22 @@ fn all_values(o: &[u8], at: usize, options: u16) -> ValuesRead
     let mut v = wide;
     let f = optional8(o, next, options, DOMAIN);
     let Field::Got { value, next } = f else {
-        return ValuesRead::Short(next);
+        return ValuesRead::Short(octets::place(f));
     };
     v.domain = value as u8;
     let n = optional8(o, next, options, NODE);
     let Field::Got { value, next } = n else {
-        return ValuesRead::Short(next);
+        return ValuesRead::Short(octets::place(n));
     };
     v.node = value as u8;
     let m = optional8(o, next, options, DIAMETER);
     let Field::Got { value, next } = m else {
-        return ValuesRead::Short(next);
+        return ValuesRead::Short(octets::place(m));
     };
     v.diameter = value as u8;
     let z = optional8(o, next, options, TIME_ZONE);
     let Field::Got { value, next } = z else {
-        return ValuesRead::Short(next);
+        return ValuesRead::Short(octets::place(z));
     };
     v.time_zone = value as u8;
     ValuesRead::All(v, next)
@@ -267,6 +269,13 @@ fn bad(number: u8, place: usize) -> AttributeRead
     AttributeRead::Refused(Refusal { number, place })
 }
 
+// A field that is cut: 6, at the place that its reader found.
+fn cut(f: Field) -> AttributeRead
+    ensures { λ r. ⌜ readBy r ≡ bad 6 (placeOf (fieldOf f)) ⌝ }
+{
+    bad(6, octets::place(f))
+}
+
 // The values, then so many octets that are ignored but due.
 fn values_after(o: &[u8], at: usize, fixed: Fixed, ignored: u32) -> AttributeRead
     ensures { λ r. ⌜ readBy r ≡ valuesAfter fixed ignored (now (o .entry)) at ⌝ }
@@ -275,13 +284,10 @@ fn values_after(o: &[u8], at: usize, fixed: Fixed, ignored: u32) -> AttributeRea
     match v {
         ValuesRead::Short(place) => bad(6, place),
         ValuesRead::All(values, next) => {
-            let n = ignored as usize;
-            if o.len() < next {
-                return bad(6, next);
-            }
-            if o.len() - next < n {
-                return bad(6, next);
-            }
+            let f = octets::skip(o, next, ignored as usize);
+            let Field::Got { value: _, next } = f else {
+                return cut(f);
+            };
             let a = Attribute {
                 e: fixed.e,
                 mtu: fixed.mtu,
@@ -289,7 +295,7 @@ fn values_after(o: &[u8], at: usize, fixed: Fixed, ignored: u32) -> AttributeRea
                 options: fixed.options,
                 values,
             };
-            AttributeRead::Is(a, next + n)
+            AttributeRead::Is(a, next)
         }
     }
 }
@@ -311,18 +317,18 @@ fn fields_after(o: &[u8], at: usize, e: bool, len: u32) -> AttributeRead
 {
     let m = octets::read16(o, at);
     let Field::Got { value, next } = m else {
-        return bad(6, at);
+        return cut(m);
     };
     let mtu = value as u16;
     let f = octets::read16(o, next);
     let Field::Got { value, next } = f else {
-        return bad(6, next);
+        return cut(f);
     };
     let flags = value as u16;
     let place = next;
     let w = octets::read16(o, place);
     let Field::Got { value, next } = w else {
-        return bad(6, place);
+        return cut(w);
     };
     let options = value as u16;
     if length_agrees(len, options) {
@@ -343,7 +349,7 @@ fn attribute_fields(o: &[u8], at: usize) -> AttributeRead
 {
     let t = octets::read8(o, at);
     let Field::Got { value, next } = t else {
-        return bad(6, at);
+        return cut(t);
     };
     if value / 128 != 0 {
         return bad(13, at);
@@ -355,7 +361,7 @@ fn attribute_fields(o: &[u8], at: usize) -> AttributeRead
     let place = next;
     let l = octets::read8(o, place);
     let Field::Got { value: len, next } = l else {
-        return bad(6, place);
+        return cut(l);
     };
     if len < 6 {
         return bad(13, place);

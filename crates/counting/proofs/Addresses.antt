@@ -13,7 +13,8 @@ use Rattle.octets.specs.Octets.{numberAt}
 use Rattle.fields.specs.Answers.{checked, skipped}
 use Rattle.fields.specs.declared.field.Checked.{Checked}
 use Rattle.fields.specs.declared.field.Checked.the-variants.{Bad}
-use Rattle.fields.proofs.Fields.{octets-short, Comes, group-is, group-short, source-is, source-short}
+use Rattle.octets.proofs.Laws.{octets-short}
+use Rattle.fields.proofs.Fields.{Comes, group-is, group-short, source-is, source-short}
 use Rattle.counting.specs.Counts.{addressField, addressSize, addressForm, wholeAddresses}
 
 -- ---- how many are there

@@ -1,5 +1,5 @@
 -- Bodies of messages as the counting calls take them.
---     start-none .. start-some           Zero, Reserved, and that a record begins
+--     zero-cut .. start-some             Zero, Reserved, and that a record begins
 --     tallied-skipped .. sum-more        records counted to the end, one by one or all at once
 --     plain-bad, plain-more, plain-end   a plain assert, by what its check found
 --     simple-bad .. start-room           packed asserts of either sort, by what their start was found to be
@@ -15,7 +15,7 @@ use lib.ListN.{length, getD}
 use lib.Dec.{leb}
 use borrow.Author.Tests.{le-leb, lt-leb, leb-false, eq-eqb, ne-eqb}
 use Rattle.octets.specs.Octets.{numberAt, value}
-use Rattle.format.specs.Reader.{Read, got, bad, Reader, continue, _>>=_, _>>_, give, number, must, placed, handUp, inRecord, toEnd, records, nothingMore}
+use Rattle.format.specs.Reader.{Read, got, bad, Reader, continue, _>>=_, _>>_, give, octets, number, must, handUp, inRecord, toEnd, records, nothingMore}
 use Rattle.format.specs.Body.{zeroReserved, assertsBody, pairsBody}
 use Rattle.records.specs.Records.{AggregatedRecord, allEntries}
 use Rattle.format.specs.Family.{ipv4}
@@ -30,45 +30,39 @@ use Rattle.fields.specs.Answers.{checked, skipped, plainSize}
 use Rattle.counting.specs.Counts.{tallied, entryCount, sum, recordCount, recordsCount, someRecord, packedStart}
 use Rattle.fields.specs.declared.field.Checked.{Checked}
 use Rattle.fields.specs.declared.field.Checked.the-variants.{Next, Bad}
-use Rattle.octets.proofs.Laws.{number-is}
-use Rattle.fields.proofs.Fields.{octets-there, octets-short}
-
-number-there : (k : ℕ) (o : List ℕ) (at : ℕ) → at + k ≤ length o → number k o at ≡ got (numberAt k o at) (at + k)
-unfolding number numberAt _>>=_ continue give
-number-there k o at h = rw (octets-there k o at h)
+use Rattle.octets.proofs.Laws.{number-is, octets-there, number-there}
 
 -- ---- Zero and Reserved
 
-one-octet : (o : List ℕ) → 5 ≤ length o → numberAt 1 o 4 ≡ getD o 4 0
-unfolding value
-one-octet o h = number-is 1 o 4 h ∙ omega arith
+module _ (o : List ℕ) (at : ℕ) where
+  zero-number : at + 1 ≤ length o → number 1 o at ≡ got (getD o at 0) (at + 1)
+  unfolding value
+  zero-number h =
+      let e : numberAt 1 o at ≡ getD o at 0 = number-is 1 o at h ∙ omega arith in
+      number-there 1 o at h ∙ ap (λ v. got v (at + 1)) e
 
-pub start-none : (o : List ℕ) → length o < 5 → packedStart o 4 ≡ bad 6 4
-unfolding packedStart zeroReserved inRecord handUp placed must number _>>_ _>>=_ continue
-start-none o h = rw (octets-short 1 o 4 h)
+  pub zero-cut : {n p : ℕ} → octets 1 o at ≡ bad n p → handUp at (bad n p) ≡ skipped (packedStart o at)
+  unfolding packedStart zeroReserved inRecord handUp must number skipped _>>_ _>>=_ continue
+  zero-cut e = rw e
 
-pub start-zero : (o : List ℕ) → 5 ≤ length o → (getD o 4 0 ≡ 0 → ⊥) → packedStart o 4 ≡ bad 5 4
-unfolding packedStart zeroReserved inRecord handUp placed must _>>_ continue
-start-zero o h z = rw (number-there 1 o 4 h, one-octet o h, ne-eqb (getD o 4 0) 0 z)
+  pub zero-wrong : at + 1 ≤ length o → (getD o at 0 ≡ 0 → ⊥) → handUp at (bad 5 at) ≡ skipped (packedStart o at)
+  unfolding packedStart zeroReserved inRecord handUp must skipped _>>_ continue
+  zero-wrong h z = rw (zero-number h, ne-eqb (getD o at 0) 0 z)
 
-pub start-cut : (o : List ℕ) → 5 ≤ length o → getD o 4 0 ≡ 0 → length o < 8 → packedStart o 4 ≡ bad 6 4
-unfolding packedStart zeroReserved inRecord handUp placed must _>>_ continue
-start-cut o h z short = rw (number-there 1 o 4 h, one-octet o h, eq-eqb (getD o 4 0) 0 z, octets-short 3 o 5 short)
+  module _ (h : at + 1 ≤ length o) (z : getD o at 0 ≡ 0) where
+    pub reserved-cut : {b n p : ℕ} → b ≡ at + 1 → octets 3 o b ≡ bad n p → handUp at (bad n p) ≡ skipped (packedStart o at)
+    unfolding packedStart zeroReserved inRecord handUp must skipped _>>_ continue
+    reserved-cut place e = rw (zero-number h, eq-eqb (getD o at 0) 0 z, ← place, e)
 
-pub start-empty : (o : List ℕ) → getD o 4 0 ≡ 0 → length o ≡ 8 → packedStart o 4 ≡ bad 5 8
-unfolding packedStart zeroReserved inRecord handUp placed must someRecord _>>_ continue give
-start-empty o z e =
-    let five : 5 ≤ length o = omega arith in
-    let eight : 8 ≤ length o = omega arith in
-    let end : length o ≤ 8 = omega arith in
-    rw (number-there 1 o 4 five, one-octet o five, eq-eqb (getD o 4 0) 0 z, octets-there 3 o 5 eight, le-leb (length o) 8 end)
+    pub start-empty : {n : ℕ} → n ≡ at + 1 + 3 → n ≤ length o → length o ≤ n → bad 5 n ≡ skipped (packedStart o at)
+    unfolding packedStart zeroReserved inRecord handUp must someRecord skipped _>>_ continue give
+    start-empty {n} e there end =
+        rw (zero-number h, eq-eqb (getD o at 0) 0 z, octets-there 3 o (at + 1) (rw (← e) there), ← e, le-leb (length o) n end)
 
-pub start-some : (o : List ℕ) → getD o 4 0 ≡ 0 → 8 < length o → packedStart o 4 ≡ got tt 8
-unfolding packedStart zeroReserved inRecord handUp placed must someRecord _>>_ continue give
-start-some o z more =
-    let five : 5 ≤ length o = omega arith in
-    let eight : 8 ≤ length o = omega arith in
-    rw (number-there 1 o 4 five, one-octet o five, eq-eqb (getD o 4 0) 0 z, octets-there 3 o 5 eight, lt-leb (length o) 8 more)
+    pub start-some : {n : ℕ} → n ≡ at + 1 + 3 → n ≤ length o → n < length o → got tt n ≡ skipped (packedStart o at)
+    unfolding packedStart zeroReserved inRecord handUp must someRecord skipped _>>_ continue give
+    start-some {n} e there more =
+        rw (zero-number h, eq-eqb (getD o at 0) 0 z, octets-there 3 o (at + 1) (rw (← e) there), ← e, lt-leb (length o) n more)
 
 -- ---- records counted to the end
 

@@ -37,7 +37,8 @@ use Rattle.fields.specs.declared.field.Checked.the-variants.{Next, Bad}
 use Rattle.counting.specs.declared.aggregated.Counted.{Counted}
 use Rattle.counting.specs.declared.aggregated.Counted.the-variants.{All, Bad as Not}
 use Rattle.fields.proofs.Skipped.{no-got, continue-back, checks-bad, checks-next, skipped-last}
-use Rattle.fields.proofs.Fields.{octets-there, number-skipped, number-back, group-back}
+use Rattle.octets.proofs.Laws.{number-there, number-back}
+use Rattle.fields.proofs.Fields.{number-skipped, group-back}
 
 -- ---- a check, and what is counted after it
 
@@ -103,10 +104,6 @@ handed-bad size p (bad n i) {x = x} h q u t =
 
 pub checks-number : (k : ℕ) (o : List ℕ) (at : ℕ) {y : Read (Unit {0})} → y ≡ skipped (octets k o at) → y ≡ skipped (number k o at)
 checks-number k o at q = q ∙ sym (number-skipped k o at)
-
-number-there : (k : ℕ) (o : List ℕ) (at : ℕ) → at + k ≤ length o → number k o at ≡ got (numberAt k o at) (at + k)
-unfolding number numberAt _>>=_ give continue
-number-there k o at h = rw (octets-there k o at h)
 
 pub positive-short : (o : List ℕ) (at : ℕ) {c : Checked} {x : Refusal} → c ≡ Bad x → checked c ≡ skipped (octets 2 o at) → checked c ≡ skipped (positive o at)
 unfolding positive must

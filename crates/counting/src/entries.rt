@@ -5,6 +5,8 @@ use crate::aggregated::with_count;
 use fields::Checked;
 use fields::assert_check;
 use fields::bad;
+use fields::in_record;
+use fields::octets_check;
 use fields::record_check;
 use format::Kind;
 ghost use mathlib.Core.Path.{_≡_};
@@ -48,23 +50,25 @@ fn count_to_end(joined: bool, kind: Kind, m: &[u8], from: usize) -> Counted
     }
 }
 
-// Zero, which has to be 0, and Reserved; then a record has to begin.
+// Zero, which has to be 0, and Reserved: a fault of either is handed up as that of a record. Then a record has to begin.
 fn packed_check(m: &[u8]) -> Checked
     ensures { λ r. ⌜ checked r ≡ skipped (packedStart (now (m .entry)) 4) ⌝ }
 {
-    if m.len() < 5 {
-        return bad(6, 4);
-    }
+    let z = octets_check(m, 4, 1);
+    let Checked::Next(reserved_at) = z else {
+        return in_record(4, z);
+    };
     if m[4] != 0 {
-        return bad(5, 4);
+        return in_record(4, bad(5, 4));
     }
-    if m.len() < 8 {
-        return bad(6, 4);
+    let r = octets_check(m, reserved_at, 3);
+    let Checked::Next(first) = r else {
+        return in_record(4, r);
+    };
+    if m.len() <= first {
+        return bad(5, first);
     }
-    if m.len() == 8 {
-        return bad(5, 8);
-    }
-    Checked::Next(8)
+    Checked::Next(first)
 }
 
 // One assert record, and nothing more.

@@ -13,6 +13,7 @@ use mathlib.Core.List.{List}
 use lib.Dec.{eqb, leb}
 use lib.ListN.{length, getD}
 use Rattle.octets.specs.Octets.{numberAt, Octets}
+use Rattle.octets.proofs.Laws.{number-back}
 use Rattle.records.specs.Records.{assert, rBit}
 use Rattle.format.specs.Reader.{Read, got, continue, _>>=_, _>>_, give, here, octets, number, refuse}
 use Rattle.format.specs.Family.{ipv4}
@@ -23,7 +24,7 @@ use Rattle.fields.specs.Answers.{checked, skipped}
 use Rattle.fields.specs.declared.field.Checked.{Checked}
 use Rattle.fields.specs.declared.field.Checked.the-variants.{Next, Bad}
 use Rattle.fields.proofs.Skipped.{checks-bad, checks-next, checks-on, skipped-last}
-use Rattle.fields.proofs.Fields.{number-skipped, number-back, group-back, source-back, rBit-is}
+use Rattle.fields.proofs.Fields.{number-skipped, group-back, source-back, rBit-is}
 
 module _ (o : List ℕ) (at : ℕ) where
   pub assert-no-group : {c : Checked} {x : Refusal} → c ≡ Bad x → checked c ≡ skipped (groupField ipv4 o at)

@@ -1,8 +1,7 @@
 -- Fields of IPv4 by their octets: what each reader comes to where the octets are there, and what a value that was got is.
---     octets-there, octets-short, octets-back     k octets
+--     ignored-skipped, number-skipped             k octets, and the number in them, checked as octets
 --     octets-room                                 what a check of them that passed says
 --     number-none                                 the number past the end is 0
---     number-skipped, number-back                 the number in k octets: checked as octets, and read
 --     formed, part-form .. formed-back            a field of a form that ends in an address, as groups and sources are
 --     Comes, form-no, form-yes                    a field by a test of its octets, and what a check that made the test answers
 --     groupTest, group-form .. group-back         a group: the address is tested by its first octet
@@ -19,9 +18,10 @@ use lib.Dec.{leb, ltb, eqb}
 use lib.ListN.{length, getD, take, drop, length-drop}
 use lib.Seq.{take-add, take-all, drop-drop, length-take-le, drop-at}
 use Rattle.octets.specs.Octets.{numberAt, Octets, value}
-use Rattle.octets.proofs.Laws.{number-is, number-short}
+use Rattle.octets.specs.Field.{ignored}
+use Rattle.octets.proofs.Laws.{number-is, number-short, octets-there, octets-back}
 use Rattle.records.specs.Records.{rBit}
-use Rattle.format.specs.Reader.{Read, Reader, got, bad, continue, _>>=_, give, octets, number, must}
+use Rattle.format.specs.Reader.{Read, Reader, got, bad, continue, _>>=_, _>>_, give, octets, number, must}
 use Rattle.format.specs.Family.{ipv4, mayBeSource}
 use Rattle.format.specs.Address.{groupForm, groupField, sourceForm, sourceField}
 use Rattle.format.specs.declared.Refusal.{Refusal}
@@ -32,26 +32,9 @@ use Rattle.fields.proofs.Skipped.{no-got, continue-back, checks-bad, ch
 
 -- ---- octets and numbers
 
-pub octets-there : (k : ℕ) (o : List ℕ) (at : ℕ) → at + k ≤ length o → octets k o at ≡ got (take k (drop at o)) (at + k)
-unfolding octets
-octets-there k o at h = rw (le-leb _ _ h)
-
-pub octets-short : (k : ℕ) (o : List ℕ) (at : ℕ) → length o < at + k → octets k o at ≡ bad 6 at
-unfolding octets
-octets-short k o at h = rw (lt-leb _ _ h)
-
-pub octets-back : (k : ℕ) (o : List ℕ) (at : ℕ) {x : List ℕ} {n : ℕ} → octets k o at ≡ got x n
-    → (x ≡ take k (drop at o)) × (n ≡ at + k) × (n ≤ length o)
-unfolding octets
-octets-back k o at {x} {n} e = go (leb (at + k) (length o)) refl e
-  where
-    go : (b : Bool) → leb (at + k) (length o) ≡ b → cond b (got (take k (drop at o)) (at + k)) (bad 6 at) ≡ got x n
-        → (x ≡ take k (drop at o)) × (n ≡ at + k) × (n ≤ length o)
-    go true t p =
-        let there : at + k ≤ length o = leb-true _ _ t in
-        let same : n ≡ at + k = cc in
-        (cc, same, omega arith)
-    go false t p = absurd (no-got p)
+pub ignored-skipped : (k : ℕ) (o : List ℕ) (at : ℕ) → skipped (ignored k o at) ≡ skipped (octets k o at)
+unfolding ignored _>>_ give
+ignored-skipped k o at = skipped-last (octets k o at) (λ x. 0)
 
 -- what a check of k octets that passed says
 pub octets-room : (k : ℕ) (o : List ℕ) (at : ℕ) {c : Checked} {n : ℕ} → c ≡ Next n → checked c ≡ skipped (octets k o at) → (at + k ≤ length o) × (n ≡ at + k)
@@ -64,15 +47,6 @@ number-none k o at h = number-short k 0 o at (omega arith) (omega arith)
 pub number-skipped : (k : ℕ) (o : List ℕ) (at : ℕ) → skipped (number k o at) ≡ skipped (octets k o at)
 unfolding number _>>=_ give
 number-skipped k o at = skipped-last (octets k o at) value
-
-pub number-back : (k : ℕ) (o : List ℕ) (at : ℕ) {v n : ℕ} → number k o at ≡ got v n
-    → (v ≡ numberAt k o at) × (n ≡ at + k) × (n ≤ length o)
-unfolding number numberAt _>>=_ give
-number-back k o at {n = n} e =
-    continue-back (octets k o at) _ e (λ x m p q.
-    let b = octets-back k o at p in
-    let same : n ≡ at + k = cc (b .1) in
-    (cc (ap value (b .0)), same, omega arith))
 
 -- ---- fields of a form
 

@@ -15,12 +15,13 @@ use Rattle.format.specs.Reader.{Read, got, bad, continue, _>>=_, _>>_, give, he
 use Rattle.format.specs.Family.{ipv4}
 use Rattle.format.specs.Address.{groupField, sourceField}
 use Rattle.octets.specs.Octets.{numberAt}
+use Rattle.octets.proofs.Laws.{number-back}
 use Rattle.format.specs.Record.{Single, anAssert, aPair, assertFields, assertRecord, pairFields, pairRecord, recordAt}
 use Rattle.format.specs.declared.Kind.{Kind}
 use Rattle.format.specs.declared.Kind.the-variants.{Hello, Assert, Simple, Aggregated, NullRegister, RegisterStop}
 use Rattle.fields.specs.Answers.{plainAssert, plainPair, plainRecord, plainSize}
 use Rattle.fields.proofs.Skipped.{no-got, continue-back}
-use Rattle.fields.proofs.Fields.{number-back, group-back, source-back}
+use Rattle.fields.proofs.Fields.{group-back, source-back}
 
 handUp-back : {A : Type 0} (first : ℕ) (r : Read A) {a : A} {n : ℕ} → handUp first r ≡ got a n → r ≡ got a n
 unfolding handUp

@@ -1,9 +1,6 @@
--- Readers: functions of the whole octets and a place. A reader gives a value and the next place, or a number of 01's table
--- and the place of the field at fault. In a `do` each line reads where the line before it stopped, so the order of the lines is
--- "faults in octet order".
---     Read, Reader            what reading comes to; a reader
---     give, here              a value without reading; the present place
---     octets, number          k octets, and the number they spell: 6 where "input ends in or before a due field"
+-- Readers of fields with a test, of records and of lists. What a reader is, and the readers of octets and of numbers, are in
+-- octets/specs/Reader.antt and are handed on.
+--     here                    the present place
 --     must                    a field that has to pass a test: "at one field 6 before the rest"
 --     refuse                  a refusal at a place already passed, if a test holds
 --     placed, inRecord        which place a record's reader hands up
@@ -12,48 +9,17 @@
 --     nothingMore             the octets end here
 --     from                    what a reader comes to at a place, the next place left out
 -- Assumes nothing: these are definitions.
-use Prim.Native.Nat.{ℕ, zero, suc, _+_}
+use Prim.Native.Nat.{ℕ, zero, suc}
 use mathlib.Core.Bool.{Bool, cond}
 use mathlib.Core.List.{List, [], _∷_}
-use lib.ListN.{length, take, drop}
+use lib.ListN.{length}
 use lib.Dec.{leb}
-use Rattle.octets.specs.Octets.{value}
+pub use Rattle.octets.specs.Reader.{Read, got, bad, Reader}
+unfoldable pub use Rattle.octets.specs.Reader.{continue, _>>=_, _>>_, give, octets, number}
 use Rattle.format.specs.Outcome.{Outcome, gives, refuses}
-
-infixl 20 _>>=_
-infixl 20 _>>_
-pub data Read (A : Type 0) : Type 0 where
-  -- the value, and the place past it
-  got : A → ℕ → Read A
-  -- 01's number, and the place of the field at fault
-  bad : ℕ → ℕ → Read A
-
-abbrev pub Reader : Type 0 → Type 0
-Reader A = List ℕ → ℕ → Read A
-
-unfoldable pub continue : {A B : Type 0} → Read A → (A → ℕ → Read B) → Read B
-continue (got a next) k = k a next
-continue (bad n p) k = bad n p
-
-unfoldable pub _>>=_ : {A B : Type 0} → Reader A → (A → Reader B) → Reader B
-_>>=_ r k o at = continue (r o at) (λ a next. k a o next)
-
-unfoldable pub _>>_ : {A B : Type 0} → Reader A → Reader B → Reader B
-_>>_ r s o at = continue (r o at) (λ a next. s o next)
-
-unfoldable pub give : {A : Type 0} → A → Reader A
-give a o at = got a at
 
 unfoldable pub here : Reader ℕ
 here o at = got at at
-
-unfoldable pub octets : ℕ → Reader (List ℕ)
-octets k o at = cond (leb (at + k) (length o)) (got (take k (drop at o)) (at + k)) (bad 6 at)
-
-unfoldable pub number : ℕ → Reader ℕ
-number k = do
-  x ← octets k
-  give (value x)
 
 unfoldable pub must : {A : Type 0} → ℕ → (A → Bool) → Reader A → Reader A
 must n test r o at = continue (r o at) (λ a next. cond (test a) (got a next) (bad n at))

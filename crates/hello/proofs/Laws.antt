@@ -1,27 +1,24 @@
 -- What an option reads as, by the tests that the code made: laws over the definitions of specs/Options.antt and specs/Answers.antt.
 --     stepped-bad                                       a refusal as the code makes it
---     field-end                                         a field that is short ends past the octets
 --     wrong-length, repeated, allowed                   the three cases of a known option
---     value-refused, value-short, value-read            an option's value: refused, cut, read
---     skipped-short, skipped-there                      an option that is not known: cut, skipped
+--     value-refused, value-cut, value-read              an option's value: refused, cut, read
+--     skipped-cut, skipped-there                        an option that is not known: cut, skipped
 --     Head, head, no-type, no-length                    an option's type and length
 --     head-capability, head-wrong                       the four octets 00 28 00 00, and other octets of type 40
 --     head-known, head-unknown                          an option of another type
 --     option-got, option-bad                            an option by its fields: a fault is handed up
 -- Assumes nothing.
 use mathlib.Core.Path.{_≡_, refl, _∙_}
-use mathlib.Core.Bool.{Bool, true, false, cond, not, _&&_, _||_}
+use mathlib.Core.Bool.{Bool, true, false, not, _&&_, _||_}
 use mathlib.Core.List.{List, [], _∷_}
-use Prim.Native.Nat.{ℕ, _+_, _*_, _≤_, _<_}
+use Prim.Native.Nat.{ℕ, _+_, _*_, _≤_}
 use native.Mathlib.Nat.{add-zero}
 use native.Mathlib.Omega.{arith}
-use borrow.Author.Tests.{le-leb, lt-leb, leb-false, eq-eqb, ne-eqb, eqb-true}
-use lib.Dec.{leb, eqb}
+use borrow.Author.Tests.{le-leb, eq-eqb, ne-eqb, eqb-true}
+use lib.Dec.{eqb}
 use lib.ListN.{length, getD, take, drop}
-use Rattle.octets.specs.Octets.{Octets, value}
-use Rattle.octets.specs.Field.{fieldAt}
-use Rattle.octets.specs.declared.Field.the-variants.{Got, Short}
-use Rattle.octets.proofs.Laws.{field-back, field-got}
+use Rattle.octets.specs.Octets.{Octets, value, numberAt}
+use Rattle.octets.proofs.Laws.{number-is, number-back, number-bad}
 use Rattle.format.specs.Reader.{got, bad, continue, _>>=_, _>>_, give, here, octets, number, refuse, placed, handUp, inRecord}
 use Rattle.hello.specs.Options.{Said, said, given, against, hear, optionValue, capable, skipped, optionFields, option}
 use Rattle.hello.specs.Answers.{ifGiven, stepped, fourAt}
@@ -31,26 +28,6 @@ use Rattle.hello.specs.declared.Step.the-variants.{Bad}
 pub stepped-bad : {r : Step} {n p : ℕ} → r ≡ Bad (record { number = n; place = p }) → stepped r ≡ bad n p
 unfolding stepped
 stepped-bad e = rw e
-
--- ---- fields
-
-pub field-end : (k : ℕ) (o : List ℕ) (at : ℕ) {p : ℕ} → fieldAt k o at ≡ Short p → length o < at + k
-unfolding fieldAt
-field-end k o at {p} e = go (leb (at + k) (length o)) refl e
-  where
-    go : (b : Bool) → leb (at + k) (length o) ≡ b → cond b (Got (value (take k (drop at o))) (at + k)) (Short at) ≡ Short p → length o < at + k
-    go true t q = let z : _≡_ {A = ℕ} 0 1 = cc in absurd (omega arith)
-    go false t q = leb-false _ _ t
-
-number-got : (k : ℕ) (o : List ℕ) (at : ℕ) {v n : ℕ} → fieldAt k o at ≡ Got v n → number k o at ≡ got v n
-unfolding number octets _>>=_ continue give
-number-got k o at e =
-    let b = field-back k o at e in
-    rw (le-leb _ _ (b .0), b .1, b .2)
-
-number-short : (k : ℕ) (o : List ℕ) (at : ℕ) {p : ℕ} → fieldAt k o at ≡ Short p → number k o at ≡ bad 6 at
-unfolding number octets _>>=_ continue
-number-short k o at e = rw (lt-leb _ _ (field-end k o at e))
 
 -- ---- a known option: of n octets where k are right, and b whether it was there before
 
@@ -76,21 +53,25 @@ module _ (first : ℕ) (s : Said) (t n : ℕ) (o : List ℕ) (at : ℕ) where
   unfolding optionValue refuse _>>_ continue
   value-refused e = rw e
 
-  pub value-short : against s t n ≡ false → length o < at + n → optionValue first s t n o at ≡ bad 6 at
-  unfolding optionValue refuse octets _>>_ _>>=_ continue
-  value-short e h = rw (e, lt-leb _ _ h)
-
   value-there : against s t n ≡ false → at + n ≤ length o → optionValue first s t n o at ≡ got (hear s t (take n (drop at o))) (at + n)
   unfolding optionValue refuse octets give _>>_ _>>=_ continue
   value-there e h = rw (e, le-leb _ _ h)
 
--- a field of the right length, read
-pub value-read : (first : ℕ) (s : Said) (t n k : ℕ) (o : List ℕ) (at : ℕ) {v next : ℕ} → against s t n ≡ false → n ≡ k → fieldAt k o at ≡ Got v next
-    → (v ≡ value (take n (drop at o))) × (optionValue first s t n o at ≡ got (hear s t (take n (drop at o))) next)
-value-read first s t n k o at {next = next} e f g =
-    let b = field-back k o at g in
-    let p : next ≡ at + n = omega arith in
-    (rw f (b .1), rw p (value-there first s t n o at e (omega arith)))
+-- a field of the right length: cut, or read
+module _ (first : ℕ) (s : Said) (t n k : ℕ) (o : List ℕ) (at : ℕ) (e : against s t n ≡ false) (f : n ≡ k) where
+  pub value-cut : {i p : ℕ} → number k o at ≡ bad i p → optionValue first s t n o at ≡ bad i p
+  unfolding optionValue refuse _>>_ _>>=_ continue
+  value-cut {i} {p} g =
+      let h : octets n o at ≡ bad i p = rw f (number-bad k o at g) in
+      rw (e, h)
+
+  pub value-read : {v next : ℕ} → number k o at ≡ got v next
+      → (v ≡ value (take n (drop at o))) × (optionValue first s t n o at ≡ got (hear s t (take n (drop at o))) next)
+  unfolding numberAt
+  value-read {next = next} g =
+      let b = number-back k o at g in
+      let p : next ≡ at + n = omega arith in
+      (rw f (b .0), rw p (value-there first s t n o at e (omega arith)))
 
 value-capability : (first : ℕ) (s : Said) (o : List ℕ) (at : ℕ) → at ≤ length o → optionValue first s 40 0 o at ≡ capable first s o at
 unfolding optionValue capable against hear refuse octets give _>>_ _>>=_ continue
@@ -102,13 +83,13 @@ value-unknown : (first : ℕ) (s : Said) (t n : ℕ) (o : List ℕ) (at : ℕ) �
 unfolding optionValue skipped against hear refuse give _>>_ _>>=_ continue
 value-unknown first (said h p c) t n o at e f g = rw (ne-eqb _ _ e, ne-eqb _ _ f, ne-eqb _ _ g)
 
-pub skipped-short : (s : Said) (n : ℕ) (o : List ℕ) (at : ℕ) → length o < at + n → skipped s n o at ≡ bad 6 at
-unfolding skipped octets _>>_ continue
-skipped-short s n o at h = rw (lt-leb _ _ h)
+pub skipped-cut : (s : Said) (n : ℕ) (o : List ℕ) (at : ℕ) {i p : ℕ} → octets n o at ≡ bad i p → skipped s n o at ≡ bad i p
+unfolding skipped _>>_ continue
+skipped-cut s n o at e = rw e
 
-pub skipped-there : (s : Said) (n : ℕ) (o : List ℕ) (at : ℕ) → at + n ≤ length o → skipped s n o at ≡ got s (at + n)
-unfolding skipped octets give _>>_ continue
-skipped-there s n o at h = rw (le-leb _ _ h)
+pub skipped-there : (s : Said) (n : ℕ) (o : List ℕ) (at : ℕ) {x : List ℕ} {next : ℕ} → octets n o at ≡ got x next → skipped s n o at ≡ got s next
+unfolding skipped give _>>_ continue
+skipped-there s n o at e = rw e
 
 -- ---- an option's type and length
 
@@ -120,34 +101,33 @@ pub record Head (o : List ℕ) (at t n next : ℕ) : Type 0 where
   pub place : next ≡ at + 4
   pub reads : (s : Said) → optionFields s o at ≡ optionValue at s t n o next
 
-two : (o : List ℕ) (at : ℕ) {v n : ℕ} → fieldAt 2 o at ≡ Got v n → v ≡ getD o at 0 * 256 + getD o (at + 1) 0
+two : (o : List ℕ) (at : ℕ) {v n : ℕ} → number 2 o at ≡ got v n → v ≡ getD o at 0 * 256 + getD o (at + 1) 0
 unfolding value
 two o at e =
-    let b = field-back 2 o at e in
-    let f : Got (getD o at 0 * 256 + getD o (at + 1) 0) (at + 2) ≡ fieldAt 2 o at = field-got 2 o at (b .0) (omega arith) in
-    cc
+    let b = number-back 2 o at e in
+    b .0 ∙ number-is 2 o at (omega arith) ∙ omega arith
 
-pub head : (o : List ℕ) (at : ℕ) {t b n next : ℕ} → fieldAt 2 o at ≡ Got t b → fieldAt 2 o b ≡ Got n next → Head o at t n next
+pub head : (o : List ℕ) (at : ℕ) {t b n next : ℕ} → number 2 o at ≡ got t b → number 2 o b ≡ got n next → Head o at t n next
 unfolding optionFields here _>>=_ continue
 head o at {b = b} e f =
-    let x = field-back 2 o at e in
-    let y = field-back 2 o b f in
+    let x = number-back 2 o at e in
+    let y = number-back 2 o b f in
     let i : at + 2 + 1 ≡ at + 3 = omega arith in
     record {
       kind = two o at e;
-      size = rw (x .2, i) at (two o b f);
+      size = rw (x .1, i) at (two o b f);
       fits = omega arith;
       place = omega arith;
-      reads = λ s. rw (number-got 2 o at e, number-got 2 o b f);
+      reads = λ s. rw (e, f);
     }
 
-pub no-type : (s : Said) (o : List ℕ) (at : ℕ) {p : ℕ} → fieldAt 2 o at ≡ Short p → optionFields s o at ≡ bad 6 at
+pub no-type : (s : Said) (o : List ℕ) (at : ℕ) {i p : ℕ} → number 2 o at ≡ bad i p → optionFields s o at ≡ bad i p
 unfolding optionFields here _>>=_ continue
-no-type s o at e = rw (number-short 2 o at e)
+no-type s o at e = rw e
 
-pub no-length : (s : Said) (o : List ℕ) (at : ℕ) {t b p : ℕ} → fieldAt 2 o at ≡ Got t b → fieldAt 2 o b ≡ Short p → optionFields s o at ≡ bad 6 b
+pub no-length : (s : Said) (o : List ℕ) (at : ℕ) {t b i p : ℕ} → number 2 o at ≡ got t b → number 2 o b ≡ bad i p → optionFields s o at ≡ bad i p
 unfolding optionFields here _>>=_ continue
-no-length s o at {b = b} e f = rw (number-got 2 o at e, number-short 2 o b f)
+no-length s o at e f = rw (e, f)
 
 -- ---- the packing capability
 

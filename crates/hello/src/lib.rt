@@ -6,7 +6,8 @@ ghost use mathlib.Core.Bool.{cond};
 ghost use mathlib.Core.List.{List};
 ghost use Prim.Native.Nat.{ℕ, _+_, _≤_};
 ghost use lib.ListN.{length};
-ghost use Rattle.format.specs.Reader.{from};
+ghost use Rattle.octets.specs.Field.{fieldOf, placeOf};
+ghost use Rattle.format.specs.Reader.{bad, from};
 ghost use Rattle.hello.specs.Options.{nothing, optionValue, capable, skipped, optionFields, option, options};
 ghost use Rattle.hello.specs.Hello.{holdtimeOf, helloOf, helloOptions, readHello};
 ghost use Rattle.hello.specs.Answers.{ifGiven, saidBy, stepped, heard, helloBy, zeroPriority, told, unannounced, fourAt};
@@ -59,6 +60,13 @@ fn bad(number: u8, place: usize) -> Step
     Step::Bad(Refusal { number, place })
 }
 
+// A field that is cut: 6, at the place that its reader found.
+fn cut(f: Field) -> Step
+    ensures { λ r. ⌜ stepped r ≡ bad 6 (placeOf (fieldOf f)) ⌝ }
+{
+    bad(6, octets::place(f))
+}
+
 // Whether the four octets at a place are those of a string.
 fn four_at(m: &[u8], at: usize, s: &[u8]) -> bool
     requires { ⌜ (at + 4 ≤ length (now m)) × (length (now s) ≡ 4) ⌝ }
@@ -88,7 +96,7 @@ fn holdtime(m: &[u8], first: usize, len: u32, at: usize, h: Heard) -> Step
     }
     let f = octets::read16(m, at);
     let Field::Got { value, next } = f else {
-        return bad(6, at);
+        return cut(f);
     };
     let mut said = h;
     said.has_holdtime = true;
@@ -108,7 +116,7 @@ fn priority(m: &[u8], first: usize, len: u32, at: usize, h: Heard) -> Step
     }
     let f = octets::read32(m, at);
     let Field::Got { value, next } = f else {
-        return bad(6, at);
+        return cut(f);
     };
     let mut said = h;
     said.has_priority = true;
@@ -132,14 +140,11 @@ fn capability(first: usize, next: usize, h: Heard) -> Step
 fn skip(m: &[u8], at: usize, len: u32, h: Heard) -> Step
     ensures { λ r. ⌜ stepped r ≡ skipped (saidBy h) len (now (m .entry)) at ⌝ }
 {
-    let n = len as usize;
-    if m.len() < at {
-        return bad(6, at);
-    }
-    if m.len() - at < n {
-        return bad(6, at);
-    }
-    Step::Next(h, at + n)
+    let f = octets::skip(m, at, len as usize);
+    let Field::Got { value: _, next } = f else {
+        return cut(f);
+    };
+    Step::Next(h, next)
 }
 
 // An option by its fields, each fault at the field's own place. The four octets 00 28 00 00 are the
@@ -153,11 +158,11 @@ fn option_fields(m: &[u8], at: usize, h: Heard) -> Step
         next: length_at,
     } = t
     else {
-        return bad(6, at);
+        return cut(t);
     };
     let l = octets::read16(m, length_at);
     let Field::Got { value: len, next } = l else {
-        return bad(6, length_at);
+        return cut(l);
     };
     if four_at(m, at, b"\x00\x28\x00\x00") {
         return capability(at, next, h);

@@ -12,8 +12,13 @@
 --     number-is, number-short                               a number by its octets, and where fewer are there
 --     number-part, number-cut                               a number in a part, by its place in the whole; and where the part is that number
 --     put-copied                                            the octets of a number stored as they stand
---     field-got, field-short, write-next, write-full        what a reader or a writer answers, by the test that its code made
---     field-back, field-lt, write-back, length-fitted       what a caller learns from an answer
+--     octets-there, octets-short, octets-back               a reader of octets, by whether they are there, and what it got
+--     number-there, number-back, number-bad, number-lt      a reader of a number
+--     ignored-got, ignored-bad                              a reader of octets that are skipped
+--     field-got, field-short, skip-got, skip-short          what the code of a reader answers, by the test that it made
+--     write-next, write-full                                what the code of a writer answers
+--     read-got, read-cut                                    what a caller learns from a reader's answer
+--     write-back, length-fitted                             and from a writer's
 -- Assumes nothing.
 use mathlib.Core.Path.{_≡_, refl, sym, ap, ap₂, _∙_}
 use mathlib.Core.Bool.{Bool, true, false, cond}
@@ -29,9 +34,12 @@ use lib.ListN.{length, getD, set, take, drop, length-append, length-take, length
 use lib.Seq.{sets, sets-eq, take-add, take-all, take-at, take-take, take-append-le, drop-at, drop-cons, drop-drop, getD-drop, length-take-le}
 use borrow.Author.Tests.{le-leb, lt-leb, leb-true}
 use Rattle.octets.specs.Octets.{Octets, value, numberAt, be, put}
-use Rattle.octets.specs.Field.{fieldAt, writtenAt, fitted}
+use Rattle.octets.specs.Reader.{Read, got, bad, continue, _>>=_, _>>_, give, octets, number}
+use Rattle.octets.specs.Field.{fieldOf, placeOf, ignored, writtenOf, written, fitted}
+use Rattle.octets.specs.declared.Field.{Field}
 use Rattle.octets.specs.declared.Field.the-variants.{Got, Short}
-use Rattle.octets.specs.declared.Written.the-variants.{Next, Full}
+use Rattle.octets.specs.declared.Written.{Written}
+use Rattle.octets.specs.declared.Written.the-variants.{Next}
 
 -- ---- octets
 
@@ -295,51 +303,114 @@ put-copied k o d at out octet there room =
     let back : be k (value part) ≡ part = ap (λ n. be n (value part)) (sym long) ∙ be-value part (octets-take k (drop at o) (octets-drop at o octet)) in
     ap (stores d out 0) is ∙ (stores-put d out part (rw long room) ∙ ap (put d out) (sym back))
 
+-- ---- the readers of octets and of numbers
+
+module _ (k : ℕ) (o : List ℕ) (at : ℕ) where
+  pub octets-there : at + k ≤ length o → octets k o at ≡ got (take k (drop at o)) (at + k)
+  unfolding octets
+  octets-there h = rw (le-leb _ _ h)
+
+  pub octets-short : length o < at + k → octets k o at ≡ bad 6 at
+  unfolding octets
+  octets-short h = rw (lt-leb _ _ h)
+
+  pub octets-back : {x : List ℕ} {n : ℕ} → octets k o at ≡ got x n → (x ≡ take k (drop at o)) × (n ≡ at + k) × (n ≤ length o)
+  unfolding octets
+  octets-back {x} {n} e = go (leb (at + k) (length o)) refl e
+    where
+      go : (b : Bool) → leb (at + k) (length o) ≡ b → cond b (got (take k (drop at o)) (at + k)) (bad 6 at) ≡ got x n
+          → (x ≡ take k (drop at o)) × (n ≡ at + k) × (n ≤ length o)
+      go true t p =
+          let there : at + k ≤ length o = leb-true _ _ t in
+          let same : n ≡ at + k = cc in
+          (cc, same, omega arith)
+      go false t p = let z : _≡_ {A = ℕ} 0 1 = cc in absurd (omega arith)
+
+-- a reader that gives w of what was read
+module _ {A : Type 0} (w : A → ℕ) where
+  of-got : {C : Type 0} (x : Read A) {v n : ℕ} → continue x (λ a m. got (w a) m) ≡ got v n → ((a : A) → x ≡ got a n → v ≡ w a → C) → C
+  unfolding continue
+  of-got (got a m) {n = n} e next = let same : m ≡ n = cc in next a (ap (got a) same) (cc)
+  of-got (bad i p) e next = let z : _≡_ {A = ℕ} 0 1 = cc in absurd (omega arith)
+
+  of-bad : (x : Read A) {i p : ℕ} → continue x (λ a m. got (w a) m) ≡ bad i p → x ≡ bad i p
+  unfolding continue
+  of-bad (got a m) e = let z : _≡_ {A = ℕ} 0 1 = cc in absurd (omega arith)
+  of-bad (bad i p) e = cc
+
+module _ (k : ℕ) (o : List ℕ) (at : ℕ) where
+  pub number-there : at + k ≤ length o → number k o at ≡ got (numberAt k o at) (at + k)
+  unfolding number numberAt _>>=_ continue give
+  number-there h = rw (octets-there k o at h)
+
+  pub number-back : {v n : ℕ} → number k o at ≡ got v n → (v ≡ numberAt k o at) × (n ≡ at + k) × (n ≤ length o)
+  unfolding number numberAt _>>=_ give
+  number-back e = of-got value (octets k o at) e (λ x p q. let b = octets-back k o at p in (q ∙ ap value (b .0), b .1, b .2))
+
+  pub number-bad : {i p : ℕ} → number k o at ≡ bad i p → octets k o at ≡ bad i p
+  unfolding number _>>=_ give
+  number-bad e = of-bad value (octets k o at) e
+
+  pub number-lt : {v n : ℕ} → number k o at ≡ got v n → Octets o → v < 256 ^ k
+  unfolding numberAt
+  number-lt e h =
+      let b = number-back e in
+      let l : length (take k (drop at o)) ≡ k = length-take-le k (drop at o) (simp length-drop (omega arith)) in
+      rw (b .0) (rw l at (value-lt (take k (drop at o)) (octets-take k (drop at o) (octets-drop at o h))))
+
+  pub ignored-got : {v n : ℕ} → ignored k o at ≡ got v n → octets k o at ≡ got (take k (drop at o)) n
+  unfolding ignored _>>_ give
+  ignored-got {n = n} e = of-got (λ x. 0) (octets k o at) e (λ x p q. p ∙ ap (λ x. got x n) (octets-back k o at p .0))
+
+  pub ignored-bad : {i p : ℕ} → ignored k o at ≡ bad i p → octets k o at ≡ bad i p
+  unfolding ignored _>>_ give
+  ignored-bad e = of-bad (λ x. 0) (octets k o at) e
+
 -- ---- the answers, from the tests that the code made
 
-pub field-got : (k : ℕ) (o : List ℕ) (at : ℕ) {v : ℕ} → at + k ≤ length o → v ≡ value (octetsFrom o at 0 k) → Got v (at + k) ≡ fieldAt k o at
-unfolding fieldAt
-field-got k o at h e = rw (le-leb _ _ h, e, from-part o at 0 k (omega arith), add-zero)
+module _ (k : ℕ) (o : List ℕ) (at : ℕ) where
+  pub field-got : {v : ℕ} → at + k ≤ length o → v ≡ value (octetsFrom o at 0 k) → got v (at + k) ≡ number k o at
+  field-got h e = sym (number-there k o at h ∙ ap (λ v. got v (at + k)) (number-is k o at h ∙ sym e))
 
-pub field-short : (k : ℕ) (o : List ℕ) (at : ℕ) → length o < at + k → Short at ≡ fieldAt k o at
-unfolding fieldAt
-field-short k o at h = rw (lt-leb _ _ h)
+  pub field-short : length o < at + k → bad 6 at ≡ number k o at
+  unfolding number _>>=_ continue
+  field-short h = rw (octets-short k o at h)
+
+  pub skip-got : at + k ≤ length o → got 0 (at + k) ≡ ignored k o at
+  unfolding ignored _>>_ continue give
+  skip-got h = rw (octets-there k o at h)
+
+  pub skip-short : length o < at + k → bad 6 at ≡ ignored k o at
+  unfolding ignored _>>_ continue
+  skip-short h = rw (octets-short k o at h)
 
 pub write-next : (k : ℕ) (d : List ℕ) (at n : ℕ) → at + k ≤ length d → n < 256 ^ k
-    → (Next (at + k) ≡ writtenAt k d at) × (stores d at 0 (taken k n) ≡ fitted d at (be k n))
-unfolding writtenAt fitted
+    → (got tt (at + k) ≡ written k d at) × (stores d at 0 (taken k n) ≡ fitted d at (be k n))
+unfolding written fitted
 write-next k d at n h s =
     let r : at + length (be k n) ≤ length d = rw length-be h in
     (rw (le-leb _ _ h), rw (le-leb _ _ r, taken-be k n s, stores-put d at (be k n) r))
 
-pub write-full : (k : ℕ) (d : List ℕ) (at n : ℕ) → length d < at + k → (Full at ≡ writtenAt k d at) × (d ≡ fitted d at (be k n))
-unfolding writtenAt fitted
+pub write-full : (k : ℕ) (d : List ℕ) (at n : ℕ) → length d < at + k → (bad 8 at ≡ written k d at) × (d ≡ fitted d at (be k n))
+unfolding written fitted
 write-full k d at n h = (rw (lt-leb _ _ h), rw (length-be, lt-leb _ _ h))
 
 -- ---- and back: what a caller learns from an answer
 
-pub field-back : (k : ℕ) (o : List ℕ) (at : ℕ) {v n : ℕ} → fieldAt k o at ≡ Got v n
-    → (at + k ≤ length o) × (v ≡ value (take k (drop at o))) × (n ≡ at + k)
-unfolding fieldAt
-field-back k o at {v} {n} e = go (leb (at + k) (length o)) refl e
-  where
-    go : (b : Bool) → leb (at + k) (length o) ≡ b → cond b (Got (value (take k (drop at o))) (at + k)) (Short at) ≡ Got v n
-        → (at + k ≤ length o) × (v ≡ value (take k (drop at o))) × (n ≡ at + k)
-    go true t p = (leb-true _ _ t, cc, cc)
-    go false t p = let z : _≡_ {A = ℕ} 0 1 = cc in absurd (omega arith)
+-- of whatever was read: it was got, or it is cut and the caller hands up the place in the answer
+module _ {f : Field} {x : Read ℕ} where
+  pub read-got : {v n : ℕ} → fieldOf f ≡ x → f ≡ Got v n → x ≡ got v n
+  read-got e g = sym e ∙ ap fieldOf g
 
-pub field-lt : (k : ℕ) (o : List ℕ) (at : ℕ) {v n : ℕ} → fieldAt k o at ≡ Got v n → Octets o → v < 256 ^ k
-field-lt k o at e h =
-    let b = field-back k o at e in
-    let l : length (take k (drop at o)) ≡ k = length-take-le k (drop at o) (simp length-drop (omega arith)) in
-    rw (b .1) (rw l at (value-lt (take k (drop at o)) (octets-take k (drop at o) (octets-drop at o h))))
+  pub read-cut : {p q : ℕ} → fieldOf f ≡ x → f ≡ Short p → q ≡ placeOf (fieldOf f) → x ≡ bad 6 q
+  read-cut e g h = sym e ∙ ap fieldOf g ∙ ap (bad 6) (sym (h ∙ ap (λ f. placeOf (fieldOf f)) g))
 
-pub write-back : (k : ℕ) (d : List ℕ) (at n : ℕ) {m : ℕ} → writtenAt k d at ≡ Next m
+pub write-back : (k : ℕ) (d : List ℕ) (at n : ℕ) {r : Written} {m : ℕ} → writtenOf r ≡ written k d at → r ≡ Next m
     → (at + k ≤ length d) × (m ≡ at + k) × (fitted d at (be k n) ≡ put d at (be k n))
-unfolding writtenAt fitted
-write-back k d at n {m} e = go (leb (at + k) (length d)) refl e
+unfolding written fitted
+write-back k d at n {m = m} e g = go (leb (at + k) (length d)) refl (ap writtenOf (sym g) ∙ e)
   where
-    go : (b : Bool) → leb (at + k) (length d) ≡ b → cond b (Next (at + k)) (Full at) ≡ Next m
+    go : (b : Bool) → leb (at + k) (length d) ≡ b → got (tt {0}) m ≡ cond b (got tt (at + k)) (bad 8 at)
         → (at + k ≤ length d) × (m ≡ at + k) × (cond (leb (at + length (be k n)) (length d)) (put d at (be k n)) d ≡ put d at (be k n))
     go true t p = (leb-true _ _ t, cc, rw (length-be, t))
     go false t p = let z : _≡_ {A = ℕ} 0 1 = cc in absurd (omega arith)
@@ -353,10 +424,10 @@ length-fitted d at e = go (leb (at + length e) (length d)) refl
     go false t = refl
 
 -- a field that was written is read back
-pub field-put : (k : ℕ) (d : List ℕ) (at n : ℕ) → at + k ≤ length d → n < 256 ^ k → fieldAt k (put d at (be k n)) at ≡ Got n (at + k)
-unfolding fieldAt
+pub field-put : (k : ℕ) (d : List ℕ) (at n : ℕ) → at + k ≤ length d → n < 256 ^ k → number k (put d at (be k n)) at ≡ got n (at + k)
+unfolding numberAt
 field-put k d at n h s =
     let r : at + length (be k n) ≤ length d = rw length-be h in
     let l : at + k ≤ length (put d at (be k n)) = rw (length-put d at (be k n) r) h in
     let p : take k (drop at (put d at (be k n))) ≡ be k n = rw length-be at (part-put d at (be k n) (omega arith)) in
-    rw (le-leb _ _ l, p, value-be k n s)
+    rw (number-there k (put d at (be k n)) at l, p, value-be k n s)

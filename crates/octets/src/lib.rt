@@ -1,11 +1,12 @@
-// Field readers and writers at any place of a slice: numbers of 8, 16 and 32 bits, big-endian. Each is
-// total: a place from which the field does not fit is answered, and never reached. `number16` and `number32`
-// are for callers who know that the field is there.
+// Field readers and writers at any place of a slice: numbers of 8, 16 and 32 bits, big-endian, and octets that
+// are skipped. Each is total: a place from which the field does not fit is answered, and never reached.
+// `number16` and `number32` are for callers who know that the field is there.
 ghost use mathlib.Core.Path.{_≡_};
 ghost use Prim.Native.Nat.{_-_, _<_};
 ghost use lib.ListN.{length};
 ghost use Rattle.octets.specs.Octets.{numberAt, be};
-ghost use Rattle.octets.specs.Field.{fieldAt, writtenAt, fitted};
+ghost use Rattle.octets.specs.Reader.{number};
+ghost use Rattle.octets.specs.Field.{fieldOf, placeOf, ignored, writtenOf, written, fitted};
 
 // What reading a field finds.
 pub enum Field {
@@ -41,7 +42,7 @@ fn left(n: usize, at: usize) -> usize
 }
 
 pub fn read8(s: &[u8], at: usize) -> Field
-    ensures { λ r. ⌜ r ≡ fieldAt 1 (now (s .entry)) at ⌝ }
+    ensures { λ r. ⌜ fieldOf r ≡ number 1 (now (s .entry)) at ⌝ }
 {
     if left(s.len(), at) < 1 {
         return Field::Short { place: at };
@@ -53,7 +54,7 @@ pub fn read8(s: &[u8], at: usize) -> Field
 }
 
 pub fn read16(s: &[u8], at: usize) -> Field
-    ensures { λ r. ⌜ r ≡ fieldAt 2 (now (s .entry)) at ⌝ }
+    ensures { λ r. ⌜ fieldOf r ≡ number 2 (now (s .entry)) at ⌝ }
 {
     if left(s.len(), at) < 2 {
         return Field::Short { place: at };
@@ -67,7 +68,7 @@ pub fn read16(s: &[u8], at: usize) -> Field
 }
 
 pub fn read32(s: &[u8], at: usize) -> Field
-    ensures { λ r. ⌜ r ≡ fieldAt 4 (now (s .entry)) at ⌝ }
+    ensures { λ r. ⌜ fieldOf r ≡ number 4 (now (s .entry)) at ⌝ }
 {
     if left(s.len(), at) < 4 {
         return Field::Short { place: at };
@@ -79,6 +80,32 @@ pub fn read32(s: &[u8], at: usize) -> Field
     Field::Got {
         value: ((a * 256 + b) * 256 + c) * 256 + d,
         next: at + 4,
+    }
+}
+
+// So many octets, whatever they are: their value is answered as 0.
+pub fn skip(s: &[u8], at: usize, n: usize) -> Field
+    ensures { λ r. ⌜ fieldOf r ≡ ignored n (now (s .entry)) at ⌝ }
+{
+    if s.len() < at {
+        return Field::Short { place: at };
+    }
+    if s.len() - at < n {
+        return Field::Short { place: at };
+    }
+    Field::Got {
+        value: 0,
+        next: at + n,
+    }
+}
+
+// The place in an answer, so that a caller hands up the reader's own: past the field, or where a cut one was due.
+pub fn place(f: Field) -> usize
+    ensures { λ r. ⌜ r ≡ placeOf (fieldOf f) ⌝ }
+{
+    match f {
+        Field::Got { value: _, next } => next,
+        Field::Short { place } => place,
     }
 }
 
@@ -122,7 +149,7 @@ pub fn number32(s: &[u8], at: usize) -> u32
 }
 
 pub fn write8(d: &mut [u8], at: usize, n: u8) -> Written
-    ensures answer { λ r. ⌜ r ≡ writtenAt 1 (now (d .entry)) at ⌝ }
+    ensures answer { λ r. ⌜ writtenOf r ≡ written 1 (now (d .entry)) at ⌝ }
     ensures buffer { λ _. ⌜ now (d .exit) ≡ fitted (now (d .entry)) at (be 1 n) ⌝ }
 {
     if left(d.len(), at) < 1 {
@@ -133,7 +160,7 @@ pub fn write8(d: &mut [u8], at: usize, n: u8) -> Written
 }
 
 pub fn write16(d: &mut [u8], at: usize, n: u16) -> Written
-    ensures answer { λ r. ⌜ r ≡ writtenAt 2 (now (d .entry)) at ⌝ }
+    ensures answer { λ r. ⌜ writtenOf r ≡ written 2 (now (d .entry)) at ⌝ }
     ensures buffer { λ _. ⌜ now (d .exit) ≡ fitted (now (d .entry)) at (be 2 n) ⌝ }
 {
     if left(d.len(), at) < 2 {
@@ -145,7 +172,7 @@ pub fn write16(d: &mut [u8], at: usize, n: u16) -> Written
 }
 
 pub fn write32(d: &mut [u8], at: usize, n: u32) -> Written
-    ensures answer { λ r. ⌜ r ≡ writtenAt 4 (now (d .entry)) at ⌝ }
+    ensures answer { λ r. ⌜ writtenOf r ≡ written 4 (now (d .entry)) at ⌝ }
     ensures buffer { λ _. ⌜ now (d .exit) ≡ fitted (now (d .entry)) at (be 4 n) ⌝ }
 {
     if left(d.len(), at) < 4 {

@@ -23,7 +23,8 @@ use Rattle.reading.specs.Plain.{plainAddresses, plainGroupRecord, plainG
 use Rattle.fields.proofs.Skipped.{no-got, continue-back}
 use Rattle.counting.proofs.Tallied.{positive-back}
 use Rattle.reading.proofs.Copying.{length-addresses}
-use Rattle.fields.proofs.Fields.{octets-back, number-back, group-back, source-back}
+use Rattle.octets.proofs.Laws.{octets-back, number-back}
+use Rattle.fields.proofs.Fields.{group-back, source-back}
 
 -- what a reader that gave a value at a place gave, and where it stopped
 pub record Back {A : Type 0} (o : List ℕ) (at : ℕ) (a : A) (n : ℕ) (plain : A) (size : ℕ) : Type 0 where

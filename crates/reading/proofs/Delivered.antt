@@ -25,7 +25,7 @@ use Rattle.fields.specs.Answers.{plainAssert, plainPair}
 use Rattle.reading.specs.Plain.{plainAsserts, plainPairs, plainAggregated, plainRecords}
 use Rattle.reading.specs.Calls.{valueOf, HasCounted}
 use Rattle.fields.proofs.Skipped.{no-got, continue-back}
-use Rattle.fields.proofs.Fields.{octets-back, number-back}
+use Rattle.octets.proofs.Laws.{octets-back, number-back}
 use Rattle.fields.proofs.Plain.{assert-back, pair-back}
 use Rattle.reading.proofs.Copying.{size-least}
 use Rattle.reading.proofs.Aggregates.{Back, got-value, got-place, handUp-back, aggregated-back, aggregates-back}

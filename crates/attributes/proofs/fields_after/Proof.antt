@@ -1,14 +1,14 @@
 -- `attributes::fields_after` meets its contract: cut in a field, of a length against the options, or as its values come to.
 -- Assumes nothing.
-use mathlib.Core.Path.{_≡_, sym, _∙_}
+use mathlib.Core.Path.{_≡_, refl, sym, _∙_}
 use native.Mathlib.Omega.{arith}
 use denote.Ref.{now}
 use borrow.Author.Needs.{needs}
 use Rattle.octets.specs.Octets.{Octets}
-use Rattle.octets.proofs.Laws.{field-lt}
+use Rattle.octets.proofs.Laws.{number-lt, read-got, read-cut}
 use Rattle.format.specs.Reader.{got, number, _>>=_}
 use Rattle.attributes.specs.Answers.{fieldsAfter}
-use Rattle.attributes.proofs.Readings.{refused, number-is, then-got, then-bad, must-no, must-bad, agrees-least, fields-read}
+use Rattle.attributes.proofs.Readings.{refused, then-got, then-bad, must-no, must-bad, agrees-least, fields-read}
 use Rattle.attributes.proofs.fields_after.Statement.{statement}
 use Rattle.attributes.proofs.fields_after.Tie as tie
 
@@ -28,16 +28,16 @@ octets c i = start c .shared-slice-known .given i .fits
 
 mtu : (c : tie.After-known-told)
     → number 2 (now (start c .before .args .o)) (start c .before .args .at) ≡ got (c .before .m .given .0 .0) (c .before .m .given .0 .1 .0)
-mtu c = number-is 2 _ _ (c .before .before .before .read16 .ensures) (c .before .m .given .1)
+mtu c = read-got (c .before .before .before .read16 .ensures) (c .before .m .given .1)
 
 flags : (c : tie.After-known-told2)
     → number 2 (now (start (first c) .before .args .o)) (first c .before .m .given .0 .1 .0) ≡ got (c .before .f .given .0 .0) (c .before .f .given .0 .1 .0)
-flags c = number-is 2 _ _ (c .before .before .before .read162 .ensures) (c .before .f .given .1)
+flags c = read-got (c .before .before .before .read162 .ensures) (c .before .f .given .1)
 
 options : (c : tie.After-known-told3)
     → number 2 (now (start (first (second c)) .before .args .o)) (second c .before .f .given .0 .1 .0)
     ≡ got (c .before .w .given .0 .0) (c .before .w .given .0 .1 .0)
-options c = number-is 2 _ _ (c .before .before .before .read163 .ensures) (c .before .w .given .1)
+options c = read-got (c .before .before .before .read163 .ensures) (c .before .w .given .1)
 
 read16-requires : tie.Need-read16-requires
 read16-requires c κs = search needs
@@ -48,15 +48,15 @@ enum-known-m c = search needs
 enum-told : tie.Need-enum-told
 enum-told c = search needs
 
-bad-requires : tie.Need-bad-requires
-bad-requires c κs = search needs
+cut-requires : tie.Need-cut-requires
+cut-requires c κs = search needs
 
 returns : tie.Need-returns
 unfolding fieldsAfter _>>=_
-returns c = refused (c .bad .ensures) ∙ sym (then-bad _ (number-is 2 _ _ (c .before .before .before .read16 .ensures) (c .before .enum-told .given .1)))
+returns c = c .cut .ensures ∙ sym (then-bad _ (read-cut (c .before .before .before .read16 .ensures) (c .before .enum-told .given .1) refl))
 
 cast-mtu : tie.Need-cast-mtu
-cast-mtu c = record { fits = field-lt 2 _ _ (sym (c .before .before .before .read16 .ensures) ∙ c .before .m .given .1) (octets c) }
+cast-mtu c = record { fits = number-lt 2 _ _ (read-got (c .before .before .before .read16 .ensures) (c .before .m .given .1)) (octets c) }
 
 read16-requires-2 : tie.Need-read16-requires-2
 read16-requires-2 c κs = search needs
@@ -67,18 +67,18 @@ enum-known-f c = search needs
 enum-told-2 : tie.Need-enum-told-2
 enum-told-2 c = search needs
 
-bad-requires-2 : tie.Need-bad-requires-2
-bad-requires-2 c κs = search needs
+cut-requires-2 : tie.Need-cut-requires-2
+cut-requires-2 c κs = search needs
 
 returns-2 : tie.Need-returns-2
 unfolding fieldsAfter _>>=_
 returns-2 c =
     let d = c .before .before .before .before in
-    refused (c .bad2 .ensures)
-    ∙ sym (then-got _ (mtu d) ∙ then-bad _ (number-is 2 _ _ (c .before .before .before .read162 .ensures) (c .before .enum-told2 .given .1)))
+    c .cut2 .ensures
+    ∙ sym (then-got _ (mtu d) ∙ then-bad _ (read-cut (c .before .before .before .read162 .ensures) (c .before .enum-told2 .given .1) refl))
 
 cast-flags : tie.Need-cast-flags
-cast-flags c = record { fits = field-lt 2 _ _ (sym (c .before .before .before .read162 .ensures) ∙ c .before .f .given .1) (octets (first c)) }
+cast-flags c = record { fits = number-lt 2 _ _ (read-got (c .before .before .before .read162 .ensures) (c .before .f .given .1)) (octets (first c)) }
 
 read16-requires-3 : tie.Need-read16-requires-3
 read16-requires-3 c κs = search needs
@@ -89,19 +89,19 @@ enum-known-w c = search needs
 enum-told-3 : tie.Need-enum-told-3
 enum-told-3 c = search needs
 
-bad-requires-3 : tie.Need-bad-requires-3
-bad-requires-3 c κs = search needs
+cut-requires-3 : tie.Need-cut-requires-3
+cut-requires-3 c κs = search needs
 
 returns-3 : tie.Need-returns-3
 unfolding fieldsAfter _>>=_
 returns-3 c =
     let d = c .before .before .before .before in
-    refused (c .bad3 .ensures)
+    c .cut3 .ensures
     ∙ sym (then-got _ (mtu (first d)) ∙ then-got _ (flags d)
-    ∙ then-bad _ (must-bad 13 _ (number 2) _ _ (number-is 2 _ _ (c .before .before .before .read163 .ensures) (c .before .enum-told3 .given .1))))
+    ∙ then-bad _ (must-bad 13 _ (number 2) _ _ (read-cut (c .before .before .before .read163 .ensures) (c .before .enum-told3 .given .1) refl)))
 
 cast-options : tie.Need-cast-options
-cast-options c = record { fits = field-lt 2 _ _ (sym (c .before .before .before .read163 .ensures) ∙ c .before .w .given .1) (octets (first (second c))) }
+cast-options c = record { fits = number-lt 2 _ _ (read-got (c .before .before .before .read163 .ensures) (c .before .w .given .1)) (octets (first (second c))) }
 
 length-agrees-requires : tie.Need-length-agrees-requires
 length-agrees-requires c κs = search needs
@@ -128,8 +128,8 @@ returns-4 c =
     fields-read _ _ _ _ (c .values-after .ensures) (c .before .sizes .ensures .0) (mtu (first (second d))) (flags (second d)) (options d)
     (sym (l .length-agrees .ensures) ∙ t .if1 .taken)
 
-bad-requires-4 : tie.Need-bad-requires-4
-bad-requires-4 c κs = search needs
+bad-requires : tie.Need-bad-requires
+bad-requires c κs = search needs
 
 returns-5 : tie.Need-returns-5
 unfolding fieldsAfter _>>=_
@@ -137,7 +137,7 @@ returns-5 c =
     let t = c .before in
     let l = t .before in
     let d = l .before in
-    refused (c .bad4 .ensures)
+    refused (c .bad .ensures)
     ∙ sym (then-got _ (mtu (first (second d))) ∙ then-got _ (flags (second d))
     ∙ then-bad _ (must-no 13 _ (number 2) _ _ (options d) (sym (l .length-agrees .ensures) ∙ t .if1 .left)))
 
@@ -148,19 +148,19 @@ fields-after-spec =
     read16-requires
     enum-known-m
     enum-told
-    bad-requires
+    cut-requires
     returns
     cast-mtu
     read16-requires-2
     enum-known-f
     enum-told-2
-    bad-requires-2
+    cut-requires-2
     returns-2
     cast-flags
     read16-requires-3
     enum-known-w
     enum-told-3
-    bad-requires-3
+    cut-requires-3
     returns-3
     cast-options
     length-agrees-requires
@@ -169,5 +169,5 @@ fields-after-spec =
     sub-values-after
     values-after-requires
     returns-4
-    bad-requires-4
+    bad-requires
     returns-5)

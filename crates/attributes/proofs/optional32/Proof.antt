@@ -2,6 +2,7 @@
 -- Assumes nothing.
 use mathlib.Core.Path.{sym, _∙_}
 use borrow.Author.Needs.{needs}
+use Rattle.format.specs.Reader.{give}
 use Rattle.attributes.specs.Answers.{optionAt}
 use Rattle.attributes.proofs.optional32.Statement.{statement}
 use Rattle.attributes.proofs.optional32.Tie as tie
@@ -17,7 +18,7 @@ unfolding optionAt
 returns c = rw (c .read32 .ensures, sym (c .before .before .has-bit .ensures) ∙ c .before .if1 .taken)
 
 returns-2 : tie.Need-returns-2
-unfolding optionAt
+unfolding optionAt give
 returns-2 c = rw (sym (c .before .has-bit .ensures) ∙ c .if1 .left)
 
 pub optional32-spec : {M : Type 1} → statement M

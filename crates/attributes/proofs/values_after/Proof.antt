@@ -1,14 +1,25 @@
 -- `attributes::values_after` meets its contract: cut in a value or in the octets that are ignored, or all there.
 -- Assumes nothing.
-use mathlib.Core.Path.{sym, ap, _∙_}
-use native.Mathlib.Omega.{arith}
+use mathlib.Core.Path.{_≡_, refl, sym, ap, _∙_}
 use denote.Ref.{now}
 use borrow.Author.Needs.{needs}
-use Rattle.format.specs.Reader.{_>>=_, _>>_, give}
+use Rattle.octets.proofs.Laws.{ignored-got, ignored-bad, read-got, read-cut}
+use Rattle.format.specs.Reader.{got, _>>=_, _>>_, give}
+use Rattle.attributes.specs.Attribute.{values}
 use Rattle.attributes.specs.Answers.{readBy, valuesBy, valuesAfter}
-use Rattle.attributes.proofs.Readings.{refused, then-got, then-bad, octets-short, octets-there}
+use Rattle.attributes.proofs.Readings.{refused, then-got, then-bad}
 use Rattle.attributes.proofs.values_after.Statement.{statement}
 use Rattle.attributes.proofs.values_after.Tie as tie
+
+-- where the function begins
+abbrev start : tie.After-known-told2 → tie.Start
+start c = c .before .before .before .before .before
+
+-- the values are there
+found : (c : tie.After-known-told2)
+    → values (start c .args .fixed .options) (now (start c .args .o)) (start c .args .at) ≡ got (c .before .v2 .given .0 .0) (c .before .v2 .given .0 .1 .0)
+unfolding valuesBy
+found c = sym (c .before .before .before .all-values .ensures) ∙ ap valuesBy (c .before .v2 .given .1)
 
 all-values-requires : tie.Need-all-values-requires
 all-values-requires c κs = search needs
@@ -22,53 +33,41 @@ bad-requires c κs = search needs
 enum-known-v-2 : tie.Need-enum-known-v-2
 enum-known-v-2 c = search needs
 
-bad-requires-2 : tie.Need-bad-requires-2
-bad-requires-2 c κs = search needs
+skip-requires : tie.Need-skip-requires
+skip-requires c κs = search needs
+
+enum-known-f : tie.Need-enum-known-f
+enum-known-f c = search needs
+
+enum-told : tie.Need-enum-told
+enum-told c = search needs
+
+cut-requires : tie.Need-cut-requires
+cut-requires c κs = search needs
 
 returns : tie.Need-returns
-unfolding valuesBy valuesAfter _>>=_ _>>_
+unfolding valuesAfter _>>=_ _>>_
 returns c =
-    let d = c .before .before in
-    let r = d .before .before .before in
-    let a = r .before .before .args in
-    refused (c .bad2 .ensures)
-    ∙ sym (then-got _ (sym (r .all-values .ensures) ∙ ap valuesBy (d .before .v2 .given .1))
-    ∙ then-bad _ (octets-short (a .ignored) (now (a .o)) _ (omega arith)))
-
-sub-if2 : tie.Need-sub-if2
-sub-if2 c = search needs
-
-bad-requires-3 : tie.Need-bad-requires-3
-bad-requires-3 c κs = search needs
+    let r = c .before .before .before in
+    let a = start (r .before) .args in
+    c .cut .ensures
+    ∙ sym (then-got _ (found (r .before))
+    ∙ then-bad _ (ignored-bad (a .ignored) (now (a .o)) _ (read-cut (r .skip .ensures) (c .before .enum-told .given .1) refl)))
 
 returns-2 : tie.Need-returns-2
 unfolding valuesBy valuesAfter _>>=_ _>>_
 returns-2 c =
-    let d = c .before .before .before in
-    let r = d .before .before .before in
-    let a = r .before .before .args in
-    refused (c .bad3 .ensures)
-    ∙ sym (then-got _ (sym (r .all-values .ensures) ∙ ap valuesBy (d .before .v2 .given .1))
-    ∙ then-bad _ (octets-short (a .ignored) (now (a .o)) _ (omega arith)))
-
-add-t12 : tie.Need-add-t12
-add-t12 c = search needs
-
-returns-3 : tie.Need-returns-3
-unfolding valuesBy valuesAfter _>>=_ _>>_
-returns-3 c =
     let d = c .before in
     let r = d .before .before .before in
     refused (c .bad .ensures) ∙ sym (then-bad _ (sym (r .all-values .ensures) ∙ ap valuesBy (d .before .v .given .1)))
 
-returns-4 : tie.Need-returns-4
-unfolding valuesBy valuesAfter _>>=_ _>>_ readBy give
-returns-4 c =
-    let d = c .before .before in
-    let r = d .before .before .before in
-    let a = r .before .before .args in
-    sym (then-got _ (sym (r .all-values .ensures) ∙ ap valuesBy (d .before .v2 .given .1))
-    ∙ then-got _ (octets-there (a .ignored) (now (a .o)) _ (omega arith)))
+returns-3 : tie.Need-returns-3
+unfolding valuesAfter _>>=_ _>>_ readBy give
+returns-3 c =
+    let r = c .before .before .before in
+    let a = start (r .before) .args in
+    sym (then-got _ (found (r .before))
+    ∙ then-got _ (ignored-got (a .ignored) (now (a .o)) _ (read-got (r .skip .ensures) (c .before .f .given .1))))
 
 pub values-after-spec : {M : Type 1} → statement M
 values-after-spec =
@@ -78,11 +77,10 @@ values-after-spec =
     enum-known-v
     bad-requires
     enum-known-v-2
-    bad-requires-2
+    skip-requires
+    enum-known-f
+    enum-told
+    cut-requires
     returns
-    sub-if2
-    bad-requires-3
     returns-2
-    add-t12
-    returns-3
-    returns-4)
+    returns-3)

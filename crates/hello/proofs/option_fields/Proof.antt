@@ -3,6 +3,7 @@
 use mathlib.Core.Path.{refl, sym, _∙_}
 use borrow.Author.Needs.{needs}
 use denote.Ref.{now}
+use Rattle.octets.proofs.Laws.{read-got, read-cut}
 use Rattle.hello.specs.Answers.{saidBy}
 use Rattle.hello.proofs.Laws.{stepped-bad, Head, head, no-type, no-length, head-capability, head-wrong, head-known, head-unknown}
 use Rattle.hello.proofs.option_fields.Statement.{statement}
@@ -15,7 +16,7 @@ found : (c : tie.After-known-told2)
 found c =
     let l = c .before .before .before in
     let t = l .before .before in
-    head _ _ (sym (t .before .before .read16 .ensures) ∙ t .t .given .1) (sym (l .read162 .ensures) ∙ c .before .l .given .1)
+    head _ _ (read-got (t .before .before .read16 .ensures) (t .t .given .1)) (read-got (l .read162 .ensures) (c .before .l .given .1))
 
 read16-requires : tie.Need-read16-requires
 read16-requires c κs = search needs
@@ -26,15 +27,15 @@ enum-known-t c = search needs
 enum-told : tie.Need-enum-told
 enum-told c = search needs
 
-bad-requires : tie.Need-bad-requires
-bad-requires c κs = search needs
+cut-requires : tie.Need-cut-requires
+cut-requires c κs = search needs
 
 returns : tie.Need-returns
 returns c =
     let r = c .before .before .before in
     let a = r .before .before .args in
-    stepped-bad (c .bad .ensures)
-    ∙ sym (no-type (saidBy (a .h)) (now (a .m)) (a .at) (sym (r .read16 .ensures) ∙ c .before .enum-told .given .1))
+    c .cut .ensures
+    ∙ sym (no-type (saidBy (a .h)) (now (a .m)) (a .at) (read-cut (r .read16 .ensures) (c .before .enum-told .given .1) refl))
 
 read16-requires-2 : tie.Need-read16-requires-2
 read16-requires-2 c κs = search needs
@@ -45,16 +46,18 @@ enum-known-l c = search needs
 enum-told-2 : tie.Need-enum-told-2
 enum-told-2 c = search needs
 
-bad-requires-2 : tie.Need-bad-requires-2
-bad-requires-2 c κs = search needs
+cut-requires-2 : tie.Need-cut-requires-2
+cut-requires-2 c κs = search needs
 
 returns-2 : tie.Need-returns-2
 returns-2 c =
     let l = c .before .before .before in
     let t = l .before .before in
     let a = t .before .before .before .before .args in
-    stepped-bad (c .bad2 .ensures)
-    ∙ sym (no-length (saidBy (a .h)) (now (a .m)) (a .at) (sym (t .before .before .read16 .ensures) ∙ t .t .given .1) (sym (l .read162 .ensures) ∙ c .before .enum-told2 .given .1))
+    c .cut2 .ensures
+    ∙ sym
+    (no-length (saidBy (a .h)) (now (a .m)) (a .at) (read-got (t .before .before .read16 .ensures) (t .t .given .1))
+    (read-cut (l .read162 .ensures) (c .before .enum-told2 .given .1) refl))
 
 slice-aggregate-four-at : tie.Need-slice-aggregate-four-at
 slice-aggregate-four-at c = search needs
@@ -72,14 +75,14 @@ returns-3 c =
     c .capability .ensures (now (a .m))
     ∙ sym (head-capability (found k) (saidBy (a .h)) (sym (c .before .before .four-at .ensures) ∙ c .before .if1 .taken))
 
-bad-requires-3 : tie.Need-bad-requires-3
-bad-requires-3 c κs = search needs
+bad-requires : tie.Need-bad-requires
+bad-requires c κs = search needs
 
 returns-4 : tie.Need-returns-4
 returns-4 c =
     let k = c .before .before .before .before .before in
     let l = k .before .before .before .before .before .before .before .before in
-    stepped-bad (c .bad3 .ensures)
+    stepped-bad (c .bad .ensures)
     ∙ sym
     (head-wrong (found k) (saidBy (l .before .args .h)) (λ i. l .shared-slice-known .given i .fits) (c .before .if2 .taken)
     (sym (c .before .before .before .four-at .ensures) ∙ c .before .before .if1 .left))
@@ -120,18 +123,18 @@ option-fields-spec =
     read16-requires
     enum-known-t
     enum-told
-    bad-requires
+    cut-requires
     returns
     read16-requires-2
     enum-known-l
     enum-told-2
-    bad-requires-2
+    cut-requires-2
     returns-2
     slice-aggregate-four-at
     four-at-requires
     capability-requires
     returns-3
-    bad-requires-3
+    bad-requires
     returns-4
     holdtime-requires
     returns-5

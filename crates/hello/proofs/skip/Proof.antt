@@ -1,42 +1,39 @@
 -- `hello::skip` meets its contract, by whether as many octets are there.
 -- Assumes nothing.
-use mathlib.Core.Path.{sym, _∙_}
-use native.Mathlib.Omega.{arith}
+use mathlib.Core.Path.{refl, sym, _∙_}
 use borrow.Author.Needs.{needs}
 use denote.Ref.{now}
+use Rattle.octets.proofs.Laws.{ignored-got, ignored-bad, read-got, read-cut}
 use Rattle.hello.specs.Answers.{saidBy, stepped}
-use Rattle.hello.proofs.Laws.{stepped-bad, skipped-short, skipped-there}
+use Rattle.hello.proofs.Laws.{skipped-cut, skipped-there}
 use Rattle.hello.proofs.skip.Statement.{statement}
 use Rattle.hello.proofs.skip.Tie as tie
 
-bad-requires : tie.Need-bad-requires
-bad-requires c κs = search needs
+skip-requires : tie.Need-skip-requires
+skip-requires c κs = search needs
+
+enum-known-f : tie.Need-enum-known-f
+enum-known-f c = search needs
+
+enum-told : tie.Need-enum-told
+enum-told c = search needs
+
+cut-requires : tie.Need-cut-requires
+cut-requires c κs = search needs
 
 returns : tie.Need-returns
 returns c =
-    let a = c .before .before .before .args in
-    stepped-bad (c .bad .ensures) ∙ sym (skipped-short (saidBy (a .h)) (a .len) (now (a .m)) (a .at) (omega arith))
-
-sub-if2 : tie.Need-sub-if2
-sub-if2 c = search needs
-
-bad-requires-2 : tie.Need-bad-requires-2
-bad-requires-2 c κs = search needs
+    let r = c .before .before .before in
+    let a = r .before .before .args in
+    c .cut .ensures
+    ∙ sym (skipped-cut (saidBy (a .h)) (a .len) (now (a .m)) (a .at) (ignored-bad (a .len) (now (a .m)) (a .at) (read-cut (r .skip .ensures) (c .before .enum-told .given .1) refl)))
 
 returns-2 : tie.Need-returns-2
-returns-2 c =
-    let a = c .before .before .before .before .args in
-    stepped-bad (c .bad2 .ensures) ∙ sym (skipped-short (saidBy (a .h)) (a .len) (now (a .m)) (a .at) (omega arith))
-
-add-t6 : tie.Need-add-t6
-add-t6 c = search needs
-
-returns-3 : tie.Need-returns-3
 unfolding stepped
-returns-3 c =
-    let a = c .before .before .before .args in
-    sym (skipped-there (saidBy (a .h)) (a .len) (now (a .m)) (a .at) (omega arith))
+returns-2 c =
+    let r = c .before .before .before in
+    let a = r .before .before .args in
+    sym (skipped-there (saidBy (a .h)) (a .len) (now (a .m)) (a .at) (ignored-got (a .len) (now (a .m)) (a .at) (read-got (r .skip .ensures) (c .before .f .given .1))))
 
 pub skip-spec : {M : Type 1} → statement M
-skip-spec =
-    tie.close (tie.spec bad-requires returns sub-if2 bad-requires-2 returns-2 add-t6 returns-3)
+skip-spec = tie.close (tie.spec skip-requires enum-known-f enum-told cut-requires returns returns-2)

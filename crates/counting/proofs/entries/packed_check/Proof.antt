@@ -1,59 +1,136 @@
--- `counting::entries::packed_check` meets its contract, by the law for the test that it made.
+-- `counting::entries::packed_check` meets its contract: cut in Zero, or Zero not 0; cut in Reserved; then whether a record begins.
 -- Assumes nothing.
+use Prim.Native.Nat.{_+_, _≤_}
 use native.Mathlib.Omega.{arith}
+use mathlib.Core.Path.{_≡_, sym, ap, _∙_}
 use borrow.Author.Needs.{needs}
 use denote.Ref.{now}
-use Rattle.fields.specs.Answers.{checked, skipped}
-use Rattle.counting.proofs.Bodies.{start-none, start-zero, start-cut, start-empty, start-some}
+use lib.ListN.{length}
+use Rattle.format.specs.Reader.{handUp, octets}
+use Rattle.fields.specs.Answers.{checked}
+use Rattle.fields.proofs.Skipped.{refused}
+use Rattle.fields.proofs.Fields.{octets-room}
+use Rattle.counting.proofs.Bodies.{zero-cut, zero-wrong, reserved-cut, start-empty, start-some}
 use Rattle.counting.proofs.entries.packed_check.Statement.{statement}
 use Rattle.counting.proofs.entries.packed_check.Tie as tie
+
+-- where the function begins
+abbrev start : tie.After-known-told → tie.Start
+start c = c .before .before .before .before .before
+
+-- Zero is there
+zero : (c : tie.After-known-told) → (4 + 1 ≤ length (now (start c .args .m))) × (c .before .z .given .0 .0 ≡ 4 + 1)
+zero c = octets-room 1 (now (start c .args .m)) 4 (c .before .z .given .1) (c .before .before .before .octets-check .ensures)
+
+-- past Zero, which is 0
+abbrev passed : tie.After-known-told2 → tie.Else1
+passed c = c .before .before .before .before
+
+-- Reserved is there
+reserved : (c : tie.After-known-told2)
+    → (passed c .before .before .before .z .given .0 .0 + 3 ≤ length (now (start (passed c .before .before) .args .m)))
+    × (c .before .r .given .0 .0 ≡ passed c .before .before .before .z .given .0 .0 + 3)
+reserved c =
+    let d = passed c .before .before in
+    octets-room 3 (now (start d .args .m)) (d .before .z .given .0 .0) (c .before .r .given .1) (c .before .before .before .octets-check2 .ensures)
+
+octets-check-requires : tie.Need-octets-check-requires
+octets-check-requires c κs = search needs
+
+enum-known-z : tie.Need-enum-known-z
+enum-known-z c = search needs
+
+enum-told : tie.Need-enum-told
+enum-told c = search needs
+
+in-record-requires : tie.Need-in-record-requires
+in-record-requires c κs = search needs
+
+returns : tie.Need-returns
+unfolding checked
+returns c =
+    let r = c .before .before .before in
+    let o = now (r .before .before .args .m) in
+    c .in-record .ensures
+    ∙ ap (λ z. handUp 4 (checked z)) (c .before .enum-told .given .1)
+    ∙ zero-cut o 4 (sym (refused (octets 1 o 4) (c .before .enum-told .given .1) (r .octets-check .ensures)))
+
+shared-slice-read-if1 : tie.Need-shared-slice-read-if1
+shared-slice-read-if1 c = omega (arith, zero (c .before) .0)
 
 bad-requires : tie.Need-bad-requires
 bad-requires c κs = search needs
 
-returns : tie.Need-returns
-unfolding checked skipped
-returns c = rw (c .bad .ensures, start-none (now (c .before .before .before .args .m)) (omega arith))
+in-record-requires-2 : tie.Need-in-record-requires-2
+in-record-requires-2 c κs = search needs
 
-shared-slice-read-if2 : tie.Need-shared-slice-read-if2
-shared-slice-read-if2 c = search needs
+returns-2 : tie.Need-returns-2
+unfolding checked
+returns-2 c =
+    let d = c .before .before .before .before in
+    c .in-record2 .ensures
+    ∙ ap (λ z. handUp 4 (checked z)) (c .before .bad .ensures)
+    ∙ zero-wrong (now (start d .args .m)) 4 (zero d .0) (c .before .before .if1 .taken)
+
+octets-check-requires-2 : tie.Need-octets-check-requires-2
+octets-check-requires-2 c κs = search needs
+
+enum-known-r : tie.Need-enum-known-r
+enum-known-r c = search needs
+
+enum-told-2 : tie.Need-enum-told-2
+enum-told-2 c = search needs
+
+in-record-requires-3 : tie.Need-in-record-requires-3
+in-record-requires-3 c κs = search needs
+
+returns-3 : tie.Need-returns-3
+unfolding checked
+returns-3 c =
+    let r = c .before .before .before in
+    let d = r .before .before .before in
+    let o = now (start d .args .m) in
+    c .in-record3 .ensures
+    ∙ ap (λ z. handUp 4 (checked z)) (c .before .enum-told2 .given .1)
+    ∙ reserved-cut o 4 (zero d .0) (r .before .if1 .left) (zero d .1)
+    (sym (refused (octets 3 o (d .before .z .given .0 .0)) (c .before .enum-told2 .given .1) (r .octets-check2 .ensures)))
 
 bad-requires-2 : tie.Need-bad-requires-2
 bad-requires-2 c κs = search needs
 
-returns-2 : tie.Need-returns-2
-unfolding checked skipped
-returns-2 c = rw (c .bad2 .ensures, start-zero (now (c .before .before .before .before .before .args .m)) (omega arith) (c .before .if2 .taken))
-
-bad-requires-3 : tie.Need-bad-requires-3
-bad-requires-3 c κs = search needs
-
-returns-3 : tie.Need-returns-3
-unfolding checked skipped
-returns-3 c = rw (c .bad3 .ensures, start-cut (now (c .before .before .before .before .before .before .args .m)) (omega arith) (c .before .before .if2 .left) (omega arith))
-
-bad-requires-4 : tie.Need-bad-requires-4
-bad-requires-4 c κs = search needs
-
 returns-4 : tie.Need-returns-4
-unfolding checked skipped
-returns-4 c = rw (c .bad4 .ensures, start-empty (now (c .before .before .before .before .before .before .before .args .m)) (c .before .before .before .if2 .left) (omega arith))
+unfolding checked
+returns-4 c =
+    let e = c .before .before in
+    let d = passed e .before .before in
+    ap checked (c .bad2 .ensures)
+    ∙ start-empty (now (start d .args .m)) 4 (zero d .0) (passed e .if1 .left) (omega (arith, zero d .1, reserved e .1)) (omega (arith, reserved e)) (c .before .if2 .taken)
 
 returns-5 : tie.Need-returns-5
-unfolding checked skipped
-returns-5 c = rw (start-some (now (c .before .before .before .before .before .before .args .m)) (c .before .before .if2 .left) (omega arith))
+unfolding checked
+returns-5 c =
+    let e = c .before in
+    let d = passed e .before .before in
+    start-some (now (start d .args .m)) 4 (zero d .0) (passed e .if1 .left) (omega (arith, zero d .1, reserved e .1)) (omega (arith, reserved e)) (c .if2 .left)
 
 pub packed-check-spec : {M : Type 1} → statement M
 packed-check-spec =
     tie.close
     (tie.spec
-    bad-requires
+    octets-check-requires
+    enum-known-z
+    enum-told
+    in-record-requires
     returns
-    shared-slice-read-if2
-    bad-requires-2
+    shared-slice-read-if1
+    bad-requires
+    in-record-requires-2
     returns-2
-    bad-requires-3
+    octets-check-requires-2
+    enum-known-r
+    enum-told-2
+    in-record-requires-3
     returns-3
-    bad-requires-4
+    bad-requires-2
     returns-4
     returns-5)
