@@ -3,18 +3,26 @@
 // is proved safe and ending, and what is computed for a line comes from functions with contracts.
 //
 // value.rt     the numbers of an entry
+// words.rt     what the number of a refusal means
 // line.rt      the lines
+//
+// Programs that name what they list, or list what no message holds, call `show`, `title`, `record`, `refused` and `number`.
 mod line;
 mod value;
+mod words;
 
 use format::Kind;
+use format::Record;
+use format::Refusal;
 use hello::HelloRead;
 use libc::STDERR_FILENO;
 use line::assert_lines;
 use line::heading;
 use line::hello_lines;
 use line::pair_lines;
-use line::refused;
+use line::record_line;
+use line::refused_line;
+use line::text;
 use reading::Headed;
 use reading::Reading;
 ghost use mathlib.Core.Path.{_≡_};
@@ -40,7 +48,7 @@ fn list_hello(m: &[u8]) -> bool {
     let h = hello::read_hello(m);
     match h {
         HelloRead::Is(says) => hello_lines(says),
-        HelloRead::Refused(r) => refused(r),
+        HelloRead::Refused(r) => refused_line(r),
     }
 }
 
@@ -49,7 +57,7 @@ fn list_asserts(m: &[u8]) -> bool {
     let found = reading::read_asserts(m, &mut entries);
     match found {
         Reading::Entries { kind, count } => heading(kind, count) && assert_lines(&entries, count),
-        Reading::Refused(r) => refused(r),
+        Reading::Refused(r) => refused_line(r),
     }
 }
 
@@ -58,7 +66,7 @@ fn list_pairs(m: &[u8]) -> bool {
     let found = reading::read_pairs(m, &mut entries);
     match found {
         Reading::Entries { kind, count } => heading(kind, count) && pair_lines(&entries, count),
-        Reading::Refused(r) => refused(r),
+        Reading::Refused(r) => refused_line(r),
     }
 }
 
@@ -66,7 +74,7 @@ fn list_pairs(m: &[u8]) -> bool {
 fn list_message(m: &[u8]) -> bool {
     let h = reading::header(m);
     match h {
-        Headed::Refused(r) => refused(r),
+        Headed::Refused(r) => refused_line(r),
         Headed::Is(kind) => match kind {
             Kind::Hello => list_hello(m),
             Kind::Assert => list_asserts(m),
@@ -78,12 +86,43 @@ fn list_message(m: &[u8]) -> bool {
     }
 }
 
-// Lists a message. Where standard output takes no more, standard error says so.
-pub fn list(m: &[u8]) {
-    if !list_message(m) {
+// Where standard output takes no more, standard error says so.
+fn told(written: bool) {
+    if !written {
         io::write_all(
             STDERR_FILENO,
             b"the listing was cut: standard output failed\n",
         );
     }
+}
+
+// Lists a message.
+pub fn list(m: &[u8]) {
+    told(list_message(m));
+}
+
+// A line with a name.
+pub fn title(name: &[u8]) {
+    told(text(name) && text(b"\n"));
+}
+
+// A message with its name.
+pub fn show(name: &[u8], m: &[u8]) {
+    title(name);
+    list(m);
+}
+
+// A record that was read singly, with its number.
+pub fn record(n: usize, r: Record) {
+    told(record_line(n, r));
+}
+
+// What a call refused.
+pub fn refused(r: Refusal) {
+    told(refused_line(r));
+}
+
+// A text and a number, within a line.
+pub fn number(before: &[u8], n: u64) {
+    told(text(before) && line::number(n));
 }

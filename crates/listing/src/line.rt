@@ -1,21 +1,26 @@
 // The lines of a listing. Each function answers whether all of its text was written, and stops at the first
 // write that failed.
+use crate::value::assert_at;
+use crate::value::pair_at;
 use crate::value::preference;
 use crate::value::r_bit;
 use crate::value::wide;
-use crate::value::word;
+use crate::words::words;
+use format::AssertFields;
 use format::Kind;
+use format::PairFields;
+use format::Record;
 use format::Refusal;
 use hello::Hello;
 use libc::STDOUT_FILENO;
-ghost use Prim.Native.Nat.{_+_, _*_, _≤_};
+ghost use Prim.Native.Nat.{_*_, _≤_};
 ghost use lib.ListN.{length};
 
-fn text(s: &[u8]) -> bool {
+pub(crate) fn text(s: &[u8]) -> bool {
     io::write_all(STDOUT_FILENO, s)
 }
 
-fn number(n: u64) -> bool {
+pub(crate) fn number(n: u64) -> bool {
     io::print_decimal(STDOUT_FILENO, n)
 }
 
@@ -37,8 +42,15 @@ pub(crate) fn heading(kind: Kind, n: usize) -> bool {
     }
 }
 
-pub(crate) fn refused(r: Refusal) -> bool {
-    text(b"refused ") && number(wide(r.number)) && named(b" at ", r.place as u64)
+// The number, the place, and what the number means.
+pub(crate) fn refused_line(r: Refusal) -> bool {
+    text(b"refused ")
+        && number(wide(r.number))
+        && text(b" at ")
+        && number(r.place as u64)
+        && text(b": ")
+        && words(r.number)
+        && text(b"\n")
 }
 
 fn priority_line(h: Hello) -> bool {
@@ -63,43 +75,42 @@ pub(crate) fn hello_lines(h: Hello) -> bool {
         && packing_line(h.packing)
 }
 
-// The address in four octets of an entry.
-fn address(e: &[u8], at: usize) -> bool
-    requires { ⌜ at + 4 ≤ length (now e) ⌝ }
-{
-    number(wide(e[at]))
+// An address, octet by octet.
+fn address(a: u32) -> bool {
+    number((a / 0x1_000000) as u64)
         && text(b".")
-        && number(wide(e[at + 1]))
+        && number((a / 0x1_0000 % 256) as u64)
         && text(b".")
-        && number(wide(e[at + 2]))
+        && number((a / 0x1_00 % 256) as u64)
         && text(b".")
-        && number(wide(e[at + 3]))
+        && number((a % 256) as u64)
 }
 
-// A record's number, its source and its group: in an entry the group stands first.
-fn flow(n: usize, e: &[u8], at: usize) -> bool
-    requires { ⌜ at + 8 ≤ length (now e) ⌝ }
-{
-    number(n as u64) && text(b" S ") && address(e, at + 4) && text(b" G ") && address(e, at)
+// A record's number, its source and its group.
+fn flow(n: usize, source: u32, group: u32) -> bool {
+    number(n as u64) && text(b" S ") && address(source) && text(b" G ") && address(group)
 }
 
-fn pair_line(n: usize, e: &[u8], at: usize) -> bool
-    requires { ⌜ at + 8 ≤ length (now e) ⌝ }
-{
-    flow(n, e, at) && text(b"\n")
+fn pair_line(n: usize, x: PairFields) -> bool {
+    flow(n, x.source, x.group) && text(b"\n")
 }
 
-fn assert_line(n: usize, e: &[u8], at: usize) -> bool
-    requires { ⌜ at + 16 ≤ length (now e) ⌝ }
-{
-    let w = word(e, at + 8);
-    let metric = word(e, at + 12);
-    flow(n, e, at)
+fn assert_line(n: usize, x: AssertFields) -> bool {
+    let w = x.r_preference;
+    flow(n, x.source, x.group)
         && text(b" R ")
         && number(r_bit(w))
         && text(b" pref ")
         && number(preference(w))
-        && named(b" metric ", metric as u64)
+        && named(b" metric ", x.metric as u64)
+}
+
+// A record of either case, with its number.
+pub(crate) fn record_line(n: usize, r: Record) -> bool {
+    match r {
+        Record::Assert(x) => assert_line(n, x),
+        Record::Pair(x) => pair_line(n, x),
+    }
 }
 
 // The first n of the entries of asserts, counted from 1.
@@ -108,7 +119,7 @@ pub(crate) fn assert_lines(e: &[u8], n: usize) -> bool
 {
     let mut i = 0;
     while i < n {
-        if !assert_line(i + 1, e, 16 * i) {
+        if !assert_line(i + 1, assert_at(e, 16 * i)) {
             return false;
         }
         i += 1;
@@ -122,7 +133,7 @@ pub(crate) fn pair_lines(e: &[u8], n: usize) -> bool
 {
     let mut i = 0;
     while i < n {
-        if !pair_line(i + 1, e, 8 * i) {
+        if !pair_line(i + 1, pair_at(e, 8 * i)) {
             return false;
         }
         i += 1;

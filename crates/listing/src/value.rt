@@ -1,11 +1,15 @@
 // The numbers of an entry.
-use octets::Field;
+use format::AssertFields;
+use format::PairFields;
+use octets::number32;
 ghost use mathlib.Core.Path.{_≡_};
 ghost use mathlib.Core.Bool.{cond};
 ghost use Prim.Native.Nat.{_+_, _≤_};
 ghost use lib.ListN.{length};
 ghost use Rattle.records.specs.Records.{rBit, preference as preferenceOf};
-ghost use Rattle.octets.specs.Octets.{numberAt};
+ghost use Rattle.format.specs.Family.{ipv4};
+ghost use Rattle.format.specs.Entry.{assertAt, pairAt};
+ghost use Rattle.format.specs.Values.{assertOf, pairOf};
 
 // An octet as a wider number.
 pub(crate) fn wide(x: u8) -> u64
@@ -14,16 +18,28 @@ pub(crate) fn wide(x: u8) -> u64
     x as u64
 }
 
-// The number in four octets of an entry.
-pub(crate) fn word(e: &[u8], at: usize) -> u32
-    requires { ⌜ at + 4 ≤ length (now e) ⌝ }
-    ensures { λ r. ⌜ r ≡ numberAt 4 (now (e .entry)) at ⌝ }
+// The assert of the entry at a place.
+pub(crate) fn assert_at(e: &[u8], at: usize) -> AssertFields
+    requires { ⌜ at + 16 ≤ length (now e) ⌝ }
+    ensures { λ r. ⌜ assertOf r ≡ assertAt ipv4 (now (e .entry)) at ⌝ }
 {
-    let f = octets::read32(e, at);
-    let Field::Got { value, next: _ } = f else {
-        return 0;
-    };
-    value
+    AssertFields {
+        group: number32(e, at),
+        source: number32(e, at + 4),
+        r_preference: number32(e, at + 8),
+        metric: number32(e, at + 12),
+    }
+}
+
+// The pair of the entry at a place.
+pub(crate) fn pair_at(e: &[u8], at: usize) -> PairFields
+    requires { ⌜ at + 8 ≤ length (now e) ⌝ }
+    ensures { λ r. ⌜ pairOf r ≡ pairAt ipv4 (now (e .entry)) at ⌝ }
+{
+    PairFields {
+        group: number32(e, at),
+        source: number32(e, at + 4),
+    }
 }
 
 // R of an R word, its highest bit.

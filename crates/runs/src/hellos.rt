@@ -1,5 +1,5 @@
 // Hellos made by hand: with and without each option, and what is refused of them.
-use crate::output::show;
+use listing::show;
 
 // Holdtime 30 s, priority 5, packing: none, each alone, all, and options that are skipped.
 fn said() {

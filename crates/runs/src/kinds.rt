@@ -1,5 +1,5 @@
 // The messages of crates/cases/specs/Messages.antt and Marked.antt, each kind, with their octets as there.
-use crate::output::show;
+use listing::show;
 
 // 01, examples 1 and 6.
 fn examples() {

@@ -1,14 +1,12 @@
 // Runs messages made by hand: first how long some are and whether their checksums hold, then each by its listing. What
 // is expected of them, in the file stdout, is worked out by hand. Messages that others sent or read are run by vectors.
 //
-// output.rt        a case and its name
 // kinds.rt         each kind of message
 // refusals.rt      damaged messages
 // hellos.rt        Hellos, also damaged
 // packs.rt         entries packed, and the messages written
 mod hellos;
 mod kinds;
-mod output;
 mod packs;
 mod refusals;
 
@@ -53,7 +51,7 @@ fn checksums() {
 // Longer than the longest message.
 fn too_long() {
     let octets = io::large_buffer();
-    output::show(b"65,536 octets", &octets);
+    listing::show(b"65,536 octets", &octets);
 }
 
 fn main() {

@@ -1,12 +1,8 @@
 // Entries packed: what the call answers, then the listing of the message it wrote. The entries are those of
 // the packed messages of kinds.rt, so the listings are the same.
 use libc::STDOUT_FILENO;
+use listing::number;
 use packing::Packing;
-
-fn number(before: &[u8], n: u64) {
-    io::write_all(STDOUT_FILENO, before);
-    io::print_decimal(STDOUT_FILENO, n);
-}
 
 // The message stands at the front of what was lent.
 fn list_front(d: &[u8], n: usize) {
@@ -16,15 +12,11 @@ fn list_front(d: &[u8], n: usize) {
 }
 
 fn show_packed(name: &[u8], answer: Packing, d: &[u8]) {
-    io::write_all(STDOUT_FILENO, name);
+    listing::title(name);
     match answer {
-        Packing::Refused(r) => {
-            number(b"\nrefused ", r.number as u64);
-            number(b" at ", r.place as u64);
-            io::write_all(STDOUT_FILENO, b"\n");
-        }
+        Packing::Refused(r) => listing::refused(r),
         Packing::Wrote { length, taken } => {
-            number(b"\noctets ", length as u64);
+            number(b"octets ", length as u64);
             number(b", taken ", taken as u64);
             io::write_all(STDOUT_FILENO, b"\n");
             if 0 < length {

@@ -1,5 +1,5 @@
 // Damaged messages of crates/cases/specs/Faults.antt, with their octets as there: a refusal of each number from 1 to 7.
-use crate::output::show;
+use listing::show;
 
 // 1 to 4: the header.
 fn header() {

@@ -1,10 +1,8 @@
 // Runs messages that other people's routers sent or that other programs read, each by its listing. What is expected of
 // them, in the file stdout, stands in the notes of who read them; a message that tshark reads no pair of 01 refuses.
 //
-// output.rt             a case and its name
 // vectors_hello.rt      Hellos
 // vectors_assert.rt     plain Asserts, and packed Null-Registers and Register-Stops
-mod output;
 mod vectors_assert;
 mod vectors_hello;
 

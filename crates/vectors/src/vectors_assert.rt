@@ -1,6 +1,6 @@
 // Plain Asserts that PIM daemons sent on test LANs, FRR pimd 8.4.4 (Debian 8.4.4-1.1~deb12u2) and pimd 2.3.2 (Debian
 // 2.3.2-3+b2), and packed Null-Register and Register-Stop messages made by hand and read by tshark 4.4.18.
-use crate::output::show;
+use listing::show;
 
 // Captures ff-lan.pcap, ff2-lan.pcap (an AssertCancel) and tt-lan.pcap. A name has the values that were read.
 fn asserts() {

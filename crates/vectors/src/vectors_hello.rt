@@ -1,6 +1,6 @@
 // Hellos that PIM daemons sent on test LANs: FRR pimd 8.4.4 (Debian 8.4.4-1.1~deb12u2) and pimd 2.3.2 (Debian
 // 2.3.2-3+b2). A name has the sender's address and the values that its peers read; the functions go by capture.
-use crate::output::show;
+use listing::show;
 
 // FRR pimd 8.4.4, capture elections-lab.pcap.
 fn frr_elections_lab_1() {

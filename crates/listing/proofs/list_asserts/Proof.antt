@@ -40,8 +40,8 @@ assert-lines-requires c κs =
 enum-known-found-2 : tie.Need-enum-known-found-2
 enum-known-found-2 c = search needs
 
-refused-requires : tie.Need-refused-requires
-refused-requires c κs = search needs
+refused-line-requires : tie.Need-refused-line-requires
+refused-line-requires c κs = search needs
 
 returns : tie.Need-returns
 returns c = search needs
@@ -64,7 +64,7 @@ list-asserts-spec =
     slice-aggregate-assert-lines
     assert-lines-requires
     enum-known-found-2
-    refused-requires
+    refused-line-requires
     returns
     returns-2
     returns-3)

@@ -41,8 +41,8 @@ pair-lines-requires c κs =
 enum-known-found-2 : tie.Need-enum-known-found-2
 enum-known-found-2 c = search needs
 
-refused-requires : tie.Need-refused-requires
-refused-requires c κs = search needs
+refused-line-requires : tie.Need-refused-line-requires
+refused-line-requires c κs = search needs
 
 returns : tie.Need-returns
 returns c = search needs
@@ -65,7 +65,7 @@ list-pairs-spec =
     slice-aggregate-pair-lines
     pair-lines-requires
     enum-known-found-2
-    refused-requires
+    refused-line-requires
     returns
     returns-2
     returns-3)

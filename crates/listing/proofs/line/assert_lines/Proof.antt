@@ -18,11 +18,14 @@ loop-holds c = tt
 add-assert-line : tie.Need-add-assert-line Inv-loop μ-loop
 add-assert-line c = omega arith
 
-mul-assert-line : tie.Need-mul-assert-line Inv-loop μ-loop
-mul-assert-line c = omega arith
+mul-assert-at : tie.Need-mul-assert-at Inv-loop μ-loop
+mul-assert-at c = omega arith
+
+assert-at-requires : tie.Need-assert-at-requires Inv-loop μ-loop
+assert-at-requires c κs = omega arith
 
 assert-line-requires : tie.Need-assert-line-requires Inv-loop μ-loop
-assert-line-requires c κs = omega arith
+assert-line-requires c κs = tt
 
 returns : tie.Need-returns Inv-loop μ-loop
 returns c = tt
@@ -47,7 +50,8 @@ assert-lines-spec =
     μ-loop
     loop-holds
     add-assert-line
-    mul-assert-line
+    mul-assert-at
+    assert-at-requires
     assert-line-requires
     returns
     add-i

@@ -18,11 +18,14 @@ loop-holds c = tt
 add-pair-line : tie.Need-add-pair-line Inv-loop μ-loop
 add-pair-line c = omega arith
 
-mul-pair-line : tie.Need-mul-pair-line Inv-loop μ-loop
-mul-pair-line c = omega arith
+mul-pair-at : tie.Need-mul-pair-at Inv-loop μ-loop
+mul-pair-at c = omega arith
+
+pair-at-requires : tie.Need-pair-at-requires Inv-loop μ-loop
+pair-at-requires c κs = omega arith
 
 pair-line-requires : tie.Need-pair-line-requires Inv-loop μ-loop
-pair-line-requires c κs = omega arith
+pair-line-requires c κs = tt
 
 returns : tie.Need-returns Inv-loop μ-loop
 returns c = tt
@@ -47,7 +50,8 @@ pair-lines-spec =
     μ-loop
     loop-holds
     add-pair-line
-    mul-pair-line
+    mul-pair-at
+    pair-at-requires
     pair-line-requires
     returns
     add-i
