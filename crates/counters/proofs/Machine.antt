@@ -1,4 +1,4 @@
--- What the two proofs by hand share: `count` and `with_message`.
+-- What proofs by hand about counters share: those of `count` and of functions that call it.
 --     mach, mach-d     the machine values of counters and of a direction
 --     typed, typed-d   such a value has its MIR type
 --     counters-own     what counters own is had for nothing

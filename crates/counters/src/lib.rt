@@ -1,10 +1,10 @@
 // Counters of messages and records, sent and received by kind. The kind comes as a number in 01's order, so that one
 // that is none of the six can be refused. What a call answers and what the counters then hold is a definition of specs/.
 //
-// none           counters to begin with
-// added          by value: the answer, and the counters after it
-// count          on counters that are lent: a thin function over `added`
-// with_message   by value over `count`, for a kind that is known
+// none            counters to begin with
+// kind_number     the number that names a kind
+// added           by value: the answer, and the counters after it
+// count           on counters that are lent: a thin function over `added`
 use format::Kind;
 use format::Refusal;
 ghost use mathlib.Core.Path.{_≡_};
@@ -194,14 +194,4 @@ pub fn count(c: &mut Counters, direction: Direction, kind: u8, records: u64) -> 
     let r = added(*c, direction, kind, records);
     *c = r.counters;
     r.answer
-}
-
-// The counters with one message more of a kind that is one of the six: nothing is refused.
-pub fn with_message(c: Counters, direction: Direction, kind: Kind, records: u64) -> Counters
-    ensures { λ r. ⌜ r ≡ moreIn c direction (numberOf kind) records ⌝ }
-{
-    let mut next = c;
-    let number = kind_number(kind);
-    count(&mut next, direction, number, records);
-    next
 }

@@ -1,0 +1,75 @@
+// Messages packed to be sent, each counted with the entries it took; a refusal and the end of the list are no message. Then a count
+// that is refused, and one that stays at its maximum.
+use crate::lend::counted;
+use counters::Counters;
+use counters::Direction;
+use format::Kind;
+use libc::STDOUT_FILENO;
+use listing::number;
+use packing::Packing;
+
+// What a packing call answered: a message is counted.
+fn send(c: Counters, name: &[u8], kind: Kind, answer: Packing) -> Counters {
+    listing::title(name);
+    match answer {
+        Packing::Refused(r) => {
+            listing::refused(r);
+            c
+        }
+        Packing::Wrote { length, taken } => {
+            number(b"octets ", length as u64);
+            number(b", taken ", taken as u64);
+            io::write_all(STDOUT_FILENO, b"\n");
+            if length == 0 {
+                return c;
+            }
+            counted(
+                c,
+                Direction::Sent,
+                counters::kind_number(kind),
+                taken as u64,
+            )
+        }
+    }
+}
+
+// 01, example 4: three R=0 entries with one source and metric; at limit 49 the first message takes two of them.
+fn asserts(start: Counters) -> Counters {
+    let e =
+        b"\xe8\x01\x01\x01\x0a\x00\x00\x01\x00\x00\x00\x6e\x00\x00\x00\x14\xe8\x01\x01\x02\x0a\x00\x00\x01\x00\x00\x00\x6e\x00\x00\x00\x14\xe8\x01\x01\x03\x0a\x00\x00\x01\x00\x00\x00\x6e\x00\x00\x00\x14";
+    let mut d = [0; 1480];
+    let simple = packing::pack_simple(e, 0, 0, &mut d);
+    let c = send(start, b"sent: simple", Kind::Simple, simple);
+    let first = packing::pack_aggregated(e, 0, 49, &mut d);
+    let f = send(c, b"sent: aggregated, limit 49", Kind::Aggregated, first);
+    let rest = packing::pack_aggregated(e, 2, 49, &mut d);
+    let g = send(f, b"sent: aggregated, the rest", Kind::Aggregated, rest);
+    let end = packing::pack_aggregated(e, 3, 49, &mut d);
+    send(g, b"at the end of the list", Kind::Aggregated, end)
+}
+
+// Two pairs, the second with source 0, which no Null-Register message may carry.
+fn pairs(start: Counters) -> Counters {
+    let e = b"\xe9\x41\x42\x43\x0a\x44\x45\x46\xea\x51\x52\x53\x00\x00\x00\x00";
+    let mut d = [0; 1480];
+    let stops = packing::pack_register_stop(e, 0, 0, &mut d);
+    let c = send(start, b"sent: Register-Stop", Kind::RegisterStop, stops);
+    let nulls = packing::pack_null_register(e, 0, 0, &mut d);
+    send(c, b"sent: Null-Register", Kind::NullRegister, nulls)
+}
+
+// A kind that is none of the six; then so many records that the next one would pass the 64-bit maximum.
+fn counts(start: Counters) -> Counters {
+    let kind = counters::kind_number(Kind::Assert);
+    listing::title(b"sent: a kind that is none of the six");
+    let c = counted(start, Direction::Sent, 6, 1);
+    listing::title(b"sent: two asserts, with more records than a counter holds");
+    let most = counted(c, Direction::Sent, kind, 0xffff_ffff_ffff_ffff);
+    counted(most, Direction::Sent, kind, 1)
+}
+
+pub(crate) fn run(start: Counters) -> Counters {
+    let c = asserts(start);
+    let d = pairs(c);
+    counts(d)
+}
