@@ -73,11 +73,8 @@ fn records_of(kind: Kind, m: &[u8], body: &[u8]) -> Found {
     }
 }
 
-// A message of a kind: refused, or counted.
-fn unpacked(c: Counters, kind: Kind, m: &[u8]) -> Counters {
-    let body = reading::body(m);
-    number(b"body of ", body.len() as u64);
-    io::write_all(STDOUT_FILENO, b" octets\n");
+// A message of a kind, with its body: refused, or counted.
+fn unpacked(c: Counters, kind: Kind, m: &[u8], body: &[u8]) -> Counters {
     let f = records_of(kind, m, body);
     match f {
         Found::Refused(r) => {
@@ -93,15 +90,18 @@ fn unpacked(c: Counters, kind: Kind, m: &[u8]) -> Counters {
     }
 }
 
-// A named message: what it holds is listed, and it is counted unless it is refused.
+// A named message: what it holds is listed, and it is counted unless it is refused. Where the header refuses, the body is an empty part.
 pub(crate) fn receive(c: Counters, name: &[u8], m: &[u8]) -> Counters {
     listing::title(name);
+    let body = reading::body(m);
+    number(b"body of ", body.len() as u64);
+    io::write_all(STDOUT_FILENO, b" octets\n");
     let h = reading::header(m);
     match h {
         Headed::Refused(r) => {
             listing::refused(r);
             c
         }
-        Headed::Is(kind) => unpacked(c, kind, m),
+        Headed::Is(kind) => unpacked(c, kind, m, body),
     }
 }

@@ -39,13 +39,13 @@ fn asserts(start: Counters) -> Counters {
         b"\xe8\x01\x01\x01\x0a\x00\x00\x01\x00\x00\x00\x6e\x00\x00\x00\x14\xe8\x01\x01\x02\x0a\x00\x00\x01\x00\x00\x00\x6e\x00\x00\x00\x14\xe8\x01\x01\x03\x0a\x00\x00\x01\x00\x00\x00\x6e\x00\x00\x00\x14";
     let mut d = [0; 1480];
     let simple = packing::pack_simple(e, 0, 0, &mut d);
-    let c = send(start, b"sent: simple", Kind::Simple, simple);
+    let c = send(start, b"send simple", Kind::Simple, simple);
     let first = packing::pack_aggregated(e, 0, 49, &mut d);
-    let f = send(c, b"sent: aggregated, limit 49", Kind::Aggregated, first);
+    let f = send(c, b"send aggregated", Kind::Aggregated, first);
     let rest = packing::pack_aggregated(e, 2, 49, &mut d);
-    let g = send(f, b"sent: aggregated, the rest", Kind::Aggregated, rest);
+    let g = send(f, b"send the rest", Kind::Aggregated, rest);
     let end = packing::pack_aggregated(e, 3, 49, &mut d);
-    send(g, b"at the end of the list", Kind::Aggregated, end)
+    send(g, b"send at the end", Kind::Aggregated, end)
 }
 
 // Two pairs, the second with source 0, which no Null-Register message may carry.
@@ -53,17 +53,17 @@ fn pairs(start: Counters) -> Counters {
     let e = b"\xe9\x41\x42\x43\x0a\x44\x45\x46\xea\x51\x52\x53\x00\x00\x00\x00";
     let mut d = [0; 1480];
     let stops = packing::pack_register_stop(e, 0, 0, &mut d);
-    let c = send(start, b"sent: Register-Stop", Kind::RegisterStop, stops);
+    let c = send(start, b"send register-stop", Kind::RegisterStop, stops);
     let nulls = packing::pack_null_register(e, 0, 0, &mut d);
-    send(c, b"sent: Null-Register", Kind::NullRegister, nulls)
+    send(c, b"send null-register", Kind::NullRegister, nulls)
 }
 
 // A kind that is none of the six; then so many records that the next one would pass the 64-bit maximum.
 fn counts(start: Counters) -> Counters {
     let kind = counters::kind_number(Kind::Assert);
-    listing::title(b"sent: a kind that is none of the six");
+    listing::title(b"count kind 6");
     let c = counted(start, Direction::Sent, 6, 1);
-    listing::title(b"sent: two asserts, with more records than a counter holds");
+    listing::title(b"count past the maximum");
     let most = counted(c, Direction::Sent, kind, 0xffff_ffff_ffff_ffff);
     counted(most, Direction::Sent, kind, 1)
 }
