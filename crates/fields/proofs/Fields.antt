@@ -1,7 +1,6 @@
 -- Fields of IPv4 by their octets: what each reader comes to where the octets are there, and what a value that was got is.
---     ignored-skipped, number-skipped             k octets, and the number in them, checked as octets
---     octets-room                                 what a check of them that passed says
---     number-none                                 the number past the end is 0
+--     octets-room                                 what a check of k octets that passed says
+--     number-none, number-skipped                 the number past the end is 0; the number in k octets is checked as octets
 --     formed, part-form .. formed-back            a field of a form that ends in an address, as groups and sources are
 --     Comes, form-no, form-yes                    a field by a test of its octets, and what a check that made the test answers
 --     groupTest, group-form .. group-back         a group: the address is tested by its first octet
@@ -18,10 +17,9 @@ use lib.Dec.{leb, ltb, eqb}
 use lib.ListN.{length, getD, take, drop, length-drop}
 use lib.Seq.{take-add, take-all, drop-drop, length-take-le, drop-at}
 use Rattle.octets.specs.Octets.{numberAt, Octets, value}
-use Rattle.octets.specs.Field.{ignored}
 use Rattle.octets.proofs.Laws.{number-is, number-short, octets-there, octets-back}
 use Rattle.records.specs.Records.{rBit}
-use Rattle.format.specs.Reader.{Read, Reader, got, bad, continue, _>>=_, _>>_, give, octets, number, must}
+use Rattle.format.specs.Reader.{Read, Reader, got, bad, continue, _>>=_, give, octets, number, must}
 use Rattle.format.specs.Family.{ipv4, mayBeSource}
 use Rattle.format.specs.Address.{groupForm, groupField, sourceForm, sourceField}
 use Rattle.format.specs.declared.Refusal.{Refusal}
@@ -31,10 +29,6 @@ use Rattle.fields.specs.declared.field.Checked.the-variants.{Next, Bad}
 use Rattle.fields.proofs.Skipped.{no-got, continue-back, checks-bad, checks-next, skipped-last}
 
 -- ---- octets and numbers
-
-pub ignored-skipped : (k : ℕ) (o : List ℕ) (at : ℕ) → skipped (ignored k o at) ≡ skipped (octets k o at)
-unfolding ignored _>>_ give
-ignored-skipped k o at = skipped-last (octets k o at) (λ x. 0)
 
 -- what a check of k octets that passed says
 pub octets-room : (k : ℕ) (o : List ℕ) (at : ℕ) {c : Checked} {n : ℕ} → c ≡ Next n → checked c ≡ skipped (octets k o at) → (at + k ≤ length o) × (n ≡ at + k)

@@ -1,7 +1,6 @@
 // Fields: whether the octets of one are allowed. A check finds the place past a field that is there whole and
 // allowed, or the refusal, at the field's own place.
 use format::Refusal;
-use octets::Field;
 use octets::number32;
 ghost use mathlib.Core.Path.{_≡_};
 ghost use mathlib.Core.Bool.{_&&_};
@@ -26,15 +25,18 @@ pub fn bad(number: u8, place: usize) -> Checked
     Checked::Bad(Refusal { number, place })
 }
 
-// k octets are there.
+// k octets are there. It makes the test of `octets::skip` itself, since it stands in the loops over records: over that
+// answer the compiler calls a record's check and does not put it into the loop.
 pub fn octets_check(m: &[u8], at: usize, k: usize) -> Checked
     ensures { λ r. ⌜ checked r ≡ skipped (octets k (now (m .entry)) at) ⌝ }
 {
-    let f = octets::skip(m, at, k);
-    let Field::Got { value: _, next } = f else {
-        return bad(6, octets::place(f));
-    };
-    Checked::Next(next)
+    if m.len() < at {
+        return bad(6, at);
+    }
+    if m.len() - at < k {
+        return bad(6, at);
+    }
+    Checked::Next(at + k)
 }
 
 // The octets of a group that is allowed: 01, 00, a flags octet, mask length 32, an address in 224.0.0.0/4.

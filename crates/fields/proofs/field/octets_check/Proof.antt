@@ -1,25 +1,12 @@
--- `fields::field::octets_check` meets its contract, by what skipping the octets came to.
+-- `fields::field::octets_check` meets its contract, by the law for the test that it made.
 -- Assumes nothing.
-use mathlib.Core.Path.{sym, ap, _∙_}
+use native.Mathlib.Omega.{arith}
 use borrow.Author.Needs.{needs}
 use denote.Ref.{now}
-use Rattle.octets.proofs.Laws.{read-got, read-cut}
+use Rattle.octets.proofs.Laws.{octets-there, octets-short}
 use Rattle.fields.specs.Answers.{checked, skipped}
-use Rattle.fields.proofs.Fields.{ignored-skipped}
 use Rattle.fields.proofs.field.octets_check.Statement.{statement}
 use Rattle.fields.proofs.field.octets_check.Tie as tie
-
-skip-requires : tie.Need-skip-requires
-skip-requires c κs = search needs
-
-enum-known-f : tie.Need-enum-known-f
-enum-known-f c = search needs
-
-enum-told : tie.Need-enum-told
-enum-told c = search needs
-
-place-requires : tie.Need-place-requires
-place-requires c κs = search needs
 
 bad-requires : tie.Need-bad-requires
 bad-requires c κs = search needs
@@ -27,20 +14,30 @@ bad-requires c κs = search needs
 returns : tie.Need-returns
 unfolding checked skipped
 returns c =
-    let r = c .before .before .before .before in
-    let a = r .before .before .args in
-    ap checked (c .bad .ensures)
-    ∙ ap skipped (sym (read-cut (r .skip .ensures) (c .before .before .enum-told .given .1) (c .before .place .ensures)))
-    ∙ ignored-skipped (a .k) (now (a .m)) (a .at)
+    let a = c .before .before .before .args in
+    rw (c .bad .ensures, octets-short (a .k) (now (a .m)) (a .at) (omega arith))
+
+sub-if2 : tie.Need-sub-if2
+sub-if2 c = search needs
+
+bad-requires-2 : tie.Need-bad-requires-2
+bad-requires-2 c κs = search needs
 
 returns-2 : tie.Need-returns-2
-unfolding skipped checked
+unfolding checked skipped
 returns-2 c =
-    let r = c .before .before .before in
-    let a = r .before .before .args in
-    ap skipped (sym (read-got (r .skip .ensures) (c .before .f .given .1))) ∙ ignored-skipped (a .k) (now (a .m)) (a .at)
+    let a = c .before .before .before .before .args in
+    rw (c .bad2 .ensures, octets-short (a .k) (now (a .m)) (a .at) (omega arith))
+
+add-t4 : tie.Need-add-t4
+add-t4 c = search needs
+
+returns-3 : tie.Need-returns-3
+unfolding checked skipped
+returns-3 c =
+    let a = c .before .before .before .args in
+    rw (octets-there (a .k) (now (a .m)) (a .at) (omega arith))
 
 pub octets-check-spec : {M : Type 1} → statement M
 octets-check-spec =
-    tie.close
-    (tie.spec skip-requires enum-known-f enum-told place-requires bad-requires returns returns-2)
+    tie.close (tie.spec bad-requires returns sub-if2 bad-requires-2 returns-2 add-t4 returns-3)
