@@ -1,5 +1,5 @@
-// A message received: its header is read, its body is handed back as a part of it, and the records of the body are read singly, one
-// after another. A Hello and an aggregated message have no record of one length: their reading calls count.
+// A message received: its body is handed back as a part of it, its header is read, the records of the body are read singly, one
+// after another, and its reading call counts them. A Hello and an aggregated message have no record that is read singly.
 use crate::lend::counted;
 use counters::Counters;
 use counters::Direction;
@@ -39,20 +39,6 @@ fn singly(kind: Kind, body: &[u8], from: usize) -> Found {
     Found::Records(n)
 }
 
-// An aggregated message of at most 64 entries.
-fn aggregated(m: &[u8]) -> Found {
-    let mut entries = [0; 1024];
-    let r = reading::read_asserts(m, &mut entries);
-    match r {
-        Reading::Refused(refusal) => Found::Refused(refusal),
-        Reading::Entries { kind: _, count } => {
-            number(b"entries ", count as u64);
-            io::write_all(STDOUT_FILENO, b"\n");
-            Found::Records(count)
-        }
-    }
-}
-
 fn hello(m: &[u8]) -> Found {
     let h = hello::read_hello(m);
     match h {
@@ -61,15 +47,41 @@ fn hello(m: &[u8]) -> Found {
     }
 }
 
+fn read(r: Reading) -> Found {
+    match r {
+        Reading::Refused(refusal) => Found::Refused(refusal),
+        Reading::Entries { kind: _, count } => Found::Records(count),
+    }
+}
+
+// Room for 64 entries, which is enough here; so for pairs.
+fn asserts(m: &[u8]) -> Found {
+    let mut entries = [0; 1024];
+    read(reading::read_asserts(m, &mut entries))
+}
+
+fn pairs(m: &[u8]) -> Found {
+    let mut entries = [0; 512];
+    read(reading::read_pairs(m, &mut entries))
+}
+
+// Single reading sees neither Zero nor that no record is there; the reading call sees both.
+fn both(singly: Found, all: Found) -> Found {
+    match singly {
+        Found::Refused(r) => Found::Refused(r),
+        Found::Records(_) => all,
+    }
+}
+
 // In a simple message Zero and Reserved stand before the records.
 fn records_of(kind: Kind, m: &[u8], body: &[u8]) -> Found {
     match kind {
         Kind::Hello => hello(m),
-        Kind::Assert => singly(kind, body, 0),
-        Kind::Simple => singly(kind, body, 4),
-        Kind::Aggregated => aggregated(m),
-        Kind::NullRegister => singly(kind, body, 0),
-        Kind::RegisterStop => singly(kind, body, 0),
+        Kind::Assert => both(singly(kind, body, 0), asserts(m)),
+        Kind::Simple => both(singly(kind, body, 4), asserts(m)),
+        Kind::Aggregated => asserts(m),
+        Kind::NullRegister => both(singly(kind, body, 0), pairs(m)),
+        Kind::RegisterStop => both(singly(kind, body, 0), pairs(m)),
     }
 }
 
@@ -81,12 +93,16 @@ fn unpacked(c: Counters, kind: Kind, m: &[u8], body: &[u8]) -> Counters {
             listing::refused(r);
             c
         }
-        Found::Records(n) => counted(
-            c,
-            Direction::Received,
-            counters::kind_number(kind),
-            n as u64,
-        ),
+        Found::Records(n) => {
+            number(b"records ", n as u64);
+            io::write_all(STDOUT_FILENO, b"\n");
+            counted(
+                c,
+                Direction::Received,
+                counters::kind_number(kind),
+                n as u64,
+            )
+        }
     }
 }
 

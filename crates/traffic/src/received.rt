@@ -40,7 +40,7 @@ fn others(start: Counters) -> Counters {
     receive(d, b"hello", b"\x20\x00\xdf\xde\x00\x01\x00\x02\x00\x1e")
 }
 
-// Each is refused, so none is counted: 01's example 2 by its header, the others by their second record.
+// Each is refused, so none is counted: 01's example 2 by its header, two by their second record, and one that has no record.
 fn damaged(start: Counters) -> Counters {
     let c = receive(
         start,
@@ -52,11 +52,12 @@ fn damaged(start: Counters) -> Counters {
         b"simple, source 0",
         b"\x25\x01\xf9\xb2\x00\x00\x00\x00\x01\x00\x00\x20\xe8\x01\x01\x01\x01\x00\x0a\x00\x00\x01\x00\x00\x00\x6e\x00\x00\x00\x14\x01\x00\x00\x20\xe8\x01\x01\x02\x01\x00\x00\x00\x00\x00\x00\x00\x00\x6e\x00\x00\x00\x14",
     );
-    receive(
+    let e = receive(
         d,
         b"null-register, cut",
         b"\x2d\x00\xf3\xb7\x01\x00\x00\x20\xe8\x01\x01\x01\x01\x00\x0a\x00\x00\x01\x01\x00\x00\x20\xe8\x01\x01\x02",
-    )
+    );
+    receive(e, b"null-register, no record", b"\x2d\x00\xd2\xff")
 }
 
 pub(crate) fn run(start: Counters) -> Counters {
