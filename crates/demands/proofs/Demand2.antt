@@ -29,7 +29,7 @@ use Rattle.format.proofs.Calls.{wrote-by}
 use Rattle.format.proofs.Reading.{read-gives, read-short}
 use Rattle.format.proofs.RoundTrip.{plain-trip, simple-trip, aggregated-trip, null-trip, stop-trip}
 use Rattle.format.proofs.Ipv4.{lawful}
-use Rattle.joining.proofs.Listed.{take-entries, drop-entries}
+use Rattle.entries.proofs.Lists.{take-entries, drop-entries}
 use Rattle.demands.specs.Calls.{ReadCall, Reads, Delivers}
 use Rattle.demands.specs.Demand2.{Demand2}
 

@@ -1,7 +1,7 @@
 // Where a run of entries ends: neighbouring asserts that are joined into one aggregated record, and inside one
 // with R=1 those of one group.
-use crate::there::r_bit;
 use crate::there::there;
+use entries::r_bit;
 use octets::number32;
 ghost use mathlib.Core.Path.{_≡_};
 ghost use Prim.Native.Nat.{_+_, _*_, _≤_, _<_};

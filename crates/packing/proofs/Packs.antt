@@ -4,7 +4,6 @@
 --     call-refused, call-packs       the call is refused, or packs them
 -- Assumes nothing.
 use Prim.Native.Nat.{ℕ, _+_, _-_, _*_, _/_, _≤_}
-use native.Mathlib.Nat.{mul-add, mul-div-le}
 use native.Mathlib.Omega.{arith}
 use mathlib.Core.Path.{_≡_, refl, sym, ap, ap₂, _∙_}
 use mathlib.Core.Bool.{true}
@@ -20,14 +19,15 @@ use Rattle.format.specs.declared.Kind.{Kind}
 use Rattle.format.specs.declared.Refusal.{Refusal}
 use Rattle.format.proofs.Outcomes.{no-refusal, gives-same}
 use Rattle.format.proofs.Calls.{limit-range, Asked, asked-gives, gives-asked}
-use Rattle.writing.specs.Kinds.{entriesFor, formFor, isPacked}
+use Rattle.entries.proofs.Lists.{drop-entries, rest-there}
+use Rattle.writing.specs.Kinds.{formFor, isPacked}
 use Rattle.writing.specs.Most.{mostOf}
 use Rattle.writing.proofs.Packs.{possible-is, possible-most}
 use Rattle.packing.specs.Answers.{limitOf, limited}
 use Rattle.packing.specs.declared.limit.Limit.{Limit}
 use Rattle.packing.specs.declared.limit.Limit.the-variants.{Is, Refused}
-use Rattle.writing.proofs.ByKind.{family-is}
-use Rattle.joining.proofs.Listed.{drop-entries}
+use Rattle.entries.specs.Kinds.{entriesFor}
+use Rattle.entries.proofs.ByKind.{family-is}
 
 pub limit-refused : {A : Type 0} (x : Outcome (Due A)) {a : Limit} {r : Refusal} → a ≡ Refused r → limitOf a ≡ limited x → x ≡ refuses (r .number) (r .place)
 unfolding limitOf limited
@@ -60,11 +60,7 @@ module _ (k : Kind) (o : List ℕ) (start limit : ℕ) (room l : ℕ) (h : Asked
   asked-inside = h .inside
 
   pub asked-there : entriesFor k .size * start + entriesFor k .size * (length o / entriesFor k .size - start) ≤ length o
-  asked-there =
-      let size = entriesFor k .size in
-      let all : start + (length o / size - start) ≡ length o / size = omega (arith, asked-inside) in
-      let parts : size * (length o / size) ≡ size * start + size * (length o / size - start) = ap (λ x. size * x) (sym all) ∙ mul-add size start (length o / size - start) in
-      omega (arith, parts, mul-div-le (length o) size)
+  asked-there = rest-there (entriesFor k) o start asked-inside
 
   -- the message can be asked for, in any buffer with room for the limit
   pub asked-most : isPacked k ≡ true → (r : ℕ) → l ≤ r

@@ -2,13 +2,10 @@
 --     packed               the answer of a packing call
 --     chosenBy             the answer of a call that packs both assert forms
 --     limitOf, limited     the limit as read or a refusal, and what a call asks with the entries left out
---     listedBy             whether every entry of a list is allowed
 -- Assumes nothing: these are definitions.
 use Prim.Native.Nat.{ℕ}
 use Rattle.format.specs.Outcome.{Outcome, gives, refuses}
 use Rattle.format.specs.Packing.{Due, due, Wrote, wrote, Chosen, chosen}
-use Rattle.packing.specs.declared.entry.Listed.{Listed}
-use Rattle.packing.specs.declared.entry.Listed.the-variants.{Allowed, Bad}
 use Rattle.packing.specs.declared.limit.Limit.{Limit}
 use Rattle.packing.specs.declared.limit.Limit.the-variants.{Is, Refused as NoLimit}
 use Rattle.packing.specs.declared.calls.Packing.{Packing}
@@ -31,8 +28,3 @@ limitOf (NoLimit r) = refuses (r .number) (r .place)
 unfoldable pub limited : {A : Type 0} → Outcome (Due A) → Outcome ℕ
 limited (gives (due l es)) = gives l
 limited (refuses n p) = refuses n p
-
--- "7 with the number of the first bad entry"
-unfoldable pub listedBy : Listed → Outcome (Unit {0})
-listedBy Allowed = gives tt
-listedBy (Bad i) = refuses 7 i

@@ -1,9 +1,9 @@
 // The five packing calls, by one function over the kind.
 use crate::limit::Limit;
 use crate::limit::asked;
+use entries::entry_size;
 use format::Kind;
 use format::Refusal;
-use writing::entry_size;
 use writing::write_most;
 ghost use mathlib.Core.Path.{_≡_};
 ghost use mathlib.Core.Bool.{true};

@@ -2,13 +2,11 @@
 // choice between the two packed assert forms. Every public call is total; what it answers and what it writes is a
 // definition of the crate format. How a message is written is the crate writing's.
 //
-// entry.rt       the first entry that is not allowed
 // limit.rt       what a call refuses, in the order 9, 8, 10, 7
 // calls.rt       the five calls
 // choice.rt      both packed assert forms, and the one that is chosen
 mod calls;
 mod choice;
-mod entry;
 mod limit;
 
 pub use calls::Packing;
@@ -20,5 +18,3 @@ pub use calls::pack_simple;
 pub use choice::Choice;
 pub use choice::pack_both;
 pub use choice::pack_chosen;
-pub use entry::Listed;
-pub use entry::entries_allowed;

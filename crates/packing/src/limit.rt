@@ -1,15 +1,16 @@
 // What a packing call refuses before it writes: 9, 8, 10, then 7.
-use crate::entry::first_bad;
+use entries::Listed;
+use entries::entry_size;
+use entries::first_bad;
 use format::GREATEST_LIMIT;
 use format::Kind;
 use format::LEAST_LIMIT;
 use format::Refusal;
 use format::USUAL_LIMIT;
-use writing::entry_size;
 ghost use mathlib.Core.Path.{_≡_};
 ghost use Rattle.format.specs.Family.{ipv4};
 ghost use Rattle.format.specs.Packing.{readLimit, asked as askedOf};
-ghost use Rattle.writing.specs.Kinds.{entriesFor};
+ghost use Rattle.entries.specs.Kinds.{entriesFor};
 ghost use Rattle.packing.specs.Answers.{limitOf, limited};
 
 // The limit as read, or a refusal.
@@ -58,9 +59,9 @@ pub(crate) fn asked(kind: Kind, e: &[u8], start: usize, limit: usize, room: usiz
     if count < start {
         return refused(10, 0);
     }
-    let bad = first_bad(kind, e, start, count);
-    if bad < count {
-        return refused(7, bad);
+    let bad = first_bad(kind, e, start);
+    match bad {
+        Listed::Allowed => x,
+        Listed::Bad(i) => refused(7, i),
     }
-    x
 }

@@ -20,11 +20,10 @@ use Rattle.format.specs.declared.Kind.{Kind}
 use Rattle.format.specs.declared.Kind.the-variants.{Hello, Assert, Simple, Aggregated, NullRegister, RegisterStop}
 use Rattle.format.proofs.Entries.{length-entries}
 use Rattle.format.proofs.Outcomes.{no-refusal}
-use Rattle.writing.specs.Kinds.{entriesFor}
-use Rattle.writing.proofs.ByKind.{size-range}
-use Rattle.packing.specs.Answers.{listedBy}
-use Rattle.packing.specs.declared.entry.Listed.{Listed}
-use Rattle.packing.specs.declared.entry.Listed.the-variants.{Allowed, Bad}
+use Rattle.entries.specs.Kinds.{entriesFor, listedBy}
+use Rattle.entries.proofs.ByKind.{size-range}
+use Rattle.entries.specs.declared.Listed.{Listed}
+use Rattle.entries.specs.declared.Listed.the-variants.{Allowed, Bad}
 use Rattle.sections.specs.Checking.{fault, checkEntries}
 
 -- ---- a part

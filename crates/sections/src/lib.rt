@@ -1,5 +1,8 @@
 // The sections of a stored sheet: a neighbour's row in it, and whether a sheet is valid. First the rows, then the
 // header, the sections one by one, and last the call. Reading and writing a sheet are in `sheet`.
+use entries::Listed;
+use entries::entries_allowed;
+use entries::entry_size;
 use format::Kind;
 use format::Refusal;
 use neighbours::Neighbour;
@@ -7,9 +10,6 @@ use neighbours::ROWS;
 use neighbours::is_allowed;
 use octets::number16;
 use octets::number32;
-use packing::Listed;
-use packing::entries_allowed;
-use writing::entry_size;
 ghost use mathlib.Core.Path.{_≡_};
 ghost use mathlib.Core.Bool.{true};
 ghost use mathlib.Core.List.{[]};
@@ -19,7 +19,7 @@ ghost use Rattle.octets.specs.Octets.{numberAt};
 ghost use Rattle.format.specs.Outcome.{refuses};
 ghost use Rattle.format.specs.Family.{ipv4};
 ghost use Rattle.neighbours.specs.Rows.{has};
-ghost use Rattle.writing.specs.Kinds.{entriesFor};
+ghost use Rattle.entries.specs.Kinds.{entriesFor};
 ghost use Rattle.sections.specs.Layout.{base, end};
 ghost use Rattle.sections.specs.Contents.{rowAt};
 ghost use Rattle.sections.specs.Checking.{countsIn, countsAllowed, offsetsAgree, checkHeader, checkEntries, rowFits, checkRows, checking, checkedBy};

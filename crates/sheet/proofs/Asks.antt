@@ -29,9 +29,9 @@ use Rattle.format.specs.Packing.{firstBad}
 use Rattle.format.specs.Record.{each}
 use Rattle.format.specs.declared.Refusal.{Refusal}
 use Rattle.format.proofs.Outcomes.{no-refusal}
-use Rattle.packing.specs.Answers.{listedBy}
-use Rattle.packing.specs.declared.entry.Listed.{Listed}
-use Rattle.packing.specs.declared.entry.Listed.the-variants.{Allowed, Bad}
+use Rattle.entries.specs.Kinds.{listedBy}
+use Rattle.entries.specs.declared.Listed.{Listed}
+use Rattle.entries.specs.declared.Listed.the-variants.{Allowed, Bad}
 use Rattle.neighbours.specs.Rows.{most, used, valid}
 use Rattle.neighbours.specs.declared.Table.{Table}
 use Rattle.neighbours.proofs.Rows.{used-long}

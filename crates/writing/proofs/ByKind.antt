@@ -1,6 +1,5 @@
 -- What holds of every kind, and of those whose records have one length.
---     size-range, size-room          an entry is 8 to 16 octets; room for so many of them
---     family-is                      every kind is of IPv4
+--     size-room                      room for so many entries
 --     record-long, record-short      the record of an assert entry, and of a pair, as code writes it
 --     record-sized                   a record is 6 octets longer than its entry
 --     kind-is, most-is               a form is of its kind, and takes no more than there is
@@ -22,15 +21,8 @@ use Rattle.format.specs.Record.{each, assertOctets, pairOctets}
 use Rattle.format.specs.declared.Kind.{Kind}
 use Rattle.format.specs.declared.Kind.the-variants.{Hello, Assert, Simple, Aggregated, NullRegister, RegisterStop}
 use Rattle.format.proofs.Lengths.{length-assert, length-pair}
-use Rattle.writing.specs.Kinds.{entriesFor, formFor, recordSize, recordOctets, isAggregated, recordsFor, frontOf, headSize, isPacked, Packs}
-
-pub size-range : (k : Kind) → (8 ≤ entriesFor k .size) × (entriesFor k .size ≤ 16)
-size-range Hello = (omega arith, omega arith)
-size-range Assert = (omega arith, omega arith)
-size-range Simple = (omega arith, omega arith)
-size-range Aggregated = (omega arith, omega arith)
-size-range NullRegister = (omega arith, omega arith)
-size-range RegisterStop = (omega arith, omega arith)
+use Rattle.entries.specs.Kinds.{entriesFor}
+use Rattle.writing.specs.Kinds.{formFor, recordSize, recordOctets, isAggregated, recordsFor, frontOf, headSize, isPacked, Packs}
 
 -- a place for so many entries, by division and by multiplication
 pub size-room : (k : Kind) (m n : ℕ) → (m / entriesFor k .size < n → m < entriesFor k .size * n) × (n ≤ m / entriesFor k .size → entriesFor k .size * n ≤ m)
@@ -40,14 +32,6 @@ size-room Simple m n = (λ h. omega arith, λ h. omega arith)
 size-room Aggregated m n = (λ h. omega arith, λ h. omega arith)
 size-room NullRegister m n = (λ h. omega arith, λ h. omega arith)
 size-room RegisterStop m n = (λ h. omega arith, λ h. omega arith)
-
-pub family-is : (k : Kind) → entriesFor k .family ≡ ipv4
-family-is Hello = refl
-family-is Assert = refl
-family-is Simple = refl
-family-is Aggregated = refl
-family-is NullRegister = refl
-family-is RegisterStop = refl
 
 -- ---- records
 

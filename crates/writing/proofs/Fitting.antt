@@ -20,8 +20,10 @@ use Rattle.format.specs.declared.Kind.{Kind}
 use Rattle.format.proofs.Entries.{length-entriesAt}
 use Rattle.format.proofs.Lengths.{length-each}
 use Rattle.format.proofs.Messages.{length-message}
-use Rattle.writing.specs.Kinds.{entriesFor, formFor, recordSize, recordOctets, isAggregated, recordsFor, frontOf, headSize, Packs, fitting}
-use Rattle.writing.proofs.ByKind.{size-range, record-sized, kind-is, most-is, each-record}
+use Rattle.entries.proofs.ByKind.{size-range}
+use Rattle.entries.specs.Kinds.{entriesFor}
+use Rattle.writing.specs.Kinds.{formFor, recordSize, recordOctets, isAggregated, recordsFor, frontOf, headSize, Packs, fitting}
+use Rattle.writing.proofs.ByKind.{record-sized, kind-is, most-is, each-record}
 
 pub records-long : (k : Kind) → isAggregated k ≡ false → (o : List ℕ) (from n : ℕ) → length (recordsFor k (entriesAt (entriesFor k) o from n)) ≡ recordSize k * n
 records-long k fixed o from n =

@@ -22,7 +22,7 @@ use Rattle.joining.specs.Joins.{asserts, joins, runLength}
 use Rattle.writing.specs.Aggregates.{oneOf, allOf, numberOf}
 use Rattle.joining.specs.declared.run.Run.{Run}
 use Rattle.joining.specs.declared.run.Run.the-variants.{Aggregated, Group}
-use Rattle.joining.proofs.Listed.{take-entries, drop-at}
+use Rattle.entries.proofs.Lists.{take-entries, drop-at}
 
 joins-cong : (r : Run) (a b : AssertRecord) → joins r a b ≡ true → joins r a ≡ joins r b
 unfolding joins

@@ -36,7 +36,7 @@ use Rattle.format.proofs.Lengths.{length-aggregated}
 use Rattle.joining.specs.Joins.{asserts, joins, runLength, firstRun}
 use Rattle.joining.specs.declared.run.Run.{Run}
 use Rattle.joining.specs.declared.run.Run.the-variants.{Aggregated, Group}
-use Rattle.joining.proofs.Listed.{take-entries, drop-at}
+use Rattle.entries.proofs.Lists.{take-entries, drop-at}
 use Rattle.joining.proofs.Joins.{run-some}
 use Rattle.writing.specs.Aggregates.{oneOf, allOf, numberOf, sourcesIn, MostWithin}
 use Rattle.writing.proofs.Joins.{run-range, all-first, number-first, all-none}

@@ -24,13 +24,14 @@ use Rattle.format.proofs.Trains.{length-canonical}
 use Rattle.format.proofs.MostThatFit.{Grows, aggregated-grows}
 use Rattle.format.proofs.Entries.{length-entriesAt}
 use Rattle.format.proofs.Calls.{taken-most, taken-fits, pack-none, pack-some}
-use Rattle.writing.specs.Kinds.{entriesFor, formFor, isAggregated, isPacked, Packs, fitting}
+use Rattle.entries.proofs.Lists.{take-entries}
+use Rattle.writing.specs.Kinds.{formFor, isAggregated, isPacked, Packs, fitting}
 use Rattle.writing.specs.Aggregates.{allOf, MostWithin}
 use Rattle.writing.proofs.ByKind.{most-is, head-range, packed-is, aggregated-is}
 use Rattle.writing.proofs.Fitting.{records-long, taken-fixed}
 use Rattle.joining.specs.Joins.{asserts}
 use Rattle.joining.specs.declared.run.Run.the-variants.{Aggregated as Joined}
-use Rattle.joining.proofs.Listed.{take-entries}
+use Rattle.entries.specs.Kinds.{entriesFor}
 use mathlib.Core.Bool.{Bool, true, false, and-eq-true-iff}
 use borrow.Author.Tests.{le-leb, lt-leb, leb-true}
 use Rattle.writing.specs.Most.{possible, mostOf}

@@ -1,5 +1,5 @@
 -- Messages by their kind, in IPv4.
---     entriesFor, formFor          the entries of a kind, and its form
+--     formFor                      the form of a kind
 --     recordSize, recordOctets     the record of an entry, where records have one length
 --     isAggregated, recordsFor     the kind whose records have not, and the records of entries
 --     frontOf, headSize, beginning what comes before the records: of the body, in octets, and with the checksum as 0
@@ -18,18 +18,10 @@ use Rattle.format.specs.Family.{ipv4}
 use Rattle.format.specs.Header.{octet0, octet1}
 use Rattle.format.specs.Record.{each, assertOctets, pairOctets, aggregatedOctets}
 use Rattle.format.specs.Body.{zeros}
-use Rattle.format.specs.Entry.{Entries, assertEntries, pairEntries}
 use Rattle.format.specs.Packing.{Form, plain, simple, aggregated, nullRegister, registerStop}
 use Rattle.format.specs.declared.Kind.{Kind}
 use Rattle.format.specs.declared.Kind.the-variants.{Hello, Assert, Simple, Aggregated, NullRegister, RegisterStop}
-
-abbrev pub entriesFor : Kind → Entries
-entriesFor Hello = assertEntries ipv4
-entriesFor Assert = assertEntries ipv4
-entriesFor Simple = assertEntries ipv4
-entriesFor Aggregated = assertEntries ipv4
-entriesFor NullRegister = pairEntries ipv4 false
-entriesFor RegisterStop = pairEntries ipv4 true
+use Rattle.entries.specs.Kinds.{entriesFor}
 
 abbrev pub formFor : (k : Kind) → Form (entriesFor k)
 formFor Hello = record { kind = Hello; atMost = λ n. 0; body = λ es. []; size = λ es. 4 }

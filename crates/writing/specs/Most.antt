@@ -12,7 +12,8 @@ use Rattle.format.specs.Header.{longest}
 use Rattle.format.specs.Entry.{entriesAt}
 use Rattle.format.specs.Packing.{leastLimit, Packed, packed, pack}
 use Rattle.format.specs.declared.Kind.{Kind}
-use Rattle.writing.specs.Kinds.{entriesFor, formFor, isPacked}
+use Rattle.entries.specs.Kinds.{entriesFor}
+use Rattle.writing.specs.Kinds.{formFor, isPacked}
 
 unfoldable pub possible : Kind → ℕ → ℕ → ℕ → ℕ → ℕ → Bool
 possible k n from count limit room =

@@ -1,5 +1,4 @@
 // The most of some entries that fit into one message, and that message.
-use crate::entry::entry_size;
 use crate::message::begin;
 use crate::message::head_size;
 use crate::message::is_aggregated;
@@ -7,6 +6,7 @@ use crate::message::seal;
 use crate::record::put_records;
 use crate::within::Fitted;
 use crate::within::put_within;
+use entries::entry_size;
 use format::GREATEST_LIMIT;
 use format::Kind;
 use format::LEAST_LIMIT;
@@ -16,7 +16,8 @@ ghost use lib.ListN.{length};
 ghost use Rattle.octets.specs.Octets.{put};
 ghost use Rattle.format.specs.Entry.{entriesAt};
 ghost use Rattle.format.specs.Packing.{canonical, taken, octetsOf, tookOf, pack};
-ghost use Rattle.writing.specs.Kinds.{entriesFor, formFor, recordsFor, headSize, fitting, Packs};
+ghost use Rattle.entries.specs.Kinds.{entriesFor};
+ghost use Rattle.writing.specs.Kinds.{formFor, recordsFor, headSize, fitting, Packs};
 ghost use Rattle.writing.specs.Most.{possible as possibleOf, mostOf};
 
 // A message of so many octets, of so many entries; of none, no message.

@@ -1,6 +1,6 @@
 // Records written from entries. Nothing is tested here: each function knows that its entry is there and that the
 // record fits.
-use crate::entry::entry_size;
+use entries::entry_size;
 use format::Kind;
 ghost use mathlib.Core.Path.{_≡_};
 ghost use Prim.Native.Nat.{_+_, _*_, _≤_};
@@ -10,7 +10,8 @@ ghost use Rattle.format.specs.Family.{ipv4};
 ghost use Rattle.format.specs.Address.{groupOctets, sourceOctets};
 ghost use Rattle.format.specs.Entry.{pairAt, entriesAt};
 ghost use Rattle.format.specs.Record.{each, pairOctets};
-ghost use Rattle.writing.specs.Kinds.{entriesFor, recordOctets, recordSize};
+ghost use Rattle.entries.specs.Kinds.{entriesFor};
+ghost use Rattle.writing.specs.Kinds.{recordOctets, recordSize};
 
 // A number of four octets. They are read before one is stored: the compiler does not know that the slices are apart.
 fn copy4(e: &[u8], at: usize, d: &mut [u8], out: usize)

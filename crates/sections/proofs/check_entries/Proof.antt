@@ -6,7 +6,7 @@ use native.Mathlib.Omega.{arith}
 use lib.ListN.{length}
 use denote.Ref.{now}
 use borrow.Author.Needs.{needs}
-use Rattle.writing.specs.Kinds.{entriesFor}
+use Rattle.entries.specs.Kinds.{entriesFor}
 use Rattle.sections.specs.Sections.{sectionBy}
 use Rattle.sections.proofs.Entries.{Found, entries-sound, entries-bad, bad-there}
 use Rattle.sections.proofs.check_entries.Statement.{statement}

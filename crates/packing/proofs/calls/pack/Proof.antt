@@ -9,9 +9,10 @@ use Rattle.format.specs.Outcome.{gives}
 use Rattle.format.specs.Entry.{entriesAt}
 use Rattle.format.specs.Packing.{asked, pack, wrote}
 use Rattle.format.proofs.Calls.{Asked}
+use Rattle.entries.proofs.ByKind.{size-range}
 use Rattle.packing.specs.Answers.{packed}
-use Rattle.writing.specs.Kinds.{entriesFor, formFor}
-use Rattle.writing.proofs.ByKind.{size-range}
+use Rattle.writing.specs.Kinds.{formFor}
+use Rattle.entries.specs.Kinds.{entriesFor}
 use Rattle.packing.proofs.Packs.{limit-refused, limit-asked, asked-inside, asked-there, asked-most, call-refused, call-packs}
 use borrow.Author.Needs.{needs}
 use Rattle.packing.proofs.calls.pack.Statement.{statement}

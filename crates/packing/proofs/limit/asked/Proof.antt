@@ -1,16 +1,14 @@
 -- `packing::limit::asked` meets its contract: the tests are those of the definition, in its order.
 -- Assumes nothing.
-use native.Mathlib.Nat.{mul-div-le}
 use native.Mathlib.Omega.{arith}
 use mathlib.Core.Path.{_≡_, sym, ap, _∙_}
-use lib.ListN.{length}
 use denote.Ref.{now}
 use borrow.Author.Needs.{needs}
 use Rattle.format.specs.Outcome.{gives}
 use Rattle.format.specs.Packing.{readLimit}
-use Rattle.writing.specs.Kinds.{entriesFor}
+use Rattle.entries.specs.Kinds.{entriesFor}
 use Rattle.packing.specs.Answers.{limitOf}
-use Rattle.writing.proofs.ByKind.{size-range}
+use Rattle.entries.proofs.ByKind.{size-range}
 use Rattle.packing.proofs.Asks.{read-gives, read-refuses, ask-limit, ask-room, ask-part, ask-start, ask-bad, ask-fine}
 use Rattle.packing.proofs.limit.asked.Statement.{statement}
 use Rattle.packing.proofs.limit.asked.Tie as tie
@@ -84,9 +82,13 @@ returns-4 c =
     (sym (ask-start E o (a .start) (a .limit) (a .room) _ (read r) (c .before .before .before .if1 .left) (rw size at (c .before .before .if2 .left)) (rw size at (c .before .if3 .taken))))
 
 first-bad-requires : tie.Need-first-bad-requires
-first-bad-requires c κs =
-    let a = c .before .before .before .before .before .before .before .before .before .args in
-    (c .if3 .left, rw (c .before .before .before .entry-size .ensures) (mul-div-le (length (now (a .e))) (entriesFor (a .kind) .size)))
+first-bad-requires c κs = search needs
+
+enum-told-2 : tie.Need-enum-told-2
+enum-told-2 c = search needs
+
+enum-known-bad : tie.Need-enum-known-bad
+enum-known-bad c = search needs
 
 refused-requires-4 : tie.Need-refused-requires-4
 refused-requires-4 c κs = search needs
@@ -94,27 +96,21 @@ refused-requires-4 c κs = search needs
 returns-5 : tie.Need-returns-5
 unfolding limitOf
 returns-5 c =
-    let r = c .before .before .before .before .before .before .before in
+    let f = c .before .before in
+    let r = f .before .before .before .before .before in
     let a = r .before .before .before .before .before .args in
-    let E = entriesFor (a .kind) in
-    let o = now (a .e) in
-    let size = c .before .before .before .before .before .before .entry-size .ensures in
-    rw (c .refused4 .ensures)
-    (sym (ask-bad E o (a .start) (a .limit) (a .room) _ (read r) (c .before .before .before .before .before .if1 .left) (rw size at (c .before .before .before .before .if2 .left)) (rw size at (c .before .before .before .if3 .left)) _
-    (rw size at (c .before .before .first-bad .ensures))
-    (rw size at (c .before .if4 .taken))))
+    let size = f .before .before .before .before .entry-size .ensures in
+    sym (ask-fine (entriesFor (a .kind)) (now (a .e)) (a .start) (a .limit) (a .room) _ (read r) (f .before .before .before .if1 .left) (rw size at (f .before .before .if2 .left)) (rw size at (f .before .if3 .left)) (f .first-bad .ensures) (c .enum-told2 .given .1))
 
 returns-6 : tie.Need-returns-6
 unfolding limitOf
 returns-6 c =
-    let r = c .before .before .before .before .before .before in
+    let f = c .before .before .before .before in
+    let r = f .before .before .before .before .before in
     let a = r .before .before .before .before .before .args in
-    let E = entriesFor (a .kind) in
-    let o = now (a .e) in
-    let size = c .before .before .before .before .before .entry-size .ensures in
-    sym (ask-fine E o (a .start) (a .limit) (a .room) _ (read r) (c .before .before .before .before .if1 .left) (rw size at (c .before .before .before .if2 .left)) (rw size at (c .before .before .if3 .left)) _
-    (rw size at (c .before .first-bad .ensures))
-    (rw size at (c .if4 .left)))
+    let size = f .before .before .before .before .entry-size .ensures in
+    rw (c .refused4 .ensures)
+    (sym (ask-bad (entriesFor (a .kind)) (now (a .e)) (a .start) (a .limit) (a .room) _ (read r) (f .before .before .before .if1 .left) (rw size at (f .before .before .if2 .left)) (rw size at (f .before .if3 .left)) (f .first-bad .ensures) (c .before .before .bad .given .1)))
 
 pub asked-spec : {M : Type 1} → statement M
 asked-spec =
@@ -134,6 +130,8 @@ asked-spec =
     refused-requires-3
     returns-4
     first-bad-requires
+    enum-told-2
+    enum-known-bad
     refused-requires-4
     returns-5
     returns-6)

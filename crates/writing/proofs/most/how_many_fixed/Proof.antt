@@ -3,7 +3,7 @@
 use native.Mathlib.Omega.{arith}
 use borrow.Author.Needs.{needs}
 use Rattle.writing.specs.Kinds.{fitting}
-use Rattle.writing.proofs.ByKind.{size-range}
+use Rattle.entries.proofs.ByKind.{size-range}
 use Rattle.writing.proofs.most.how_many_fixed.Statement.{statement}
 use Rattle.writing.proofs.most.how_many_fixed.Tie as tie
 

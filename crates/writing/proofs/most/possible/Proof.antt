@@ -5,9 +5,11 @@ use Prim.Native.Nat.{_+_, _-_, _*_}
 use mathlib.Core.Path.{_≡_, sym, _∙_}
 use borrow.Author.Tests.{lt-ltb, le-leb, lt-leb}
 use Rattle.format.specs.Packing.{leastLimit}
-use Rattle.writing.specs.Kinds.{entriesFor, formFor}
+use Rattle.entries.proofs.ByKind.{size-range}
+use Rattle.entries.specs.Kinds.{entriesFor}
+use Rattle.writing.specs.Kinds.{formFor}
 use Rattle.writing.specs.Most.{possible}
-use Rattle.writing.proofs.ByKind.{size-range, size-room}
+use Rattle.writing.proofs.ByKind.{size-room}
 use borrow.Author.Needs.{needs}
 use Rattle.writing.proofs.most.possible.Statement.{statement}
 use Rattle.writing.proofs.most.possible.Tie as tie

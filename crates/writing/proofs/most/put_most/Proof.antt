@@ -9,7 +9,8 @@ use Prim.Native.Nat.{_<_}
 use Rattle.format.specs.Entry.{entriesAt}
 use Rattle.format.specs.Packing.{taken}
 use Rattle.format.proofs.Entries.{length-entriesAt}
-use Rattle.writing.specs.Kinds.{entriesFor, formFor, isAggregated, recordsFor, fitting}
+use Rattle.entries.specs.Kinds.{entriesFor}
+use Rattle.writing.specs.Kinds.{formFor, isAggregated, recordsFor, fitting}
 use Rattle.writing.specs.Aggregates.{allOf}
 use Rattle.writing.proofs.ByKind.{head-range, aggregated-is, each-record}
 use Rattle.writing.proofs.Fitting.{records-long, length-is, taken-fixed}

@@ -8,7 +8,8 @@ use mathlib.Core.List.{_++_}
 use lib.ListN.{length, length-append}
 use Rattle.octets.proofs.Laws.{put-next}
 use Rattle.format.specs.Entry.{entriesAt}
-use Rattle.writing.specs.Kinds.{entriesFor, recordsFor, frontOf, headSize, beginning}
+use Rattle.entries.specs.Kinds.{entriesFor}
+use Rattle.writing.specs.Kinds.{recordsFor, frontOf, headSize, beginning}
 use Rattle.writing.proofs.Writing.{unsealed, sealed}
 use Rattle.writing.proofs.ByKind.{head-range}
 use Rattle.writing.proofs.Fitting.{canonical-is, length-is}

@@ -8,7 +8,8 @@ use Rattle.format.specs.Record.{pairOctets}
 use Rattle.format.specs.Entry.{pairAt}
 use Rattle.format.specs.Family.{ipv4}
 use Rattle.format.proofs.Lengths.{length-pair}
-use Rattle.writing.proofs.ByKind.{size-range, record-long, record-short}
+use Rattle.entries.proofs.ByKind.{size-range}
+use Rattle.writing.proofs.ByKind.{record-long, record-short}
 use borrow.Author.Needs.{needs}
 use Rattle.writing.proofs.record.put_record.Statement.{statement}
 use Rattle.writing.proofs.record.put_record.Tie as tie

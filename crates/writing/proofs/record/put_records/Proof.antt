@@ -5,11 +5,13 @@ use native.Mathlib.Omega.{arith}
 use mathlib.Core.Path.{refl, ap}
 use denote.Ref.{now}
 use borrow.Author.Needs.{needs}
-use Rattle.writing.specs.Kinds.{entriesFor, recordOctets, recordSize}
-use Rattle.writing.proofs.ByKind.{size-range, record-sized}
+use Rattle.writing.specs.Kinds.{recordOctets, recordSize}
+use Rattle.writing.proofs.ByKind.{record-sized}
 use Rattle.writing.proofs.Writing.{Rows, rows-start, rows-there, rows-next, rows-end, rows-out}
 use Rattle.writing.proofs.record.put_records.Statement.{statement}
 use Rattle.writing.proofs.record.put_records.Tie as tie
+use Rattle.entries.specs.Kinds.{entriesFor}
+use Rattle.entries.proofs.ByKind.{size-range}
 
 abbrev Inv-loop : tie.InvT-loop
 Inv-loop kind e from n d₀ start size i₀ at₀ out₀ d i at out = Rows (entriesFor kind) (recordOctets kind) (recordSize kind) e from n d₀ start d i at out

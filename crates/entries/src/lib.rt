@@ -1,27 +1,47 @@
-// Entries by the kind of message that is made of them. Octets past the last whole entry are not looked at.
+// Entries by the kind of message that is made of them: their size, the R bit, which are allowed, and the first that is
+// not. Octets past the last whole entry are not looked at.
 use format::Kind;
-use joining::r_bit;
 use octets::number32;
-use writing::entry_size;
 ghost use mathlib.Core.Path.{_≡_};
-ghost use Prim.Native.Nat.{_+_, _-_, _*_, _≤_, _<_};
-ghost use lib.ListN.{length};
-ghost use Rattle.format.specs.Entry.{entriesAt, entriesOf};
+ghost use Prim.Native.Nat.{_+_, _≤_};
+ghost use lib.ListN.{length, drop};
+ghost use Rattle.octets.specs.Octets.{numberAt};
+ghost use Rattle.records.specs.Records.{rBit};
+ghost use Rattle.format.specs.Entry.{entriesOf};
 ghost use Rattle.format.specs.Packing.{firstBad};
-ghost use Rattle.writing.specs.Kinds.{entriesFor};
-ghost use Rattle.packing.specs.Kinds.{zeroFor, badAt};
-ghost use Rattle.packing.specs.Answers.{listedBy};
+ghost use Rattle.entries.specs.Kinds.{entriesFor, zeroFor, listedBy};
 
 // Groups lie in 224.0.0.0/4.
 const FIRST_GROUP: u32 = 0xe000_0000;
 
 const PAST_GROUPS: u32 = 0xf000_0000;
 
-// Whether every entry of a list is allowed.
+// Whether every entry is allowed.
 pub enum Listed {
     Allowed,
     // The number of the first that is not.
     Bad(usize),
+}
+
+// The octets of an entry.
+pub fn entry_size(kind: Kind) -> usize
+    ensures { λ r. ⌜ r ≡ entriesFor kind .size ⌝ }
+{
+    match kind {
+        Kind::Hello => 16,
+        Kind::Assert => 16,
+        Kind::Simple => 16,
+        Kind::Aggregated => 16,
+        Kind::NullRegister => 8,
+        Kind::RegisterStop => 8,
+    }
+}
+
+// R is the highest bit of the word at a place.
+pub fn r_bit(e: &[u8], at: usize) -> bool
+    ensures { λ r. ⌜ r ≡ rBit (numberAt 4 (now (e .entry)) at) ⌝ }
+{
+    0x8000_0000 <= number32(e, at)
 }
 
 // Whether the source of an entry may be 0.
@@ -57,32 +77,30 @@ fn allowed(kind: Kind, e: &[u8], at: usize) -> bool
     zero_allowed(kind, e, at)
 }
 
-// The first entry from `start` on that is not allowed, or `count` if there is none.
-pub(crate) fn first_bad(kind: Kind, e: &[u8], start: usize, count: usize) -> usize
-    requires { ⌜ (start ≤ count) × (entriesFor kind .size * count ≤ length (now e)) ⌝ }
-    ensures { λ r. ⌜ badAt r count ≡ firstBad (entriesFor kind .allowed) start (entriesAt (entriesFor kind) (now (e .entry)) (entriesFor kind .size * start) (count - start)) ⌝ }
+// The first entry from a number on that a message of a kind may not have.
+pub fn first_bad(kind: Kind, e: &[u8], start: usize) -> Listed
+    ensures { λ r. ⌜ listedBy r ≡ firstBad (entriesFor kind .allowed) start (drop start (entriesOf (entriesFor kind) (now (e .entry)))) ⌝ }
 {
     let size = entry_size(kind);
+    let count = e.len() / size;
+    if count < start {
+        return Listed::Allowed;
+    }
     let mut i = start;
     let mut at = size * start;
     while i < count {
         if !allowed(kind, e, at) {
-            return i;
+            return Listed::Bad(i);
         }
         i += 1;
         at += size;
     }
-    count
+    Listed::Allowed
 }
 
 // Whether every entry of a list is one that a message of a kind may have.
 pub fn entries_allowed(kind: Kind, e: &[u8]) -> Listed
     ensures { λ r. ⌜ listedBy r ≡ firstBad (entriesFor kind .allowed) 0 (entriesOf (entriesFor kind) (now (e .entry))) ⌝ }
 {
-    let count = e.len() / entry_size(kind);
-    let bad = first_bad(kind, e, 0, count);
-    if bad < count {
-        return Listed::Bad(bad);
-    }
-    Listed::Allowed
+    first_bad(kind, e, 0)
 }

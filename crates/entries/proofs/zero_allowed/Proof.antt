@@ -1,10 +1,10 @@
--- `packing::entry::zero_allowed` meets its contract, kind by kind.
+-- `entries::zero_allowed` meets its contract, kind by kind.
 -- Assumes nothing.
 use native.Mathlib.Omega.{arith}
 use borrow.Author.Needs.{needs}
-use Rattle.packing.specs.Kinds.{zeroFor}
-use Rattle.packing.proofs.entry.zero_allowed.Statement.{statement}
-use Rattle.packing.proofs.entry.zero_allowed.Tie as tie
+use Rattle.entries.specs.Kinds.{zeroFor}
+use Rattle.entries.proofs.zero_allowed.Statement.{statement}
+use Rattle.entries.proofs.zero_allowed.Tie as tie
 
 enum-told : tie.Need-enum-told
 enum-told c = search needs

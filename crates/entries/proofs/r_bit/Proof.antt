@@ -1,8 +1,8 @@
--- `joining::there::r_bit` meets its contract: the test is the definition's.
+-- `entries::r_bit` meets its contract: the test is the definition's.
 -- Assumes nothing.
 use borrow.Author.Needs.{needs}
-use Rattle.joining.proofs.there.r_bit.Statement.{statement}
-use Rattle.joining.proofs.there.r_bit.Tie as tie
+use Rattle.entries.proofs.r_bit.Statement.{statement}
+use Rattle.entries.proofs.r_bit.Tie as tie
 
 number32-requires : tie.Need-number32-requires
 number32-requires c κs = search needs

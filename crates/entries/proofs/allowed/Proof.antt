@@ -1,4 +1,4 @@
--- `packing::entry::allowed` meets its contract: the tests are those of the definition, by `allowed-is`.
+-- `entries::allowed` meets its contract: the tests are those of the definition, by `allowed-is`.
 -- Assumes nothing.
 use Prim.Native.Nat.{_+_, _≤_}
 use mathlib.Core.Path.{_≡_, refl, _∙_}
@@ -10,10 +10,9 @@ use borrow.Author.Needs.{needs}
 use Rattle.octets.specs.Octets.{numberAt}
 use Rattle.octets.proofs.Laws.{number-cut}
 use Rattle.format.specs.Family.{mayBeSource}
-use Rattle.writing.proofs.ByKind.{size-range}
-use Rattle.packing.proofs.ByKind.{allowed-is, zero-may}
-use Rattle.packing.proofs.entry.allowed.Statement.{statement}
-use Rattle.packing.proofs.entry.allowed.Tie as tie
+use Rattle.entries.proofs.ByKind.{size-range, allowed-is, zero-may}
+use Rattle.entries.proofs.allowed.Statement.{statement}
+use Rattle.entries.proofs.allowed.Tie as tie
 
 -- group and source are there, in an entry of either size
 there : (s : tie.Start) → s .args .at + 8 ≤ length (now (s .args .e))
