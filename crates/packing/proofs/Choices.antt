@@ -19,7 +19,7 @@ use Rattle.format.specs.Entry.{Entries, assertEntries, count, entriesOf}
 use Rattle.format.specs.Packing.{Form, simple, aggregated, Due, due, asked, taken, Packed, octetsOf, tookOf, pack, prefersAggregated, chosen, chosenOf, bothWritten, choiceOf, choice}
 use Rattle.format.proofs.Outcomes.{no-refusal, gives-same}
 use Rattle.format.proofs.Calls.{Asked, asked-gives, gives-asked, taken-fits, pack-none, pack-some}
-use Rattle.joining.specs.Joins.{asserts}
+use Rattle.packing.specs.Joins.{asserts}
 use Rattle.entries.proofs.Lists.{drop-entries}
 
 -- what is packed is within the limit

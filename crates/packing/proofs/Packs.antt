@@ -1,12 +1,11 @@
 -- What a packing call comes to.
 --     limit-refused, limit-asked     what the answer of `asked` says
---     asked-inside, asked-there, asked-most     the entries from the start on, and the message that can be asked for
+--     asked-limit, asked-inside, asked-there     the limit, and the entries from the start on
 --     call-refused, call-packs       the call is refused, or packs them
 -- Assumes nothing.
 use Prim.Native.Nat.{ℕ, _+_, _-_, _*_, _/_, _≤_}
 use native.Mathlib.Omega.{arith}
 use mathlib.Core.Path.{_≡_, refl, sym, ap, ap₂, _∙_}
-use mathlib.Core.Bool.{true}
 use mathlib.Core.List.{List}
 use lib.ListN.{length, drop}
 use Rattle.octets.specs.Octets.{put}
@@ -20,9 +19,7 @@ use Rattle.format.specs.declared.Refusal.{Refusal}
 use Rattle.format.proofs.Outcomes.{no-refusal, gives-same}
 use Rattle.format.proofs.Calls.{limit-range, Asked, asked-gives, gives-asked}
 use Rattle.entries.proofs.Lists.{drop-entries, rest-there}
-use Rattle.writing.specs.Kinds.{formFor, isPacked}
-use Rattle.writing.specs.Most.{mostOf}
-use Rattle.writing.proofs.Packs.{possible-is, possible-most}
+use Rattle.packing.specs.Kinds.{formFor}
 use Rattle.packing.specs.Answers.{limitOf, limited}
 use Rattle.packing.specs.declared.limit.Limit.{Limit}
 use Rattle.packing.specs.declared.limit.Limit.the-variants.{Is, Refused}
@@ -49,11 +46,9 @@ call-refused F o start limit d n p e = rw e
 
 -- the limit that was read, and the entries from the start on are there
 module _ (k : Kind) (o : List ℕ) (start limit : ℕ) (room l : ℕ) (h : Asked (entriesFor k) o start limit room l) where
-  asked-limits : (38 ≤ l) × (l ≤ 65515)
+  pub asked-limit : 38 ≤ l
   unfolding leastLimit usualLimit
-  asked-limits =
-      let range = limit-range ipv4 limit l (rw (family-is k) at (h .limitRead)) in
-      (range .0 (omega arith), range .1)
+  asked-limit = limit-range ipv4 limit l (rw (family-is k) at (h .limitRead)) .0 (omega arith)
 
   pub asked-inside : start ≤ length o / entriesFor k .size
   unfolding count
@@ -61,13 +56,6 @@ module _ (k : Kind) (o : List ℕ) (start limit : ℕ) (room l : ℕ) (h : Asked
 
   pub asked-there : entriesFor k .size * start + entriesFor k .size * (length o / entriesFor k .size - start) ≤ length o
   asked-there = rest-there (entriesFor k) o start asked-inside
-
-  -- the message can be asked for, in any buffer with room for the limit
-  pub asked-most : isPacked k ≡ true → (r : ℕ) → l ≤ r
-      → mostOf k o (entriesFor k .size * start) (length o / entriesFor k .size - start) l r ≡ pack (formFor k) l (entriesAt (entriesFor k) o (entriesFor k .size * start) (length o / entriesFor k .size - start))
-  asked-most p r fits =
-      possible-most k o (entriesFor k .size * start) (length o / entriesFor k .size - start) l r
-      (possible-is k (length o) (entriesFor k .size * start) (length o / entriesFor k .size - start) l r p asked-there (asked-limits .0) (asked-limits .1) fits)
 
 -- a call that is not refused packs the entries from the start on
 pub call-packs : (k : Kind) (o : List ℕ) (start limit l : ℕ) (d : List ℕ) (p : Packed) → Asked (entriesFor k) o start limit (length d) l

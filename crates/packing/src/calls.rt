@@ -1,17 +1,17 @@
 // The five packing calls, by one function over the kind.
 use crate::limit::Limit;
 use crate::limit::asked;
+use crate::most::write_most;
 use entries::entry_size;
 use format::Kind;
 use format::Refusal;
-use writing::write_most;
 ghost use mathlib.Core.Path.{_≡_};
 ghost use mathlib.Core.Bool.{true};
 ghost use Prim.Native.Nat.{_*_};
 ghost use lib.ListN.{length};
 ghost use Rattle.format.specs.Family.{ipv4};
 ghost use Rattle.format.specs.Packing.{plain, simple, aggregated, nullRegister, registerStop, taken, pack, packing};
-ghost use Rattle.writing.specs.Kinds.{formFor, isPacked};
+ghost use Rattle.packing.specs.Kinds.{formFor, isPacked};
 ghost use Rattle.packing.specs.Answers.{packed};
 
 // What a packing call did.

@@ -1,13 +1,13 @@
 // The choice between the two packed assert forms: both are written, each into a buffer of its own.
 use crate::limit::Limit;
 use crate::limit::asked;
+use crate::most::Written;
+use crate::most::write_most;
+use crate::within::smaller;
 use format::Kind;
 use format::Refusal;
-use writing::Written;
-use writing::write_most;
 ghost use mathlib.Core.Path.{_≡_};
 ghost use mathlib.Core.Bool.{_&&_, _||_};
-ghost use Prim.Native.Nat.{min};
 ghost use lib.Dec.{eqb, ltb};
 ghost use Rattle.format.specs.Family.{ipv4};
 ghost use Rattle.format.specs.Packing.{choice};
@@ -22,16 +22,6 @@ pub enum Choice {
         taken: usize,
     },
     Refused(Refusal),
-}
-
-// The smaller of two numbers.
-fn smaller(a: usize, b: usize) -> usize
-    ensures { λ r. ⌜ r ≡ min a b ⌝ }
-{
-    if b < a {
-        return b;
-    }
-    a
 }
 
 // The one that took more entries, then the shorter, then the simple.

@@ -1,13 +1,25 @@
 // The packing calls: plain asserts, packed simple and aggregated asserts, null-registers and register-stops, and the
 // choice between the two packed assert forms. Every public call is total; what it answers and what it writes is a
-// definition of the crate format. How a message is written is the crate writing's.
+// definition of the crate format.
 //
+// run.rt         where a run of entries ends
+// record.rt      records of one length
+// aggregate.rt   aggregated records, each of one run
+// within.rt      the most aggregated records within a limit
+// message.rt     what begins a message, and its checksum
+// most.rt        the most entries that fit, and their message
 // limit.rt       what a call refuses, in the order 9, 8, 10, 7
 // calls.rt       the five calls
 // choice.rt      both packed assert forms, and the one that is chosen
+mod aggregate;
 mod calls;
 mod choice;
 mod limit;
+mod message;
+mod most;
+mod record;
+mod run;
+mod within;
 
 pub use calls::Packing;
 pub use calls::pack_aggregated;

@@ -10,10 +10,11 @@ use Rattle.format.specs.Entry.{entriesAt}
 use Rattle.format.specs.Packing.{asked, pack, wrote}
 use Rattle.format.proofs.Calls.{Asked}
 use Rattle.entries.proofs.ByKind.{size-range}
+use Rattle.packing.proofs.ByKind.{packed-is}
 use Rattle.packing.specs.Answers.{packed}
-use Rattle.writing.specs.Kinds.{formFor}
+use Rattle.packing.specs.Kinds.{formFor}
 use Rattle.entries.specs.Kinds.{entriesFor}
-use Rattle.packing.proofs.Packs.{limit-refused, limit-asked, asked-inside, asked-there, asked-most, call-refused, call-packs}
+use Rattle.packing.proofs.Packs.{limit-refused, limit-asked, asked-limit, asked-inside, asked-there, call-refused, call-packs}
 use borrow.Author.Needs.{needs}
 use Rattle.packing.proofs.calls.pack.Statement.{statement}
 use Rattle.packing.proofs.calls.pack.Tie as tie
@@ -60,7 +61,13 @@ sub-write-most : tie.Need-sub-write-most
 sub-write-most c = rw (c .entry-size .ensures) (inside (c .before))
 
 write-most-requires : tie.Need-write-most-requires
-write-most-requires c κs = search needs
+write-most-requires c κs =
+    let r = c .before .before in
+    let s = start r in
+    let a = s .args in
+    let room = length (now (a .d)) in
+    let size = c .before .entry-size .ensures in
+    (packed-is (a .kind) (s .pre), rw size (asked-there (a .kind) (now (a .e)) (a .start) (a .limit) room (limit r) (asks r)), asked-limit (a .kind) (now (a .e)) (a .start) (a .limit) room (limit r) (asks r), asks r .enough)
 
 returns : tie.Need-returns
 unfolding packed
@@ -81,8 +88,7 @@ returns-2 c =
     let a = start r .args in
     let size = c .before .before .before .before .entry-size .ensures in
     let p = pack (formFor (a .kind)) (limit r) (entriesAt (entriesFor (a .kind)) (now (a .e)) (entriesFor (a .kind) .size * a .start) (length (now (a .e)) / entriesFor (a .kind) .size - a .start)) in
-    let most = asked-most (a .kind) (now (a .e)) (a .start) (a .limit) (length (now (a .d))) (limit r) (asks r) (start r .pre) (length (now (a .d))) (asks r .enough) in
-    let wrote-it = rw (size, most) at (c .before .before .write-most .ensures) in
+    let wrote-it = rw size at (c .before .before .write-most .ensures) in
     let call = call-packs (a .kind) (now (a .e)) (a .start) (a .limit) (limit r) (now (a .d)) p (asks r) refl in
     (ap₂ (λ x y. gives (wrote x y)) (wrote-it .0 .0) (wrote-it .0 .1) ∙ sym (ap (λ x. x .answer) call), wrote-it .1 ∙ sym (ap (λ x. x .buffer) call))
 

@@ -14,10 +14,10 @@ use Rattle.format.specs.Entry.{assertEntries}
 use Rattle.format.specs.Packing.{simple, aggregated, asked, pack, prefersAggregated, chosen, bothWritten, choice}
 use Rattle.format.specs.declared.Kind.the-variants.{Simple, Aggregated}
 use Rattle.format.proofs.Calls.{Asked}
-use Rattle.joining.specs.Joins.{asserts}
-use Rattle.writing.specs.Most.{mostOf}
+use Rattle.packing.specs.Joins.{asserts}
 use Rattle.packing.specs.Answers.{chosenBy}
-use Rattle.packing.proofs.Packs.{limit-refused, limit-asked, asked-inside, asked-there, asked-most}
+use Rattle.packing.proofs.Packs.{limit-refused, limit-asked, asked-limit, asked-inside, asked-there}
+use Rattle.packing.proofs.ByKind.{packed-is}
 use Rattle.packing.proofs.Choices.{choice-refused, choice-packs, preferred, both-aggregated, both-simple}
 use borrow.Author.Needs.{needs}
 use Rattle.packing.proofs.choice.pack_both.Statement.{statement}
@@ -47,18 +47,9 @@ inside c = let a = start c .args in asked-inside Simple (now (a .e)) (a .start) 
 there : (c : tie.After-known-told2) → 16 * start c .args .start + 16 * (length (now (start c .args .e)) / 16 - start c .args .start) ≤ length (now (start c .args .e))
 there c = let a = start c .args in asked-there Simple (now (a .e)) (a .start) (a .limit) (min (length (now (a .simple))) (length (now (a .aggregated)))) (limit c) (asks c)
 
--- each buffer has room for the limit
-simple-most : (c : tie.After-known-told2) → mostOf Simple (now (start c .args .e)) (16 * start c .args .start) (length (now (start c .args .e)) / 16 - start c .args .start) (limit c) (length (now (start c .args .simple)))
-    ≡ pack (simple ipv4) (limit c) (left c)
-simple-most c =
-    let a = start c .args in
-    asked-most Simple (now (a .e)) (a .start) (a .limit) (min (length (now (a .simple))) (length (now (a .aggregated)))) (limit c) (asks c) refl (length (now (a .simple))) (omega (arith, asks c .enough))
-
-aggregated-most : (c : tie.After-known-told2) → mostOf Aggregated (now (start c .args .e)) (16 * start c .args .start) (length (now (start c .args .e)) / 16 - start c .args .start) (limit c) (length (now (start c .args .aggregated)))
-    ≡ pack (aggregated ipv4) (limit c) (left c)
-aggregated-most c =
-    let a = start c .args in
-    asked-most Aggregated (now (a .e)) (a .start) (a .limit) (min (length (now (a .simple))) (length (now (a .aggregated)))) (limit c) (asks c) refl (length (now (a .aggregated))) (omega (arith, asks c .enough))
+-- the message can be asked for
+low : (c : tie.After-known-told2) → 38 ≤ limit c
+low c = let a = start c .args in asked-limit Simple (now (a .e)) (a .start) (a .limit) (min (length (now (a .simple))) (length (now (a .aggregated)))) (limit c) (asks c)
 
 abbrev told : tie.After-prefers-aggregated → tie.After-known-told2
 told c = c .before .before .before .before .before .before .before .before .before
@@ -75,8 +66,8 @@ call c =
 prefers : (c : tie.After-prefers-aggregated)
     → c .prefers-aggregated .result ≡ prefersAggregated (pack (simple ipv4) (limit (told c)) (left (told c))) (pack (aggregated ipv4) (limit (told c)) (left (told c)))
 prefers c =
-    let s = rw (simple-most (told c)) at (c .before .before .before .before .before .before .before .write-most .ensures .0) in
-    let a = rw (aggregated-most (told c)) at (c .before .before .before .write-most2 .ensures .0) in
+    let s = c .before .before .before .before .before .before .before .write-most .ensures .0 in
+    let a = c .before .before .before .write-most2 .ensures .0 in
     c .prefers-aggregated .ensures ∙ preferred _ _ _ _ _ _ (s .0) (s .1) (a .0) (a .1)
 
 smaller-requires : tie.Need-smaller-requires
@@ -98,13 +89,17 @@ mul-write-most : tie.Need-mul-write-most
 mul-write-most c = omega (arith, there c)
 
 write-most-requires : tie.Need-write-most-requires
-write-most-requires c κs = search needs
+write-most-requires c κs =
+    let r = c .before in
+    (packed-is Simple refl, there r, low r, omega (arith, asks r .enough))
 
 mul-write-most-2 : tie.Need-mul-write-most-2
 mul-write-most-2 c = omega (arith, there (c .before .before .before .before))
 
 write-most-requires-2 : tie.Need-write-most-requires-2
-write-most-requires-2 c κs = search needs
+write-most-requires-2 c κs =
+    let r = c .before .before .before .before .before in
+    (packed-is Aggregated refl, there r, low r, omega (arith, asks r .enough))
 
 prefers-aggregated-requires : tie.Need-prefers-aggregated-requires
 prefers-aggregated-requires c κs = search needs
@@ -118,8 +113,8 @@ same-length-2 c = search needs
 returns : tie.Need-returns
 unfolding chosenBy
 returns c =
-    let s = rw (simple-most (told (c .before))) at (c .before .before .before .before .before .before .before .before .write-most .ensures) in
-    let a = rw (aggregated-most (told (c .before))) at (c .before .before .before .before .write-most2 .ensures) in
+    let s = c .before .before .before .before .before .before .before .before .write-most .ensures in
+    let a = c .before .before .before .before .write-most2 .ensures in
     let better = both-aggregated _ _ _ _ (sym (prefers (c .before)) ∙ c .if1 .taken) in
     let whole = call (c .before) ∙ better in
     (ap₂ (λ x y. gives (chosen true x y)) (a .0 .0) (a .0 .1) ∙ sym (ap (λ x. x .answer) whole), (s .1 ∙ sym (ap (λ x. x .simpleBuffer) whole), a .1 ∙ sym (ap (λ x. x .aggregatedBuffer) whole)))
@@ -143,8 +138,8 @@ same-length-4 c = search needs
 returns-3 : tie.Need-returns-3
 unfolding chosenBy
 returns-3 c =
-    let s = rw (simple-most (told (c .before))) at (c .before .before .before .before .before .before .before .before .write-most .ensures) in
-    let a = rw (aggregated-most (told (c .before))) at (c .before .before .before .before .write-most2 .ensures) in
+    let s = c .before .before .before .before .before .before .before .before .write-most .ensures in
+    let a = c .before .before .before .before .write-most2 .ensures in
     let simpler = both-simple _ _ _ _ (sym (prefers (c .before)) ∙ c .if1 .left) in
     let whole = call (c .before) ∙ simpler in
     (ap₂ (λ x y. gives (chosen false x y)) (s .0 .0) (s .0 .1) ∙ sym (ap (λ x. x .answer) whole), (s .1 ∙ sym (ap (λ x. x .simpleBuffer) whole), a .1 ∙ sym (ap (λ x. x .aggregatedBuffer) whole)))

@@ -1,0 +1,151 @@
+-- What holds of every kind, and of those whose records have one length.
+--     record-long, record-short      the record of an assert entry, and of a pair, as code writes it
+--     record-sized                   a record is 6 octets longer than its entry
+--     kind-is, most-is               a form is of its kind, and takes no more than there is
+--     front-long, front-short, head-range     the beginning of a message, with Zero and Reserved or without
+--     packed-is                      the five kinds that are packed
+--     aggregated-is, each-record     the one kind with records of runs; the others have one for each entry
+-- Assumes nothing.
+use Prim.Native.Nat.{ℕ, _+_, _≤_}
+use native.Mathlib.Omega.{arith}
+use mathlib.Core.Path.{_≡_, refl}
+use mathlib.Core.Bool.{true, false}
+use mathlib.Core.List.{List, [], _++_, append-assoc}
+use lib.ListN.{length}
+use Rattle.octets.specs.Octets.{numberAt, be}
+use Rattle.format.specs.Family.{ipv4}
+use Rattle.format.specs.Body.{zeros, plainBody, simpleBody, aggregatedBody, pairBody}
+use Rattle.format.specs.Entry.{assertAt, pairAt}
+use Rattle.format.specs.Record.{each, assertOctets, pairOctets}
+use Rattle.format.specs.declared.Kind.{Kind}
+use Rattle.format.specs.declared.Kind.the-variants.{Hello, Assert, Simple, Aggregated, NullRegister, RegisterStop}
+use Rattle.format.proofs.Lengths.{length-assert, length-pair}
+use Rattle.entries.specs.Kinds.{entriesFor}
+use Rattle.packing.specs.Kinds.{formFor, recordSize, recordOctets, isAggregated, recordsFor, frontOf, headSize, isPacked, Packs}
+
+-- ---- records
+
+-- an assert record goes on past the pair of its group and source
+assert-is : (o : List ℕ) (at : ℕ) → assertOctets ipv4 (assertAt ipv4 o at) ≡ pairOctets ipv4 (pairAt ipv4 o at) ++ (be 4 (numberAt 4 o (at + 8)) ++ be 4 (numberAt 4 o (at + 12)))
+unfolding assertOctets pairOctets assertAt pairAt
+assert-is o at = let e : at + 8 + 4 ≡ at + 12 = omega arith in rw (append-assoc, e)
+
+module _ (o : List ℕ) (at : ℕ) where
+  pub record-long : (k : Kind) → entriesFor k .size ≡ 16
+      → recordOctets k (entriesFor k .entryAt o at) ≡ pairOctets ipv4 (pairAt ipv4 o at) ++ (be 4 (numberAt 4 o (at + 8)) ++ be 4 (numberAt 4 o (at + 12)))
+  unfolding recordOctets
+  record-long Hello h = assert-is o at
+  record-long Assert h = assert-is o at
+  record-long Simple h = assert-is o at
+  record-long Aggregated h = assert-is o at
+  record-long NullRegister h = absurd (omega arith)
+  record-long RegisterStop h = absurd (omega arith)
+
+  pub record-short : (k : Kind) → (entriesFor k .size ≡ 16 → ⊥) → recordOctets k (entriesFor k .entryAt o at) ≡ pairOctets ipv4 (pairAt ipv4 o at)
+  unfolding recordOctets
+  record-short Hello h = absurd (h refl)
+  record-short Assert h = absurd (h refl)
+  record-short Simple h = absurd (h refl)
+  record-short Aggregated h = absurd (h refl)
+  record-short NullRegister h = refl
+  record-short RegisterStop h = refl
+
+pub record-sized : (k : Kind) (e : entriesFor k .Entry) → length (recordOctets k e) ≡ recordSize k
+unfolding recordOctets
+record-sized Hello e = length-assert ipv4 e
+record-sized Assert e = length-assert ipv4 e
+record-sized Simple e = length-assert ipv4 e
+record-sized Aggregated e = length-assert ipv4 e
+record-sized NullRegister e = length-pair ipv4 e
+record-sized RegisterStop e = length-pair ipv4 e
+
+-- ---- forms
+
+pub kind-is : (k : Kind) → formFor k .kind ≡ k
+kind-is Hello = refl
+kind-is Assert = refl
+kind-is Simple = refl
+kind-is Aggregated = refl
+kind-is NullRegister = refl
+kind-is RegisterStop = refl
+
+pub most-is : (k : Kind) (n : ℕ) → formFor k .atMost n ≤ n
+most-is Hello n = omega arith
+most-is Assert n = omega arith
+most-is Simple n = omega arith
+most-is Aggregated n = omega arith
+most-is NullRegister n = omega arith
+most-is RegisterStop n = omega arith
+
+pub front-long : (k : Kind) → headSize k ≡ 8 → frontOf k ≡ zeros
+front-long Hello h = absurd (omega arith)
+front-long Assert h = absurd (omega arith)
+front-long Simple h = refl
+front-long Aggregated h = refl
+front-long NullRegister h = absurd (omega arith)
+front-long RegisterStop h = absurd (omega arith)
+
+pub front-short : (k : Kind) → (headSize k ≡ 8 → ⊥) → frontOf k ≡ []
+front-short Hello h = refl
+front-short Assert h = refl
+front-short Simple h = absurd (h refl)
+front-short Aggregated h = absurd (h refl)
+front-short NullRegister h = refl
+front-short RegisterStop h = refl
+
+pub head-range : (k : Kind) → headSize k ≤ 8
+head-range Hello = omega arith
+head-range Assert = omega arith
+head-range Simple = omega arith
+head-range Aggregated = omega arith
+head-range NullRegister = omega arith
+head-range RegisterStop = omega arith
+
+plain-packs : Packs Assert
+unfolding plainBody recordOctets recordsFor
+plain-packs = record { body = λ es. refl }
+
+simple-packs : Packs Simple
+unfolding simpleBody recordOctets recordsFor
+simple-packs = record { body = λ es. refl }
+
+aggregated-packs : Packs Aggregated
+unfolding aggregatedBody recordsFor
+aggregated-packs = record { body = λ es. refl }
+
+null-packs : Packs NullRegister
+unfolding pairBody recordOctets recordsFor
+null-packs = record { body = λ es. refl }
+
+stop-packs : Packs RegisterStop
+unfolding pairBody recordOctets recordsFor
+stop-packs = record { body = λ es. refl }
+
+-- every kind that is packed
+pub packed-is : (k : Kind) → isPacked k ≡ true → Packs k
+packed-is Hello h = let never : _≡_ {A = ℕ} 0 1 = cc in absurd (omega arith)
+packed-is Assert h = plain-packs
+packed-is Simple h = simple-packs
+packed-is Aggregated h = aggregated-packs
+packed-is NullRegister h = null-packs
+packed-is RegisterStop h = stop-packs
+
+-- ---- which kind has records of runs
+
+pub aggregated-is : (k : Kind) → isAggregated k ≡ true → k ≡ Aggregated
+unfolding isAggregated
+aggregated-is Hello h = cc
+aggregated-is Assert h = cc
+aggregated-is Simple h = cc
+aggregated-is Aggregated h = refl
+aggregated-is NullRegister h = cc
+aggregated-is RegisterStop h = cc
+
+pub each-record : (k : Kind) → isAggregated k ≡ false → (es : List (entriesFor k .Entry)) → recordsFor k es ≡ each (recordOctets k) es
+unfolding isAggregated recordsFor
+each-record Hello h es = refl
+each-record Assert h es = refl
+each-record Simple h es = refl
+each-record Aggregated h es = cc
+each-record NullRegister h es = refl
+each-record RegisterStop h es = refl

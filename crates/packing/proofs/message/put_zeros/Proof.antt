@@ -1,0 +1,53 @@
+-- `packing::message::put_zeros` meets its contract.
+-- Assumes nothing.
+use native.Mathlib.Omega.{arith}
+use mathlib.Core.List.{[], _∷_}
+use lib.ListN.{length-set}
+use denote.Ref.{now}
+use borrow.Author.Needs.{needs}
+use Rattle.octets.proofs.Laws.{stores-put}
+use Rattle.packing.proofs.message.put_zeros.Statement.{statement}
+use Rattle.packing.proofs.message.put_zeros.Tie as tie
+
+slice-write-d : tie.Need-slice-write-d
+slice-write-d c = search needs
+
+add-d : tie.Need-add-d
+add-d c = search needs
+
+slice-write-d-2 : tie.Need-slice-write-d-2
+slice-write-d-2 c = simp length-set (omega arith)
+
+add-d-2 : tie.Need-add-d-2
+add-d-2 c = search needs
+
+slice-write-d-3 : tie.Need-slice-write-d-3
+slice-write-d-3 c = simp length-set (omega arith)
+
+add-d-3 : tie.Need-add-d-3
+add-d-3 c = search needs
+
+slice-write-d-4 : tie.Need-slice-write-d-4
+slice-write-d-4 c = simp length-set (omega arith)
+
+same-length : tie.Need-same-length
+same-length c = search needs
+
+returns : tie.Need-returns
+returns c =
+    let a = c .args in
+    stores-put (now (a .d)) (a .at) (0 ∷ 0 ∷ 0 ∷ 0 ∷ []) (omega arith)
+
+pub put-zeros-spec : {M : Type 1} → statement M
+put-zeros-spec =
+    tie.close
+    (tie.spec
+    slice-write-d
+    add-d
+    slice-write-d-2
+    add-d-2
+    slice-write-d-3
+    add-d-3
+    slice-write-d-4
+    same-length
+    returns)

@@ -1,0 +1,88 @@
+-- `packing::most::put_most` meets its contract: records of runs within the limit, or as many of one length as fit.
+-- Assumes nothing.
+use native.Mathlib.Omega.{arith}
+use native.Mathlib.Nat.{mul-le-mul-left}
+use mathlib.Core.Path.{_≡_, sym, ap, _∙_}
+use mathlib.Core.Bool.{false}
+use denote.Ref.{now}
+use Prim.Native.Nat.{_<_}
+use Rattle.format.specs.Entry.{entriesAt}
+use Rattle.format.specs.Packing.{taken}
+use Rattle.format.proofs.Entries.{length-entriesAt}
+use Rattle.entries.specs.Kinds.{entriesFor}
+use Rattle.packing.specs.Kinds.{formFor, isAggregated, recordsFor, fitting}
+use Rattle.packing.specs.Aggregates.{allOf}
+use Rattle.packing.proofs.ByKind.{head-range, aggregated-is, each-record}
+use Rattle.packing.proofs.Fitting.{records-long, length-is, taken-fixed}
+use Rattle.packing.proofs.Taken.{taken-within, taken-some, most-inside, most-fits}
+use borrow.Author.Needs.{needs}
+use Rattle.packing.proofs.most.put_most.Statement.{statement}
+use Rattle.packing.proofs.most.put_most.Tie as tie
+
+fixed : (c : tie.Else1) → isAggregated (c .before .before .before .before .args .kind) ≡ false
+fixed c = sym (c .before .is-aggregated .ensures) ∙ c .if1 .left
+
+-- how many records of one length there are
+counted : (c : tie.After-how-many-fixed) → c .how-many-fixed .result ≡ taken (formFor (c .before .before .before .before .before .args .kind)) (c .before .before .before .before .before .args .limit) (entriesAt (entriesFor (c .before .before .before .before .before .args .kind)) (now (c .before .before .before .before .before .args .e)) (c .before .before .before .before .before .args .from) (c .before .before .before .before .before .args .n))
+counted c =
+    let a = c .before .before .before .before .before .args in
+    let es = entriesAt (entriesFor (a .kind)) (now (a .e)) (a .from) (a .n) in
+    c .how-many-fixed .ensures
+    ∙ sym (taken-fixed (a .kind) (c .before .before .before .before .before .pre .0) (fixed (c .before)) (a .limit) es (omega (arith, head-range (a .kind), c .before .before .before .before .before .pre .3)) ∙ ap (fitting (a .kind) (a .limit)) (length-entriesAt (entriesFor (a .kind)) (now (a .e)) (a .from) (a .n)))
+
+is-aggregated-requires : tie.Need-is-aggregated-requires
+is-aggregated-requires c κs = search needs
+
+put-within-requires : tie.Need-put-within-requires
+put-within-requires c κs =
+    let a = c .before .before .before .before .before .args in
+    let there = rw (aggregated-is (a .kind) (sym (c .before .before .is-aggregated .ensures) ∙ c .before .if1 .taken)) at (c .before .before .before .before .before .pre .2) in
+    (there, omega (arith, head-range (a .kind), c .before .before .before .before .before .pre .3, c .before .before .before .before .before .pre .5), c .before .before .before .before .before .pre .4)
+
+same-length : tie.Need-same-length
+same-length c = search needs
+
+returns : tie.Need-returns
+unfolding recordsFor allOf
+returns c =
+    let a = c .before .before .before .before .before .before .before .before .args in
+    let kind = aggregated-is (a .kind) (sym (c .before .before .before .before .before .is-aggregated .ensures) ∙ c .before .before .before .before .if1 .taken) in
+    let head : a .out ≡ 8 = rw kind at (c .before .before .before .before .before .before .before .before .pre .5) in
+    let wrote = c .before .before .put-within .ensures in
+    rw kind (taken-within (now (a .e)) (a .from) (a .n) (a .limit) _ (omega (arith, c .before .before .before .before .before .before .before .before .pre .3)) (rw head at (wrote .0)), wrote .1)
+
+how-many-fixed-requires : tie.Need-how-many-fixed-requires
+how-many-fixed-requires c κs = omega (arith, head-range (c .before .before .before .before .args .kind), c .before .before .before .before .pre .3)
+
+put-records-requires : tie.Need-put-records-requires
+put-records-requires c κs =
+    let a = c .before .before .before .before .before .before .args in
+    let t = c .before .how-many-fixed .result in
+    let e = counted (c .before) in
+    let some : 0 < c .before .how-many-fixed .result = rw e (taken-some (a .kind) (c .before .before .before .before .before .before .pre .0) (now (a .e)) (a .from) (a .n) (a .limit) (c .before .before .before .before .before .before .pre .1) (c .before .before .before .before .before .before .pre .3)) in
+    let few = mul-le-mul-left (entriesFor (a .kind) .size) (most-inside (a .kind) (now (a .e)) (a .from) (a .n) (a .limit) t e) in
+    let fit = most-fits (a .kind) (now (a .e)) (a .from) (a .n) (a .limit) t e some in
+    (omega (arith, few, c .before .before .before .before .before .before .pre .2), omega (arith, fit, length-is (a .kind) (c .before .before .before .before .before .before .pre .0) (entriesAt (entriesFor (a .kind)) (now (a .e)) (a .from) t), records-long (a .kind) (fixed (c .before .before)) (now (a .e)) (a .from) t, c .before .before .before .before .before .before .pre .4, c .before .before .before .before .before .before .pre .5))
+
+same-length-2 : tie.Need-same-length-2
+same-length-2 c = search needs
+
+returns-2 : tie.Need-returns-2
+returns-2 c =
+    let a = c .before .before .before .before .before .before .before .before .before .args in
+    let t = c .before .before .before .before .how-many-fixed .result in
+    let same = fixed (c .before .before .before .before .before) in
+    (counted (c .before .before .before .before), (c .before .before .put-records .ensures .0 ∙ omega (arith, records-long (a .kind) same (now (a .e)) (a .from) t), rw (each-record (a .kind) same (entriesAt (entriesFor (a .kind)) (now (a .e)) (a .from) t)) (c .before .before .put-records .ensures .1)))
+
+pub put-most-spec : {M : Type 1} → statement M
+put-most-spec =
+    tie.close
+    (tie.spec
+    is-aggregated-requires
+    put-within-requires
+    same-length
+    returns
+    how-many-fixed-requires
+    put-records-requires
+    same-length-2
+    returns-2)

@@ -1,0 +1,49 @@
+-- `packing::record::put_pair` meets its contract: the source is written past the group.
+-- Assumes nothing.
+use Prim.Native.Nat.{_+_}
+use native.Mathlib.Omega.{arith}
+use denote.Ref.{now}
+use borrow.Author.Needs.{needs}
+use Rattle.octets.proofs.Laws.{put-next}
+use Rattle.format.specs.Address.{groupOctets, sourceOctets}
+use Rattle.format.specs.Record.{pairOctets}
+use Rattle.octets.specs.Octets.{numberAt}
+use Rattle.format.specs.Entry.{pairAt}
+use Rattle.format.specs.Family.{ipv4}
+use Rattle.format.proofs.Lengths.{length-group}
+use Rattle.packing.proofs.record.put_pair.Statement.{statement}
+use Rattle.packing.proofs.record.put_pair.Tie as tie
+
+put-group-requires : tie.Need-put-group-requires
+put-group-requires c κs = search needs
+
+add-put-source : tie.Need-add-put-source
+add-put-source c = search needs
+
+add-put-source-2 : tie.Need-add-put-source-2
+add-put-source-2 c = search needs
+
+put-source-requires : tie.Need-put-source-requires
+put-source-requires c κs = search needs
+
+same-length : tie.Need-same-length
+same-length c = search needs
+
+returns : tie.Need-returns
+unfolding pairOctets pairAt
+returns c =
+    let a = c .before .before .before .before .before .before .before .before .before .before .args in
+    let o = now (a .e) in
+    put-next (now (a .d)) (a .out) (groupOctets ipv4 (numberAt 4 o (a .at))) (sourceOctets ipv4 (numberAt 4 o (a .at + 4))) (c .before .before .before .before .before .before .put-group .ensures) (c .before .before .put-source .ensures)
+    (omega (arith, length-group ipv4 (numberAt 4 o (a .at))))
+
+pub put-pair-spec : {M : Type 1} → statement M
+put-pair-spec =
+    tie.close
+    (tie.spec
+    put-group-requires
+    add-put-source
+    add-put-source-2
+    put-source-requires
+    same-length
+    returns)

@@ -1,0 +1,42 @@
+-- `packing::record::put_source` meets its contract: stores, and the address past them.
+-- Assumes nothing.
+use native.Mathlib.Omega.{arith}
+use mathlib.Core.List.{[], _∷_}
+use mathlib.Core.Path.{refl, _∙_}
+use lib.ListN.{length-set}
+use denote.Ref.{now}
+use borrow.Author.Needs.{needs}
+use Rattle.octets.proofs.Laws.{stores-put, put-next}
+use Rattle.format.specs.Address.{sourceOctets}
+use Rattle.packing.proofs.record.put_source.Statement.{statement}
+use Rattle.packing.proofs.record.put_source.Tie as tie
+
+slice-write-d : tie.Need-slice-write-d
+slice-write-d c = search needs
+
+add-d : tie.Need-add-d
+add-d c = search needs
+
+slice-write-d-2 : tie.Need-slice-write-d-2
+slice-write-d-2 c = simp length-set (omega arith)
+
+add-copy4 : tie.Need-add-copy4
+add-copy4 c = search needs
+
+copy4-requires : tie.Need-copy4-requires
+copy4-requires c κs = (omega arith, simp length-set (omega arith))
+
+same-length : tie.Need-same-length
+same-length c = c .before .before .copy4 .kept .1 .1 .0 ∙ simp length-set
+
+returns : tie.Need-returns
+unfolding sourceOctets
+returns c =
+    let s = c .before .before .before .before .before .before in
+    let a = s .args in
+    put-next (now (a .d)) (a .out) (1 ∷ 0 ∷ []) _ (stores-put (now (a .d)) (a .out) (1 ∷ 0 ∷ []) (omega arith)) (c .before .before .copy4 .ensures) refl
+
+pub put-source-spec : {M : Type 1} → statement M
+put-source-spec =
+    tie.close
+    (tie.spec slice-write-d add-d slice-write-d-2 add-copy4 copy4-requires same-length returns)

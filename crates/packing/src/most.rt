@@ -1,0 +1,116 @@
+// The most of some entries that fit into one message, and that message.
+use crate::message::begin;
+use crate::message::head_size;
+use crate::message::is_aggregated;
+use crate::message::seal;
+use crate::record::put_records;
+use crate::within::Fitted;
+use crate::within::put_within;
+use crate::within::smaller;
+use entries::entry_size;
+use format::Kind;
+ghost use mathlib.Core.Path.{_≡_};
+ghost use Prim.Native.Nat.{_+_, _*_, _≤_, _<_};
+ghost use lib.ListN.{length};
+ghost use Rattle.octets.specs.Octets.{put};
+ghost use Rattle.format.specs.Entry.{entriesAt};
+ghost use Rattle.format.specs.Packing.{canonical, taken, octetsOf, tookOf, pack};
+ghost use Rattle.entries.specs.Kinds.{entriesFor};
+ghost use Rattle.packing.specs.Kinds.{formFor, recordsFor, headSize, fitting, Packs};
+
+// A message of so many octets, of so many entries; of none, no message.
+pub struct Written {
+    pub length: usize,
+    pub taken: usize,
+}
+
+// Of n entries, how many one message may take.
+fn at_most(kind: Kind, n: usize) -> usize
+    ensures { λ r. ⌜ r ≡ formFor kind .atMost n ⌝ }
+{
+    match kind {
+        Kind::Hello => 0,
+        Kind::Assert => {
+            if 1 < n {
+                return 1;
+            }
+            n
+        }
+        Kind::Simple => n,
+        Kind::Aggregated => n,
+        Kind::NullRegister => n,
+        Kind::RegisterStop => n,
+    }
+}
+
+// How many of n entries fit, where every record has one length.
+fn how_many_fixed(kind: Kind, limit: usize, n: usize) -> usize
+    requires { ⌜ headSize kind ≤ limit ⌝ }
+    ensures { λ r. ⌜ r ≡ fitting kind limit n ⌝ }
+{
+    let most = at_most(kind, n);
+    let fit = (limit - head_size(kind)) / (entry_size(kind) + 6);
+    smaller(fit, most)
+}
+
+// The records of the most of n entries that fit, past the beginning of their message.
+fn put_most(
+    kind: Kind,
+    e: &[u8],
+    from: usize,
+    n: usize,
+    limit: usize,
+    d: &mut [u8],
+    out: usize,
+) -> Fitted
+    requires { ⌜ Packs kind × (0 < n) × (from + entriesFor kind .size * n ≤ length (now e)) × (38 ≤ limit) × (limit ≤ length (now d)) × (out ≡ headSize kind) ⌝ }
+    ensures taken { λ r. ⌜ r .taken ≡ taken (formFor kind) limit (entriesAt (entriesFor kind) (now (e .entry)) from n) ⌝ }
+    ensures next { λ r. ⌜ r .next ≡ out + length (recordsFor kind (entriesAt (entriesFor kind) (now (e .entry)) from (r .taken))) ⌝ }
+    ensures buffer { λ r. ⌜ now (d .exit) ≡ put (now (d .entry)) out (recordsFor kind (entriesAt (entriesFor kind) (now (e .entry)) from (r .taken))) ⌝ }
+{
+    if is_aggregated(kind) {
+        return put_within(e, from, n, d, out, limit);
+    }
+    let taken = how_many_fixed(kind, limit, n);
+    let next = put_records(kind, e, from, taken, d, out);
+    Fitted { taken, next }
+}
+
+// The message of the most of n entries that fit: how many it takes, and its length.
+fn write_message(kind: Kind, e: &[u8], from: usize, n: usize, limit: usize, d: &mut [u8]) -> Fitted
+    requires { ⌜ Packs kind × (0 < n) × (from + entriesFor kind .size * n ≤ length (now e)) × (38 ≤ limit) × (limit ≤ length (now d)) ⌝ }
+    ensures taken { λ r. ⌜ r .taken ≡ taken (formFor kind) limit (entriesAt (entriesFor kind) (now (e .entry)) from n) ⌝ }
+    ensures size { λ r. ⌜ r .next ≡ length (canonical (formFor kind) (entriesAt (entriesFor kind) (now (e .entry)) from (r .taken))) ⌝ }
+    ensures buffer { λ r. ⌜ now (d .exit) ≡ put (now (d .entry)) 0 (canonical (formFor kind) (entriesAt (entriesFor kind) (now (e .entry)) from (r .taken))) ⌝ }
+{
+    let head = begin(kind, d);
+    let records = put_most(kind, e, from, n, limit, d, head);
+    seal(d, records.next);
+    records
+}
+
+// The message of the most of n entries that fit, if there are any: the limit has room for one.
+pub(crate) fn write_most(
+    kind: Kind,
+    e: &[u8],
+    from: usize,
+    n: usize,
+    limit: usize,
+    d: &mut [u8],
+) -> Written
+    requires { ⌜ Packs kind × (from + entriesFor kind .size * n ≤ length (now e)) × (38 ≤ limit) × (limit ≤ length (now d)) ⌝ }
+    ensures answer { λ r. ⌜ (r .length ≡ length (octetsOf (pack (formFor kind) limit (entriesAt (entriesFor kind) (now (e .entry)) from n)))) × (r .taken ≡ tookOf (pack (formFor kind) limit (entriesAt (entriesFor kind) (now (e .entry)) from n))) ⌝ }
+    ensures buffer { λ r. ⌜ now (d .exit) ≡ put (now (d .entry)) 0 (octetsOf (pack (formFor kind) limit (entriesAt (entriesFor kind) (now (e .entry)) from n))) ⌝ }
+{
+    if n == 0 {
+        return Written {
+            length: 0,
+            taken: 0,
+        };
+    }
+    let message = write_message(kind, e, from, n, limit, d);
+    Written {
+        length: message.next,
+        taken: message.taken,
+    }
+}
