@@ -4,10 +4,9 @@
 -- Assumes nothing.
 use mathlib.Core.Path.{refl}
 use Rattle.octets.specs.Octets.{Octets}
-use Rattle.records.specs.Every.{Every}
 use Rattle.records.specs.Records.{AssertRecord}
 use Rattle.format.specs.Family.{ipv4}
-use Rattle.format.specs.Entry.{assertEntries, assertEntryOctets, entriesOctets}
+use Rattle.format.specs.Entry.{assertEntries, assertEntryOctets, AllAllowed, entriesOctets}
 use Rattle.format.specs.Train.{Given}
 use Rattle.format.proofs.Lengths.{AreOctets, _then_, number, octets-each}
 use Rattle.format.proofs.Ipv4.{given}
@@ -23,5 +22,5 @@ unfolding entriesOctets
 flows-octets = octets-each (assertEntryOctets ipv4) entry-octets (flows 3) .below
 
 pub flows-given : Given ipv4 (entriesOctets (assertEntries ipv4) (flows 3)) 49
-unfolding computed Every flows
+unfolding computed AllAllowed flows
 flows-given = given (entriesOctets (assertEntries ipv4) (flows 3)) 49 49 flows-octets refl (refl, (refl, (refl, tt))) refl

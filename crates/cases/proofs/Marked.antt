@@ -16,8 +16,8 @@ use Rattle.records.specs.Every.{Every}
 use Rattle.records.specs.Most.{most}
 use Rattle.format.specs.Outcome.{gives, refuses}
 use Rattle.format.specs.Family.{ipv4}
-use Rattle.format.specs.Entry.{Entries, count, whole, entriesOf, entriesAt}
-use Rattle.format.specs.Packing.{Form, plain, simple, aggregated, nullRegister, registerStop, usualLimit, leastLimit, readLimit, firstBad, pack, taken, wrote, packing}
+use Rattle.format.specs.Entry.{Entries, count, whole, entriesOf, entriesAt, AllAllowed}
+use Rattle.format.specs.Packing.{Form, plain, simple, aggregated, nullRegister, registerStop, usualLimit, leastLimit, readLimit, pack, taken, wrote, packing}
 use Rattle.format.specs.Train.{takenBy, messageOf, calls, messagesOf}
 use Rattle.format.proofs.Calls.{packing-gives, packing-short}
 use Rattle.cases.specs.Computed.{computed}
@@ -32,10 +32,10 @@ allowed-read limit l (told least greatest) = rw (ne-eqb limit 0 (λ z. omega ari
 module _ {E : Entries} (F : Form E) (isWhole : whole E [] ≡ true) (noEntries : count E [] ≡ 0) (none : F .atMost 0 ≡ 0)
     (limit l : ℕ) (read : readLimit (E .family) limit ≡ gives l) where
   enough : (d : List ℕ) → l ≤ length d → packing F [] 0 limit d ≡ record { answer = gives (wrote 0 0); buffer = d }
-  unfolding entriesOf entriesAt firstBad pack taken most
+  unfolding entriesOf entriesAt AllAllowed pack taken most
   enough d room =
       packing-gives F [] 0 limit l d [] 0
-      (record { limitRead = read; enough = room; wholeList = isWhole; inside = omega arith; allowed = rw noEntries })
+      (record { limitRead = read; enough = room; wholeList = isWhole; inside = omega arith; allowed = rw noEntries tt })
       (rw (noEntries, none))
       ∙ ap (λ (b : List ℕ). record { answer = gives (wrote 0 0); buffer = b }) (put-nil d 0)
 

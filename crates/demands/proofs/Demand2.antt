@@ -23,13 +23,12 @@ use Rattle.format.specs.Packing.{Form, plain, simple, aggregated, nullRegister,
 use Rattle.format.specs.Reading.{roomFor, delivered, reading, readAsserts, readPairs}
 use Rattle.format.specs.RoundTrip.{RoundTrip}
 use Rattle.format.specs.declared.Kind.{Kind}
-use Rattle.format.proofs.Entries.{length-entries}
+use Rattle.format.proofs.Entries.{length-entries, take-entries, drop-entries}
 use Rattle.format.proofs.Faithful.{Again, assert-again, pair-again, entries-again, whole-long}
 use Rattle.format.proofs.Calls.{wrote-by}
 use Rattle.format.proofs.Reading.{read-gives, read-short}
 use Rattle.format.proofs.RoundTrip.{plain-trip, simple-trip, aggregated-trip, null-trip, stop-trip}
 use Rattle.format.proofs.Ipv4.{lawful}
-use Rattle.entries.proofs.Lists.{take-entries, drop-entries}
 use Rattle.demands.specs.Calls.{ReadCall, Reads, Delivers}
 use Rattle.demands.specs.Demand2.{Demand2}
 

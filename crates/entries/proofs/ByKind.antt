@@ -36,7 +36,7 @@ zero-may true = refl
 zero-may false = refl
 
 pub allowed-is : (k : Kind) (o : List ℕ) (at : ℕ)
-    → entriesFor k .allowed (entriesFor k .entryAt o at) ≡ ipv4 .isGroup (numberAt 4 o at) && mayBeSource ipv4 (zeroFor k o at) (numberAt 4 o (at + 4))
+    → entriesFor k .allowedAt o at ≡ ipv4 .isGroup (numberAt 4 o at) && mayBeSource ipv4 (zeroFor k o at) (numberAt 4 o (at + 4))
 unfolding allowedAssert allowedPair assertAt pairAt zeroFor
 allowed-is Hello o at = refl
 allowed-is Assert o at = refl

@@ -4,10 +4,9 @@ use format::Kind;
 use octets::number32;
 ghost use mathlib.Core.Path.{_≡_};
 ghost use Prim.Native.Nat.{_+_, _≤_};
-ghost use lib.ListN.{length, drop};
+ghost use lib.ListN.{length};
 ghost use Rattle.octets.specs.Octets.{numberAt};
 ghost use Rattle.records.specs.Records.{rBit};
-ghost use Rattle.format.specs.Entry.{entriesOf};
 ghost use Rattle.format.specs.Packing.{firstBad};
 ghost use Rattle.entries.specs.Kinds.{entriesFor, zeroFor, listedBy};
 
@@ -16,7 +15,7 @@ const FIRST_GROUP: u32 = 0xe000_0000;
 
 const PAST_GROUPS: u32 = 0xf000_0000;
 
-// Whether every entry is allowed.
+// Whether the entries of a list are allowed.
 pub enum Listed {
     Allowed,
     // The number of the first that is not.
@@ -62,7 +61,7 @@ fn zero_allowed(kind: Kind, e: &[u8], at: usize) -> bool
 // Whether an entry is allowed: by its group, and by its source, which is not 0 where it may not be.
 fn allowed(kind: Kind, e: &[u8], at: usize) -> bool
     requires { ⌜ at + entriesFor kind .size ≤ length (now e) ⌝ }
-    ensures { λ r. ⌜ r ≡ entriesFor kind .allowed (entriesFor kind .entryAt (now (e .entry)) at) ⌝ }
+    ensures { λ r. ⌜ r ≡ entriesFor kind .allowedAt (now (e .entry)) at ⌝ }
 {
     let g = number32(&e[at..at + 4], 0);
     if g < FIRST_GROUP {
@@ -79,7 +78,7 @@ fn allowed(kind: Kind, e: &[u8], at: usize) -> bool
 
 // The first entry from a number on that a message of a kind may not have.
 pub fn first_bad(kind: Kind, e: &[u8], start: usize) -> Listed
-    ensures { λ r. ⌜ listedBy r ≡ firstBad (entriesFor kind .allowed) start (drop start (entriesOf (entriesFor kind) (now (e .entry)))) ⌝ }
+    ensures { λ r. ⌜ listedBy r ≡ firstBad (entriesFor kind) (now (e .entry)) start ⌝ }
 {
     let size = entry_size(kind);
     let count = e.len() / size;
@@ -96,11 +95,4 @@ pub fn first_bad(kind: Kind, e: &[u8], start: usize) -> Listed
         at += size;
     }
     Listed::Allowed
-}
-
-// Whether every entry of a list is one that a message of a kind may have.
-pub fn entries_allowed(kind: Kind, e: &[u8]) -> Listed
-    ensures { λ r. ⌜ listedBy r ≡ firstBad (entriesFor kind .allowed) 0 (entriesOf (entriesFor kind) (now (e .entry))) ⌝ }
-{
-    first_bad(kind, e, 0)
 }

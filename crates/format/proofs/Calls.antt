@@ -3,57 +3,90 @@
 --     asked-short                         a buffer below the limit is refused with 8
 --     limit-range, limit-itself           a limit that is read lies within the limits, and one that does is read as itself
 --     packing-read                        a call knows its limit only as read
---     allowed-every, every-allowed        no entry is bad, exactly if every one is allowed
+--     none-bad, all-allowed               no entry is bad, exactly if every one is allowed
+--     list-fine, list-allowed             and so of a whole list
 --     taken-most, taken-fits              the most that fit
 --     pack-none, pack-some                no message, and one
 --     packing-gives, packing-short        the whole call, and one refused with 8
 --     Wrote-by, wrote-by                  a call that is not refused: what it took and what it wrote
 -- Assumes nothing.
-use Prim.Native.Nat.{ℕ, zero, suc, _<_, _≤_}
+use Prim.Native.Nat.{ℕ, zero, suc, _+_, _-_, _*_, _<_, _≤_}
+use native.Mathlib.Nat.{mul-zero}
 use native.Mathlib.Omega.{arith}
 use mathlib.Core.Path.{_≡_, refl, sym, ap, _∙_}
 use mathlib.Core.Bool.{Bool, true, false, not, _&&_, and-eq-true-iff}
-use mathlib.Core.List.{List, [], _∷_}
+use mathlib.Core.List.{List, []}
 use borrow.Author.Tests.{lt-ltb, le-ltb, le-leb, ltb-false, not-false, leb-true, ne-eqb}
 use lib.ListN.{length, take, drop}
 use lib.Dec.{eqb, leb, ltb}
 use Rattle.octets.specs.Octets.{put}
 use Rattle.octets.proofs.Laws.{take-put, drop-put}
-use Rattle.records.specs.Every.{Every}
 use Rattle.records.specs.Most.{most}
 use Rattle.records.proofs.Most.{most-le, most-fits}
 use Rattle.format.specs.Outcome
 use Rattle.format.specs.Outcome.{Outcome, gives, refuses, refuseIf}
 use Rattle.format.specs.Family.{Family}
 use Rattle.format.specs.Header.{longest}
-use Rattle.format.specs.Entry.{Entries, count, whole, entriesOf}
+use Rattle.format.specs.Entry.{Entries, AllAllowed, count, whole, entriesOf}
 use Rattle.format.proofs.Outcomes.{no-refusal, gives-same, bind-gives, then-gives, unless-gives}
-use Rattle.format.specs.Packing.{usualLimit, leastLimit, readLimit, Form, canonical, firstBad, Due, due, asked, taken, packed, octetsOf, tookOf, pack, wrote, written, packDue, packing}
+use Rattle.format.specs.Packing.{usualLimit, leastLimit, readLimit, Form, canonical, firstBadAt, firstBad, Due, due, asked, taken, packed, octetsOf, tookOf, pack, wrote, written, packDue, packing}
+
+-- ---- entries that are all allowed
+
+module _ (E : Entries) (o : List ℕ) where
+  pub all-allowed : (n i at : ℕ) → firstBadAt E o i at n ≡ gives tt → AllAllowed E o at n
+  unfolding firstBadAt AllAllowed
+  all-allowed zero i at h = tt
+  all-allowed (suc n) i at h = go (E .allowedAt o at) refl (all-allowed n (suc i) (at + E .size))
+    where
+      go : (b : Bool) → E .allowedAt o at ≡ b → (firstBadAt E o (suc i) (at + E .size) n ≡ gives tt → AllAllowed E o (at + E .size) n)
+          → (E .allowedAt o at ≡ true) × AllAllowed E o (at + E .size) n
+      go true t rest = (t, rest (rw t at h))
+      go false t rest = absurd (no-refusal (rw t at h))
+
+  pub none-bad : (n i at : ℕ) → AllAllowed E o at n → firstBadAt E o i at n ≡ gives tt
+  unfolding firstBadAt AllAllowed
+  none-bad zero i at h = refl
+  none-bad (suc n) i at h = rw (h .0) (none-bad n (suc i) (at + E .size) (h .1))
+
+  -- of a whole list
+  first-none : count E o - 0 ≡ count E o
+  first-none = omega arith
+
+  pub list-allowed : firstBad E o 0 ≡ gives tt → AllAllowed E o 0 (count E o)
+  unfolding firstBad
+  list-allowed h = rw (mul-zero (E .size), first-none) at (all-allowed (count E o - 0) 0 (E .size * 0) h)
+
+  pub list-fine : AllAllowed E o 0 (count E o) → firstBad E o 0 ≡ gives tt
+  unfolding firstBad
+  list-fine h = rw (mul-zero (E .size), first-none) (none-bad (count E o) 0 0 h)
+
+-- ---- what a call asks
 
 pub record Asked (E : Entries) (o : List ℕ) (start limit room l : ℕ) : Type 0 where
   pub limitRead : readLimit (E .family) limit ≡ gives l
   pub enough : l ≤ room
   pub wholeList : whole E o ≡ true
   pub inside : start ≤ count E o
-  pub allowed : firstBad (E .allowed) start (drop start (entriesOf E o)) ≡ gives tt
+  pub allowed : AllAllowed E o (E .size * start) (count E o - start)
 
 module _ (E : Entries) (o : List ℕ) (start limit room l : ℕ) where
   pub asked-gives : Asked E o start limit room l → asked E o start limit room ≡ gives (due l (drop start (entriesOf E o)))
-  unfolding asked Outcome._>>=_ Outcome._>>_ refuseIf
+  unfolding asked firstBad Outcome._>>=_ Outcome._>>_ refuseIf
   asked-gives h =
-      rw (h .limitRead, le-ltb room l (h .enough), h .wholeList, le-leb start (count E o) (h .inside), h .allowed)
+      rw (h .limitRead, le-ltb room l (h .enough), h .wholeList, le-leb start (count E o) (h .inside), none-bad E o (count E o - start) start (E .size * start) (h .allowed))
 
   pub asked-short : readLimit (E .family) limit ≡ gives l → room < l → asked E o start limit room ≡ refuses 8 0
   unfolding asked Outcome._>>=_ Outcome._>>_ refuseIf
   asked-short e short = rw (e, lt-ltb room l short)
 
   pub gives-asked : (es : List (E .Entry)) → asked E o start limit room ≡ gives (due l es) → Asked E o start limit room l × (es ≡ drop start (entriesOf E o))
-  unfolding asked
+  unfolding asked firstBad
   gives-asked es e =
       bind-gives (readLimit (E .family) limit) _ _ e (λ m read rest.
       unless-gives (ltb room m) 8 0 _ _ rest (λ short rest₁.
       unless-gives (not (whole E o && leb start (count E o))) 10 0 _ _ rest₁ (λ listed rest₂.
-      then-gives (firstBad (E .allowed) start (drop start (entriesOf E o))) _ _ rest₂ (λ x fine rest₃.
+      then-gives (firstBad E o start) _ _ rest₂ (λ x fine rest₃.
       let same : m ≡ l = cc in
       let list = and-eq-true-iff (whole E o) (leb start (count E o)) .0 (not-false _ listed) in (
         record {
@@ -61,7 +94,7 @@ module _ (E : Entries) (o : List ℕ) (start limit room l : ℕ) where
           enough = rw same at (ltb-false room m short);
           wholeList = list .0;
           inside = leb-true start (count E o) (list .1);
-          allowed = fine;
+          allowed = all-allowed E o _ start (E .size * start) fine;
         },
         cc,
       )))))
@@ -93,22 +126,6 @@ pub packing-read : {E : Entries} (F : Form E) (o : List ℕ) (start limit limit�
     → packing F o start limit d ≡ packing F o start limit′ d
 unfolding packing asked
 packing-read F o start limit limit′ d e = rw e refl
-
--- ---- entries that are all allowed
-
-pub allowed-every : {A : Type 0} (allowed : A → Bool) (i : ℕ) (es : List A) → firstBad allowed i es ≡ gives tt → Every (λ (e : A). allowed e ≡ true) es
-unfolding firstBad Every
-allowed-every allowed i [] h = tt
-allowed-every {A} allowed i (e ∷ es) h = go (allowed e) refl (allowed-every allowed (suc i) es)
-  where
-    go : (b : Bool) → allowed e ≡ b → (firstBad allowed (suc i) es ≡ gives tt → Every (λ (e : A). allowed e ≡ true) es) → (allowed e ≡ true) × Every (λ (e : A). allowed e ≡ true) es
-    go true t rest = (t, rest (rw t at h))
-    go false t rest = absurd (no-refusal (rw t at h))
-
-pub every-allowed : {A : Type 0} (allowed : A → Bool) (i : ℕ) (es : List A) → Every (λ (e : A). allowed e ≡ true) es → firstBad allowed i es ≡ gives tt
-unfolding firstBad Every
-every-allowed allowed i [] h = refl
-every-allowed allowed i (e ∷ es) h = rw (h .0) (every-allowed allowed (suc i) es (h .1))
 
 -- ---- the message of a call
 

@@ -8,11 +8,9 @@ use mathlib.Core.Bool.{true}
 use mathlib.Core.List.{List}
 use lib.Dec.{lit<, lit≤}
 use Rattle.octets.specs.Octets.{Octets}
-use Rattle.records.specs.Every.{Every}
-use Rattle.records.specs.Records.{AssertRecord}
 use Rattle.format.specs.Outcome.{gives}
 use Rattle.format.specs.Family.{ipv4, Lawful}
-use Rattle.format.specs.Entry.{assertEntries, allowedAssert, whole, entriesOf}
+use Rattle.format.specs.Entry.{assertEntries, AllAllowed, count, whole}
 use Rattle.format.specs.Packing.{usualLimit, leastLimit, readLimit}
 use Rattle.format.specs.Train.{Given}
 use Rattle.format.proofs.Calls.{limit-range}
@@ -21,7 +19,7 @@ pub lawful : Lawful ipv4
 lawful = record { wide = lit< tt; familyOctet = lit< tt; maskOctet = lit< tt; zeroIsNone = refl }
 
 pub given : (entries : List ℕ) (limit l : ℕ) → Octets entries → whole (assertEntries ipv4) entries ≡ true
-    → Every (λ (e : AssertRecord). allowedAssert ipv4 e ≡ true) (entriesOf (assertEntries ipv4) entries) → readLimit ipv4 limit ≡ gives l
+    → AllAllowed (assertEntries ipv4) entries 0 (count (assertEntries ipv4) entries) → readLimit ipv4 limit ≡ gives l
     → Given ipv4 entries l
 unfolding leastLimit usualLimit
 given entries limit l octets isWhole allowed read =

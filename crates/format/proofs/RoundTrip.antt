@@ -17,7 +17,7 @@ use Rattle.records.specs.Every.{Every}
 use Rattle.records.specs.Records.{AssertRecord, PairRecord, AggregatedRecord, ofSource, ofRp, allEntries}
 use Rattle.records.specs.Joining.{joined}
 use Rattle.records.specs.Sizes.{assertSize, pairSize, aggregatedSize, allSize}
-use Rattle.records.proofs.Every.{every-map, every-both, every-take, every-drop}
+use Rattle.records.proofs.Every.{every-map, every-take}
 use Rattle.records.proofs.Lossless.{lossless, joined-nonempty}
 use Rattle.format.specs.Outcome.{Outcome, gives}
 use Rattle.format.specs.Reader
@@ -26,7 +26,7 @@ use Rattle.format.specs.Family.{Family, Lawful}
 use Rattle.format.specs.Header.{message, longest}
 use Rattle.format.specs.Record.{each, assertRecord, assertOctets, pairRecord, pairOctets, aggregatedRecord, aggregatedOctets}
 use Rattle.format.specs.Body.{zeros, assertsBody, pairsBody, plainBody, simpleBody, aggregatedBody, pairBody}
-use Rattle.format.specs.Entry.{Entries, Fits, PairFits, entriesOf, allowedAssert, allowedPair}
+use Rattle.format.specs.Entry.{Entries, PairFits, assertAt, assertEntries, pairAt, pairEntries, entriesOf, allowedPair}
 use Rattle.format.specs.Unpacking.{Unpacked, unpacked, unpackAsserts, unpackPairs}
 use Rattle.format.specs.Packing.{Form, plain, simple, aggregated, nullRegister, registerStop, canonical}
 use Rattle.format.specs.RoundTrip.{ReadsBack, RoundTrip}
@@ -37,8 +37,8 @@ use Rattle.format.proofs.Lengths.{AreOctets, _then_, octets-zeros, octe
 use Rattle.format.proofs.Records.{reads-assert, reads-pair, reads-aggregated, AggregatedFits}
 use Rattle.format.proofs.Messages.{length-message, message-octets, message-holds, at-body, unpack-asserts, unpack-pairs, reads-zeros, Items, read-items}
 use Rattle.format.proofs.Joined.{Good, joined-fits}
-use Rattle.format.proofs.Entries.{assert-fits, pair-fits}
-use Rattle.format.proofs.Calls.{limit-range, allowed-every, wrote-by}
+use Rattle.format.proofs.Entries.{drop-entries, every-allowed, assert-fits, pair-fits}
+use Rattle.format.proofs.Calls.{limit-range, wrote-by}
 
 -- the message of good entries reads back, if it takes no more than its kind may and is no longer than a message may be
 unfoldable pub Canonical : {E : Entries} → Form E → (List ℕ → Outcome (Unpacked (E .Entry))) → (E .Entry → Type 0) → Type 0
@@ -166,18 +166,16 @@ module _ (f : Family) (lawful : Lawful f) where
 -- ---- what a call wrote
 
 -- from the message of good entries to what any call wrote: entries that are lent are good if they are allowed
-round-trip : {E : Entries} (F : Form E) (unpack : List ℕ → Outcome (Unpacked (E .Entry))) (Fit : E .Entry → Type 0) (Good : E .Entry → Type 0)
-    → ((o : List ℕ) → Octets o → Every Fit (entriesOf E o)) → ((e : E .Entry) → Fit e × (E .allowed e ≡ true) → Good e)
+round-trip : {E : Entries} (F : Form E) (unpack : List ℕ → Outcome (Unpacked (E .Entry))) (Good : E .Entry → Type 0)
+    → ((o : List ℕ) → Octets o → (at : ℕ) → E .allowedAt o at ≡ true → Good (E .entryAt o at))
     → ((n : ℕ) → F .atMost n ≤ n) → ((n k : ℕ) → k ≤ F .atMost n → k ≤ F .atMost k)
     → Canonical F unpack Good → RoundTrip F unpack
 unfolding RoundTrip Canonical
-round-trip {E} F unpack Fit Good fit good below caps back o octets start limit d n k e some =
+round-trip {E} F unpack Good good below caps back o octets start limit d n k e some =
     let w = wrote-by F o start limit d n k some e in
     let left : List (E .Entry) = drop start (entriesOf E o) in
     let every : Every Good (take k left) =
-    every-take Good k left
-    (every-map _ Good good left
-    (every-both Fit _ left (every-drop Fit start (entriesOf E o) (fit o octets)) (allowed-every (E .allowed) start left (w .was .allowed)))) in
+    every-take Good k left (rw (drop-entries E o start (w .was .inside)) (every-allowed E o Good (good o octets) _ _ (w .was .allowed))) in
     let long : length (take k left) ≡ k = simp length-take (omega (arith, w .most, below (length left))) in
     rw (w .isMessage)
     (go (take k left) every (omega arith) (rw long (caps (length left) k (w .most))) (le-trans (w .within) (limit-range (E .family) limit (w .limitRead) (w .was .limitRead) .1)))
@@ -186,27 +184,28 @@ round-trip {E} F unpack Fit Good fit good below caps back o octets start limit d
     go [] every some cap within = absurd (omega arith)
     go (e ∷ es) every some cap within = back e es every cap within
 
+module _ (f : Family) where
+  pub good-assert : (o : List ℕ) → Octets o → (at : ℕ) → assertEntries f .allowedAt o at ≡ true → Good f (assertAt f o at)
+  good-assert o octets at h = record { fits = assert-fits f o octets at; allowed = h }
+
+  good-pair : (z : Bool) (o : List ℕ) → Octets o → (at : ℕ) → pairEntries f z .allowedAt o at ≡ true → GoodPair f z (pairAt f o at)
+  good-pair z o octets at h = record { fits = pair-fits f o octets at; allowed = h }
+
 module _ (f : Family) (lawful : Lawful f) where
-  good-assert : (e : AssertRecord) → Fits f e × (allowedAssert f e ≡ true) → Good f e
-  good-assert e h = record { fits = h .0; allowed = h .1 }
-
-  good-pair : (z : Bool) (e : PairRecord) → PairFits f e × (allowedPair f z e ≡ true) → GoodPair f z e
-  good-pair z e h = record { fits = h .0; allowed = h .1 }
-
   pub plain-trip : RoundTrip (plain f) (unpackAsserts f)
-  plain-trip = round-trip (plain f) (unpackAsserts f) (Fits f) (Good f) (assert-fits f) good-assert (λ n. omega arith) (λ n k h. omega arith) (plain-back f lawful)
+  plain-trip = round-trip (plain f) (unpackAsserts f) (Good f) (good-assert f) (λ n. omega arith) (λ n k h. omega arith) (plain-back f lawful)
 
   pub simple-trip : RoundTrip (simple f) (unpackAsserts f)
-  simple-trip = round-trip (simple f) (unpackAsserts f) (Fits f) (Good f) (assert-fits f) good-assert (λ n. omega arith) (λ n k h. omega arith) (simple-back f lawful)
+  simple-trip = round-trip (simple f) (unpackAsserts f) (Good f) (good-assert f) (λ n. omega arith) (λ n k h. omega arith) (simple-back f lawful)
 
   pub aggregated-trip : RoundTrip (aggregated f) (unpackAsserts f)
   aggregated-trip =
-      round-trip (aggregated f) (unpackAsserts f) (Fits f) (Good f) (assert-fits f) good-assert (λ n. omega arith) (λ n k h. omega arith) (aggregated-back f lawful)
+      round-trip (aggregated f) (unpackAsserts f) (Good f) (good-assert f) (λ n. omega arith) (λ n k h. omega arith) (aggregated-back f lawful)
 
   pub null-trip : RoundTrip (nullRegister f) (unpackPairs f)
   null-trip =
-      round-trip (nullRegister f) (unpackPairs f) (PairFits f) (GoodPair f false) (λ o h. pair-fits f o h false) (good-pair false) (λ n. omega arith) (λ n k h. omega arith) (null-back f lawful)
+      round-trip (nullRegister f) (unpackPairs f) (GoodPair f false) (good-pair f false) (λ n. omega arith) (λ n k h. omega arith) (null-back f lawful)
 
   pub stop-trip : RoundTrip (registerStop f) (unpackPairs f)
   stop-trip =
-      round-trip (registerStop f) (unpackPairs f) (PairFits f) (GoodPair f true) (λ o h. pair-fits f o h true) (good-pair true) (λ n. omega arith) (λ n k h. omega arith) (stop-back f lawful)
+      round-trip (registerStop f) (unpackPairs f) (GoodPair f true) (good-pair f true) (λ n. omega arith) (λ n k h. omega arith) (stop-back f lawful)

@@ -25,7 +25,7 @@ use Rattle.records.specs.Records.{AssertRecord}
 use Rattle.records.specs.Joining.{joined}
 use Rattle.records.specs.Sizes.{allSize}
 use Rattle.records.specs.Train.{Steps, stop, step}
-use Rattle.records.proofs.Every.{every-both, every-map, every-take, every-drop, every-of-map}
+use Rattle.records.proofs.Every.{every-take, every-drop, every-of-map}
 use Rattle.records.proofs.Least.{least, drop-front, one-entry}
 use Rattle.records.proofs.Most.{most-ge}
 use Rattle.records.proofs.Fewest.{fewest}
@@ -34,7 +34,7 @@ use Rattle.format.specs.Family.{Family, Lawful}
 use Rattle.format.specs.Header.{longest}
 use Rattle.format.specs.Record.{each, aggregatedOctets}
 use Rattle.format.specs.Body.{zeros, aggregatedBody}
-use Rattle.format.specs.Entry.{Fits, assertEntries, allowedAssert, entriesOf}
+use Rattle.format.specs.Entry.{assertEntries, count, entriesOf}
 use Rattle.format.specs.Unpacking.{unpacked, unpackAsserts}
 use Rattle.format.specs.Packing.{leastLimit, aggregated, canonical, taken, PackingCall, wrote, packing}
 use Rattle.format.specs.Train.{takenBy, messageOf, calls, takenOf, messagesOf, Given, Within, Unpacks, Comparable}
@@ -42,9 +42,9 @@ use Rattle.format.specs.declared.Kind.the-variants.{Aggregated}
 use Rattle.format.proofs.Lengths.{length-all}
 use Rattle.format.proofs.Messages.{length-message}
 use Rattle.format.proofs.Joined.{Good}
-use Rattle.format.proofs.Entries.{length-entries, assert-fits}
-use Rattle.format.proofs.Calls.{Asked, limit-itself, every-allowed, taken-most, taken-fits, pack-none, pack-some, packing-gives, packing-short}
-use Rattle.format.proofs.RoundTrip.{aggregated-back, Canonical}
+use Rattle.format.proofs.Entries.{length-entries, every-allowed, allowed-from}
+use Rattle.format.proofs.Calls.{Asked, limit-itself, taken-most, taken-fits, pack-none, pack-some, packing-gives, packing-short}
+use Rattle.format.proofs.RoundTrip.{aggregated-back, Canonical, good-assert}
 use Rattle.format.proofs.Taken.{unpacked-records}
 
 -- ---- how long a message is
@@ -69,9 +69,8 @@ module _ (f : Family) (lawful : Lawful f) (entries : List ℕ) (l : ℕ) (given 
   Fit l′ = 8 + allSize (f .width) (joined (f .width) l′) ≤ l
 
   good : Every (Good f) es
-  good =
-      every-map _ (Good f) (λ (e : AssertRecord) h. record { fits = h .0; allowed = h .1 }) es
-      (every-both (Fits f) _ es (assert-fits f entries (given .areOctets)) (given .allowed))
+  unfolding entriesOf
+  good = every-allowed (assertEntries f) entries (Good f) (good-assert f entries (given .areOctets)) (count (assertEntries f) entries) 0 (given .allowed)
 
   -- "always the most that fit"
   next-greedy : (i k : ℕ) → i + k ≤ length es → Fit (take k (drop i es)) → k ≤ next i
@@ -121,7 +120,7 @@ module _ (f : Family) (lawful : Lawful f) (entries : List ℕ) (l : ℕ) (given 
     enough = room;
     wholeList = given .wholeList;
     inside = omega (arith, length-entries (assertEntries f) entries);
-    allowed = every-allowed (allowedAssert f) i (drop i es) (every-drop _ i es (given .allowed));
+    allowed = allowed-from (assertEntries f) entries i (omega (arith, length-entries (assertEntries f) entries)) (given .allowed);
   }
 
   gives-none : (i : ℕ) → i ≤ length es → (d : List ℕ) → l ≤ length d → next i ≡ 0

@@ -1,13 +1,15 @@
 -- Entries: the octets in which a caller lends records and gets them back (01, "Octets of a message"): "16 octets for an assert
 -- (group, source, R with preference, metric), 8 for a pair (group, source)".
---     Entries                    one sort of entry: its size, its reading, its writing, and which are allowed
+--     Entries                    one sort of entry: its size, its reading, its writing, and where one is allowed
 --     assertEntries, pairEntries the asserts of a family, and its pairs, with source 0 allowed or not
 --     Fits, PairFits             the numbers of an entry fit their fields
+--     AllAllowed                 n entries from a place on are allowed
 --     count, whole, entriesOf    how many entries octets hold, whether nothing is over, and the entries
 --     entriesOctets              entries one after another
 -- Assumes nothing: these are definitions.
 use Prim.Native.Nat.{ℕ, zero, suc, _+_, _*_, _/_, _%_, _^_, _<_}
-use mathlib.Core.Bool.{Bool, _&&_}
+use mathlib.Core.Path.{_≡_}
+use mathlib.Core.Bool.{Bool, true, _&&_}
 use mathlib.Core.List.{List, [], _∷_}
 use lib.ListN.{length}
 use lib.Dec.{eqb}
@@ -23,8 +25,8 @@ pub record Entries : Type 1 where
   pub size : ℕ
   pub entryAt : List ℕ → ℕ → Entry
   pub octetsOf : Entry → List ℕ
-  -- "whose group and, by R, source the section above allows"
-  pub allowed : Entry → Bool
+  -- whether the entry at a place is one "whose group and, by R, source the section above allows"
+  pub allowedAt : List ℕ → ℕ → Bool
 
 -- ---- asserts
 
@@ -56,7 +58,7 @@ assertEntries f = record {
   size = 2 * f .width + 8;
   entryAt = assertAt f;
   octetsOf = assertEntryOctets f;
-  allowed = allowedAssert f;
+  allowedAt = λ o at. allowedAssert f (assertAt f o at);
 }
 
 -- ---- pairs
@@ -81,7 +83,7 @@ pairEntries f zeroAllowed = record {
   size = 2 * f .width;
   entryAt = pairAt f;
   octetsOf = pairEntryOctets f;
-  allowed = allowedPair f zeroAllowed;
+  allowedAt = λ o at. allowedPair f zeroAllowed (pairAt f o at);
 }
 
 -- ---- lists of entries
@@ -96,6 +98,10 @@ whole E o = eqb (length o % E .size) 0
 unfoldable pub entriesAt : (E : Entries) → List ℕ → ℕ → ℕ → List (E .Entry)
 entriesAt E o at zero = []
 entriesAt E o at (suc n) = E .entryAt o at ∷ entriesAt E o (at + E .size) n
+
+unfoldable pub AllAllowed : Entries → List ℕ → ℕ → ℕ → Type 0
+AllAllowed E o at zero = Unit {0}
+AllAllowed E o at (suc n) = (E .allowedAt o at ≡ true) × AllAllowed E o (at + E .size) n
 
 unfoldable pub entriesOf : (E : Entries) → List ℕ → List (E .Entry)
 entriesOf E o = entriesAt E o 0 (count E o)

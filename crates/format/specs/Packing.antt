@@ -8,9 +8,9 @@
 --     Wrote, PackingCall, written, packing         answer, and buffer as the call returns
 --     prefersAggregated, ChoiceCall, choice        "Both assert forms may also be written into two lent buffers"
 -- Assumes nothing: these are definitions.
-use Prim.Native.Nat.{ℕ, suc, _+_, _*_, min}
+use Prim.Native.Nat.{ℕ, zero, suc, _+_, _-_, _*_, min}
 use mathlib.Core.Bool.{Bool, true, false, not, _&&_, _||_, cond}
-use mathlib.Core.List.{List, [], _∷_}
+use mathlib.Core.List.{List, []}
 use lib.ListN.{length, take, drop}
 use lib.Dec.{eqb, leb, ltb}
 use Rattle.octets.specs.Octets.{put}
@@ -73,9 +73,14 @@ canonical F es = message (F .kind) (F .body es)
 
 -- ---- refusals: "Packing: 9, 8, 10, then 7 with the number of the first bad entry from the start on"
 
-unfoldable pub firstBad : {A : Type 0} → (A → Bool) → ℕ → List A → Outcome (Unit {0})
-firstBad allowed i [] = gives tt
-firstBad allowed i (e ∷ es) = cond (allowed e) (firstBad allowed (suc i) es) (refuses 7 i)
+-- of n entries from a place on, the first of them having the number i
+unfoldable pub firstBadAt : Entries → List ℕ → ℕ → ℕ → ℕ → Outcome (Unit {0})
+firstBadAt E o i at zero = gives tt
+firstBadAt E o i at (suc n) = cond (E .allowedAt o at) (firstBadAt E o (suc i) (at + E .size) n) (refuses 7 i)
+
+-- of a list from the start on
+unfoldable pub firstBad : Entries → List ℕ → ℕ → Outcome (Unit {0})
+firstBad E o start = firstBadAt E o start (E .size * start) (count E o - start)
 
 -- the limit as read, and the entries from the start on
 pub data Due (A : Type 0) : Type 0 where
@@ -86,7 +91,7 @@ asked E o start limit room = do
   l ← readLimit (E .family) limit
   refuseIf (ltb room l) 8 0
   refuseIf (not (whole E o && leb start (count E o))) 10 0
-  firstBad (E .allowed) start (drop start (entriesOf E o))
+  firstBad E o start
   gives (due l (drop start (entriesOf E o)))
 
 -- ---- the message

@@ -20,7 +20,7 @@ use Rattle.records.specs.Records.{AssertRecord}
 use Rattle.format.specs.Outcome.{Outcome, gives, refuses}
 use Rattle.format.specs.Family.{Family}
 use Rattle.format.specs.Header.{longest}
-use Rattle.format.specs.Entry.{Entries, assertEntries, allowedAssert, count, whole, entriesOf}
+use Rattle.format.specs.Entry.{Entries, assertEntries, AllAllowed, count, whole, entriesOf}
 use Rattle.format.specs.Unpacking.{unpacked, unpackAsserts}
 use Rattle.format.specs.Packing.{Form, PackingCall, Wrote, wrote, packing, leastLimit, readLimit}
 use Rattle.format.specs.declared.Kind.the-variants.{Aggregated}
@@ -65,7 +65,7 @@ pub record Given (f : Family) (entries : List ℕ) (l : ℕ) : Type 0 where
   -- section above allows"
   pub areOctets : Octets entries
   pub wholeList : whole (assertEntries f) entries ≡ true
-  pub allowed : Every (λ (e : AssertRecord). allowedAssert f e ≡ true) (entriesOf (assertEntries f) entries)
+  pub allowed : AllAllowed (assertEntries f) entries 0 (count (assertEntries f) entries)
   -- "any limit from 38 to 65,515 octets"
   pub least : leastLimit f ≤ l
   pub greatest : l ≤ longest

@@ -7,11 +7,11 @@ use Prim.Native.Nat.{ℕ, _-_, _/_, _%_, _≤_, _<_}
 use mathlib.Core.Path.{_≡_, sym, ap, _∙_}
 use mathlib.Core.List.{List}
 use borrow.Author.Tests.{le-ltb, le-leb, lt-leb, eq-eqb, ne-eqb}
-use lib.ListN.{length, drop}
+use lib.ListN.{length}
 use Rattle.format.specs.Outcome
 use Rattle.format.specs.Outcome.{Outcome, gives, refuses, refuseIf}
 use Rattle.format.specs.Family.{ipv4}
-use Rattle.format.specs.Entry.{Entries, count, whole, entriesOf}
+use Rattle.format.specs.Entry.{Entries, count, whole}
 use Rattle.format.specs.Packing.{usualLimit, leastLimit, readLimit, firstBad, asked}
 use Rattle.format.proofs.Calls.{asked-short}
 use Rattle.format.specs.declared.Kind.{Kind}
@@ -71,7 +71,7 @@ module _ (E : Entries) (o : List ℕ) (start limit room : ℕ) where
         unfolding asked limited whole count refuseIf Outcome._>>=_ Outcome._>>_
         ask-start past = rw (read, le-ltb room l enough, eq-eqb (length o % E .size) 0 full, lt-leb start (length o / E .size) past)
 
-        module _ (inside : start ≤ length o / E .size) {x : Listed} (look : listedBy x ≡ firstBad (E .allowed) start (drop start (entriesOf E o))) where
+        module _ (inside : start ≤ length o / E .size) {x : Listed} (look : listedBy x ≡ firstBad E o start) where
           pub ask-bad : {i : ℕ} → x ≡ Bad i → limited (asked E o start limit room) ≡ refuses 7 i
           unfolding asked limited listedBy whole count refuseIf Outcome._>>=_ Outcome._>>_
           ask-bad bad =

@@ -20,7 +20,7 @@ use Rattle.format.specs.Packing.{Form, simple, aggregated, Due, due, asked, tak
 use Rattle.format.proofs.Outcomes.{no-refusal, gives-same}
 use Rattle.format.proofs.Calls.{Asked, asked-gives, gives-asked, taken-fits, pack-none, pack-some}
 use Rattle.packing.specs.Joins.{asserts}
-use Rattle.entries.proofs.Lists.{drop-entries}
+use Rattle.format.proofs.Entries.{drop-entries}
 
 -- what is packed is within the limit
 pack-within : {E : Entries} (F : Form E) (l : ℕ) (es : List (E .Entry)) → length (octetsOf (pack F l es)) ≤ l

@@ -21,10 +21,9 @@ use Rattle.format.specs.Family.{ipv4}
 use Rattle.format.specs.Record.{each}
 use Rattle.format.specs.Entry.{assertAt, assertEntries, entriesAt}
 use Rattle.format.proofs.Lengths.{each-append}
-use Rattle.format.proofs.Entries.{length-entriesAt}
+use Rattle.format.proofs.Entries.{length-entriesAt, take-entries, drop-at}
 use Rattle.packing.specs.Joins.{asserts, joins, runLength, Run, Aggregated, Group}
 use Rattle.packing.specs.Aggregates.{oneOf, allOf, numberOf}
-use Rattle.entries.proofs.Lists.{take-entries, drop-at}
 
 -- ---- where a run ends
 

@@ -34,7 +34,7 @@ use Rattle.format.specs.Family.{ipv4}
 use Rattle.format.specs.Entry.{assertAt, assertEntries, entriesAt}
 use Rattle.format.proofs.Lengths.{length-aggregated}
 use Rattle.packing.specs.Joins.{asserts, joins, runLength, Run, Aggregated, Group}
-use Rattle.entries.proofs.Lists.{take-entries, drop-at}
+use Rattle.format.proofs.Entries.{take-entries, drop-at}
 use Rattle.packing.proofs.Joins.{run-range, all-first, number-first, all-none}
 use Rattle.packing.specs.Aggregates.{oneOf, allOf, numberOf, sourcesIn, MostWithin}
 use Rattle.packing.proofs.Aggregating.{group-long, sources-range, source-long, rp-long}

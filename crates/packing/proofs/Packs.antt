@@ -18,7 +18,8 @@ use Rattle.format.specs.declared.Kind.{Kind}
 use Rattle.format.specs.declared.Refusal.{Refusal}
 use Rattle.format.proofs.Outcomes.{no-refusal, gives-same}
 use Rattle.format.proofs.Calls.{limit-range, Asked, asked-gives, gives-asked}
-use Rattle.entries.proofs.Lists.{drop-entries, rest-there}
+use Rattle.format.proofs.Entries.{drop-entries}
+use Rattle.entries.proofs.Lists.{rest-there}
 use Rattle.packing.specs.Kinds.{formFor}
 use Rattle.packing.specs.Answers.{limitOf, limited}
 use Rattle.packing.specs.declared.limit.Limit.{Limit}

@@ -21,9 +21,8 @@ use Rattle.format.specs.declared.Kind.the-variants.{Hello, Assert, Simple, Aggr
 use Rattle.format.proofs.Lengths.{length-all}
 use Rattle.format.proofs.Trains.{length-canonical}
 use Rattle.format.proofs.MostThatFit.{Grows, aggregated-grows}
-use Rattle.format.proofs.Entries.{length-entriesAt}
+use Rattle.format.proofs.Entries.{length-entriesAt, take-entries}
 use Rattle.format.proofs.Calls.{taken-most, taken-fits, pack-none, pack-some}
-use Rattle.entries.proofs.Lists.{take-entries}
 use Rattle.packing.specs.Kinds.{formFor, isAggregated, Packs, fitting}
 use Rattle.packing.specs.Aggregates.{allOf, MostWithin}
 use Rattle.packing.proofs.ByKind.{most-is, head-range, aggregated-is}

@@ -1,24 +1,23 @@
 -- The entries of a part of a sheet, and of the sheet from a place on.
---     entry-part                    an entry of a part, by its place in the whole, for every kind
+--     allowed-part                  an entry of a part is allowed as at its place in the whole, for every kind
 --     bad-within                    the number of a bad entry
 --     Found, entries-sound, entries-bad, bad-there    what code finds in a part says what the section comes to
 -- Assumes nothing.
 use mathlib.Core.Path.{_≡_, refl, sym, ap, _∙_}
 use mathlib.Core.Bool.{Bool, true, false, not, cond}
-use mathlib.Core.List.{List, [], _∷_}
+use mathlib.Core.List.{List}
 use Prim.Native.Nat.{ℕ, zero, suc, _+_, _-_, _*_, _≤_, _<_}
-use native.Mathlib.Nat.{mul-suc, mul-zero, add-zero, mul-le-mul-left, mul-div-cancel-left}
+use native.Mathlib.Nat.{mul-suc, mul-zero, mul-le-mul-left, mul-div-cancel-left}
 use native.Mathlib.Omega.{arith}
 use lib.ListN.{length, take, drop, length-drop}
 use lib.Seq.{length-take-le}
 use Rattle.octets.proofs.Laws.{number-part}
 use Rattle.format.specs.Outcome.{Outcome, gives, refuses, refuseIf, _>>_}
 use Rattle.format.specs.Family.{Family}
-use Rattle.format.specs.Entry.{Entries, assertAt, pairAt, count, entriesAt, entriesOf}
-use Rattle.format.specs.Packing.{firstBad}
+use Rattle.format.specs.Entry.{Entries, assertAt, pairAt, count, allowedAssert, allowedPair}
+use Rattle.format.specs.Packing.{firstBadAt, firstBad}
 use Rattle.format.specs.declared.Kind.{Kind}
 use Rattle.format.specs.declared.Kind.the-variants.{Hello, Assert, Simple, Aggregated, NullRegister, RegisterStop}
-use Rattle.format.proofs.Entries.{length-entries}
 use Rattle.format.proofs.Outcomes.{no-refusal}
 use Rattle.entries.specs.Kinds.{entriesFor, listedBy}
 use Rattle.entries.proofs.ByKind.{size-range}
@@ -47,23 +46,23 @@ module _ (o : List ℕ) (from n : ℕ) (there : from + n ≤ length o) where
         number-part o from n there (f .width) (at + f .width) (from + at + f .width) (omega arith) (omega arith),
       )
 
-  pub entry-part : (k : Kind) (at : ℕ) → at + entriesFor k .size ≤ n → entriesFor k .entryAt (take n (drop from o)) at ≡ entriesFor k .entryAt o (from + at)
-  entry-part Hello at h = assert-part _ at h
-  entry-part Assert at h = assert-part _ at h
-  entry-part Simple at h = assert-part _ at h
-  entry-part Aggregated at h = assert-part _ at h
-  entry-part NullRegister at h = pair-part _ at h
-  entry-part RegisterStop at h = pair-part _ at h
+  pub allowed-part : (k : Kind) (at : ℕ) → at + entriesFor k .size ≤ n → entriesFor k .allowedAt (take n (drop from o)) at ≡ entriesFor k .allowedAt o (from + at)
+  allowed-part Hello at h = ap (allowedAssert _) (assert-part _ at h)
+  allowed-part Assert at h = ap (allowedAssert _) (assert-part _ at h)
+  allowed-part Simple at h = ap (allowedAssert _) (assert-part _ at h)
+  allowed-part Aggregated at h = ap (allowedAssert _) (assert-part _ at h)
+  allowed-part NullRegister at h = ap (allowedPair _ _) (pair-part _ at h)
+  allowed-part RegisterStop at h = ap (allowedPair _ _) (pair-part _ at h)
 
 -- ---- the first bad entry
 
-pub bad-within : {A : Type 0} (test : A → Bool) (i : ℕ) (es : List A) {k j : ℕ} → refuses k j ≡ firstBad test i es → j < i + length es
-unfolding firstBad
-bad-within test i [] e = absurd (no-refusal e)
-bad-within test i (x ∷ es) {k} {j} e = go (test x) (λ q. bad-within test (suc i) es q) e
+bad-within : (E : Entries) (o : List ℕ) (n i at : ℕ) {k j : ℕ} → refuses k j ≡ firstBadAt E o i at n → j < i + n
+unfolding firstBadAt
+bad-within E o zero i at e = absurd (no-refusal e)
+bad-within E o (suc n) i at {k} {j} e = go (E .allowedAt o at) (λ q. bad-within E o n (suc i) (at + E .size) q) e
   where
-    go : (b : Bool) → (refuses k j ≡ firstBad test (suc i) es → j < suc i + length es)
-        → refuses k j ≡ cond b (firstBad test (suc i) es) (refuses 7 i) → j < i + suc (length es)
+    go : (b : Bool) → (refuses k j ≡ firstBadAt E o (suc i) (at + E .size) n → j < suc i + n)
+        → refuses k j ≡ cond b (firstBadAt E o (suc i) (at + E .size) n) (refuses 7 i) → j < i + suc n
     go true next q = let h = next q in omega arith
     go false next q = let same : j ≡ i = cc in omega arith
 
@@ -72,20 +71,19 @@ abbrev placed : ℕ → ℕ → Outcome (Unit {0}) → Outcome (Unit {0})
 placed from size (gives t) = gives t
 placed from size (refuses k i) = refuses 14 (from + size * i)
 
-module _ (E : Entries) (o s : List ℕ) (from n : ℕ) (same : (at : ℕ) → at + E .size ≤ n → E .entryAt s at ≡ E .entryAt o (from + at)) where
-  check-part : (m i p q : ℕ) → q ≡ E .size * i → p ≡ from + q → q + E .size * m ≤ n
-      → checkEntries E o p m ≡ placed from (E .size) (firstBad (E .allowed) i (entriesAt E s q m))
-  unfolding checkEntries firstBad entriesAt fault refuseIf _>>_
+module _ (E : Entries) (o s : List ℕ) (from n : ℕ) (same : (at : ℕ) → at + E .size ≤ n → E .allowedAt s at ≡ E .allowedAt o (from + at)) where
+  check-part : (m i p q : ℕ) → q ≡ E .size * i → p ≡ from + q → q + E .size * m ≤ n → checkEntries E o p m ≡ placed from (E .size) (firstBadAt E s i q m)
+  unfolding checkEntries firstBadAt fault refuseIf _>>_
   check-part zero i p q eq ep h = refl
   check-part (suc m) i p q eq ep h =
       let more : E .size * suc m ≡ E .size * m + E .size = mul-suc (E .size) m in
       let next : E .size * suc i ≡ E .size * i + E .size = mul-suc (E .size) i in
-      let here : E .entryAt s q ≡ E .entryAt o p = same q (omega arith) ∙ ap (E .entryAt o) (sym ep) in
-      rw here (go (E .allowed (E .entryAt o p)) (check-part m (suc i) (p + E .size) (q + E .size) (omega arith) (omega arith) (omega arith)))
+      let here : E .allowedAt s q ≡ E .allowedAt o p = same q (omega arith) ∙ ap (E .allowedAt o) (sym ep) in
+      rw here (go (E .allowedAt o p) (check-part m (suc i) (p + E .size) (q + E .size) (omega arith) (omega arith) (omega arith)))
     where
-      go : (b : Bool) → checkEntries E o (p + E .size) m ≡ placed from (E .size) (firstBad (E .allowed) (suc i) (entriesAt E s (q + E .size) m))
+      go : (b : Bool) → checkEntries E o (p + E .size) m ≡ placed from (E .size) (firstBadAt E s (suc i) (q + E .size) m)
           → fault (not b) p >> checkEntries E o (p + E .size) m
-          ≡ placed from (E .size) (cond b (firstBad (E .allowed) (suc i) (entriesAt E s (q + E .size) m)) (refuses 7 i))
+          ≡ placed from (E .size) (cond b (firstBadAt E s (suc i) (q + E .size) m) (refuses 7 i))
       go true rest = rest
       go false rest = rw (ep, eq)
 
@@ -95,9 +93,9 @@ module _ (E : Entries) (o s : List ℕ) (from n : ℕ) (same : (at : ℕ) → at
 abbrev section : Kind → List ℕ → ℕ → ℕ → List ℕ
 section k o from m = take (entriesFor k .size * m) (drop from o)
 
--- what `entries_allowed` promises of them
+-- what `first_bad` promises of them
 abbrev pub Found : Kind → List ℕ → ℕ → ℕ → Listed → Type 0
-Found k o from m x = listedBy x ≡ firstBad (entriesFor k .allowed) 0 (entriesOf (entriesFor k) (section k o from m))
+Found k o from m x = listedBy x ≡ firstBad (entriesFor k) (section k o from m) 0
 
 module _ (k : Kind) (o : List ℕ) (from m : ℕ) (there : from + entriesFor k .size * m ≤ length o) where
   part-count : count (entriesFor k) (section k o from m) ≡ m
@@ -107,14 +105,14 @@ module _ (k : Kind) (o : List ℕ) (from m : ℕ) (there : from + entriesFor k .
       length-take-le (entriesFor k .size * m) (drop from o) (simp length-drop (omega arith)) in
       rw full (mul-div-cancel-left m (omega (arith, size-range k)))
 
-  section-is : checkEntries (entriesFor k) o from m
-      ≡ placed from (entriesFor k .size) (firstBad (entriesFor k .allowed) 0 (entriesOf (entriesFor k) (section k o from m)))
-  unfolding entriesOf
+  section-is : checkEntries (entriesFor k) o from m ≡ placed from (entriesFor k .size) (firstBad (entriesFor k) (section k o from m) 0)
+  unfolding firstBad
   section-is =
-      rw part-count
-      (check-part (entriesFor k) o (section k o from m) from (entriesFor k .size * m)
-      (entry-part o from (entriesFor k .size * m) there k)
-      m 0 from 0 (sym (mul-zero (entriesFor k .size))) (sym (add-zero from)) (omega arith))
+      let none : entriesFor k .size * 0 ≡ 0 = mul-zero (entriesFor k .size) in
+      let all : count (entriesFor k) (section k o from m) - 0 ≡ m = omega (arith, part-count) in
+      rw all
+      (check-part (entriesFor k) o (section k o from m) from (entriesFor k .size * m) (allowed-part o from (entriesFor k .size * m) there k)
+      m 0 from (entriesFor k .size * 0) refl (omega arith) (omega arith))
 
   module _ {x : Listed} (found : Found k o from m x) where
     pub entries-sound : x ≡ Allowed → gives tt ≡ checkEntries (entriesFor k) o from m
@@ -127,11 +125,10 @@ module _ (k : Kind) (o : List ℕ) (from m : ℕ) (there : from + entriesFor k .
 
     -- the place of a bad entry is in the section
     pub bad-there : {i : ℕ} → x ≡ Bad i → from + entriesFor k .size * i ≤ length o
-    unfolding listedBy
+    unfolding listedBy firstBad
     bad-there {i} e =
-        let es = entriesOf (entriesFor k) (section k o from m) in
-        let below : i < 0 + length es = bad-within (entriesFor k .allowed) 0 es (rw e at found) in
-        let long = length-entries (entriesFor k) (section k o from m) in
-        let few : i ≤ m = omega (arith, below, long, part-count) in
+        let below : i < 0 + (count (entriesFor k) (section k o from m) - 0) =
+        bad-within (entriesFor k) (section k o from m) _ 0 _ (rw e at found) in
+        let few : i ≤ m = omega (arith, part-count) in
         let less : entriesFor k .size * i ≤ entriesFor k .size * m = mul-le-mul-left (entriesFor k .size) few in
         omega arith

@@ -60,7 +60,7 @@ checkHeader L f o = do
 unfoldable pub checkEntries : Entries → List ℕ → ℕ → ℕ → Outcome (Unit {0})
 checkEntries E o at zero = gives tt
 checkEntries E o at (suc n) = do
-  fault (not (E .allowed (E .entryAt o at))) at
+  fault (not (E .allowedAt o at)) at
   checkEntries E o (at + E .size) n
 
 -- "Other flags are refused", "a zero octet"

@@ -1,8 +1,8 @@
 // The sections of a stored sheet: a neighbour's row in it, and whether a sheet is valid. First the rows, then the
 // header, the sections one by one, and last the call. Reading and writing a sheet are in `sheet`.
 use entries::Listed;
-use entries::entries_allowed;
 use entries::entry_size;
+use entries::first_bad;
 use format::Kind;
 use format::Refusal;
 use neighbours::Neighbour;
@@ -169,7 +169,7 @@ fn check_entries(kind: Kind, o: &[u8], from: usize, count: usize) -> Section
 {
     let size = entry_size(kind);
     let end = from + size * count;
-    let x = entries_allowed(kind, &o[from..end]);
+    let x = first_bad(kind, &o[from..end], 0);
     match x {
         Listed::Allowed => Section::Sound,
         Listed::Bad(i) => Section::Fault(from + size * i),

@@ -20,12 +20,12 @@ use Rattle.octets.specs.Octets.{Octets}
 use Rattle.format.specs.Outcome
 use Rattle.format.specs.Outcome.{Outcome, gives, refuses, refuseIf}
 use Rattle.format.specs.Family.{Family, ipv4}
-use Rattle.format.specs.Entry.{Entries, count, whole, entriesOf}
+use Rattle.format.specs.Entry.{Entries, count, whole}
 use Rattle.format.specs.Packing.{firstBad}
 use Rattle.format.specs.Record.{each}
 use Rattle.format.proofs.Outcomes.{gives-same, bind-gives, then-gives, unless-gives}
 use Rattle.format.proofs.Readers.{At}
-use Rattle.format.proofs.Calls.{every-allowed}
+use Rattle.format.proofs.Calls.{list-fine}
 use Rattle.neighbours.specs.Rows.{most, used, valid, tableOf}
 use Rattle.neighbours.proofs.Tables.{and-true}
 use Rattle.neighbours.proofs.Kept.{used-of, valid-of}
@@ -118,11 +118,11 @@ record Listed (E : Entries) (e : List ℕ) (n : ℕ) : Type 0 where
   long : length e ≡ E .size * n
   isWhole : whole E e ≡ true
   many : count E e ≡ n
-  fine : firstBad (E .allowed) 0 (entriesOf E e) ≡ gives tt
+  fine : firstBad E e 0 ≡ gives tt
 
 listed : (E : Entries) → Local E → 0 < E .size → (o : List ℕ) (at n : ℕ) → at + E .size * n ≤ length o → checkEntries E o at n ≡ gives tt
     → Listed E (take (E .size * n) (drop at o)) n
-unfolding whole count entriesOf
+unfolding whole count
 listed E loc some o at n h g =
     let e : List ℕ = take (E .size * n) (drop at o) in
     let long : length e ≡ E .size * n = length-take-le (E .size * n) (drop at o) (simp length-drop (omega arith)) in
@@ -131,7 +131,7 @@ listed E loc some o at n h g =
       long = long;
       isWhole = eq-eqb (length e % E .size) 0 (rw long (mul-mod-right (E .size) n));
       many = many;
-      fine = rw many (every-allowed (E .allowed) 0 _ (check-every E loc e (at-part o at (E .size * n) h) n 0 (omega arith) (omega arith) g));
+      fine = list-fine E e (rw many (check-every E loc e (at-part o at (E .size * n) h) n 0 (omega arith) (omega arith) g));
     }
 
 -- of a family with addresses, and a layout with no more rows than a table

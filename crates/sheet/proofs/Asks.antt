@@ -24,7 +24,7 @@ use Rattle.octets.proofs.Laws.{put-next}
 use Rattle.format.specs.Outcome
 use Rattle.format.specs.Outcome.{Outcome, gives, refuses, refuseIf}
 use Rattle.format.specs.Family.{ipv4}
-use Rattle.format.specs.Entry.{Entries, count, whole, entriesOf}
+use Rattle.format.specs.Entry.{Entries, count, whole}
 use Rattle.format.specs.Packing.{firstBad}
 use Rattle.format.specs.Record.{each}
 use Rattle.format.specs.declared.Refusal.{Refusal}
@@ -95,12 +95,12 @@ module _ (ea ep : List ℕ) where
 
 -- ---- 7
 
-module _ (E : Entries) (e : List ℕ) {x : Listed} (said : listedBy x ≡ firstBad (E .allowed) 0 (entriesOf E e)) where
-  pub listed-fine : x ≡ Allowed → atZero (firstBad (E .allowed) 0 (entriesOf E e)) ≡ gives tt
+module _ (E : Entries) (e : List ℕ) {x : Listed} (said : listedBy x ≡ firstBad E e 0) where
+  pub listed-fine : x ≡ Allowed → atZero (firstBad E e 0) ≡ gives tt
   unfolding listedBy atZero
   listed-fine q = ap atZero (sym said ∙ ap listedBy q)
 
-  pub listed-bad : {i : ℕ} → x ≡ Bad i → atZero (firstBad (E .allowed) 0 (entriesOf E e)) ≡ refuses 7 0
+  pub listed-bad : {i : ℕ} → x ≡ Bad i → atZero (firstBad E e 0) ≡ refuses 7 0
   unfolding listedBy atZero
   listed-bad q = ap atZero (sym said ∙ ap listedBy q)
 
@@ -132,16 +132,16 @@ module _ (ea ep : List ℕ) (t : Table) (room : ℕ) where
       due-8 h = rw (w, s, long, lt-ltb room n h)
 
       module _ (enough : n ≤ room) where
-        pub due-7 : atZero (firstBad (assertsIn ipv4 .allowed) 0 (entriesOf (assertsIn ipv4) ea)) ≡ refuses 7 0 → Due ≡ refuses 7 0
+        pub due-7 : atZero (firstBad (assertsIn ipv4) ea 0) ≡ refuses 7 0 → Due ≡ refuses 7 0
         unfolding asked lengthOf refuseIf Outcome._>>_
         due-7 e = rw (w, s, long, le-ltb room n enough, e)
 
-        module _ (fine : atZero (firstBad (assertsIn ipv4 .allowed) 0 (entriesOf (assertsIn ipv4) ea)) ≡ gives tt) where
-          pub due-7-pairs : atZero (firstBad (pairsIn ipv4 .allowed) 0 (entriesOf (pairsIn ipv4) ep)) ≡ refuses 7 0 → Due ≡ refuses 7 0
+        module _ (fine : atZero (firstBad (assertsIn ipv4) ea 0) ≡ gives tt) where
+          pub due-7-pairs : atZero (firstBad (pairsIn ipv4) ep 0) ≡ refuses 7 0 → Due ≡ refuses 7 0
           unfolding asked lengthOf refuseIf Outcome._>>_
           due-7-pairs e = rw (w, s, long, le-ltb room n enough, fine, e)
 
-          pub due-fine : atZero (firstBad (pairsIn ipv4 .allowed) 0 (entriesOf (pairsIn ipv4) ep)) ≡ gives tt → Due ≡ gives n
+          pub due-fine : atZero (firstBad (pairsIn ipv4) ep 0) ≡ gives tt → Due ≡ gives n
           unfolding asked lengthOf refuseIf Outcome._>>_
           due-fine e = rw (w, s, long, le-ltb room n enough, fine, e) (ap gives long)
 

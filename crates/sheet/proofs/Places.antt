@@ -16,10 +16,9 @@ use lib.ListN.{length, take, drop, length-drop, take-append-drop}
 use lib.Seq.{take-take, length-take-le, drop-drop}
 use Rattle.octets.specs.Octets.{Octets, numberAt, value, be}
 use Rattle.octets.proofs.Laws.{length-be, value-be, be-value, octets-take, octets-drop}
-use Rattle.records.specs.Every.{Every}
 use Rattle.format.specs.Outcome.{gives, refuseIf, _>>_}
 use Rattle.format.specs.Family.{Family}
-use Rattle.format.specs.Entry.{Entries, assertAt, pairAt, entriesAt}
+use Rattle.format.specs.Entry.{Entries, assertAt, pairAt, allowedAssert, allowedPair, AllAllowed}
 use Rattle.format.proofs.Outcomes.{unless-gives}
 use Rattle.format.proofs.Readers.{At, at-right}
 use Rattle.records.specs.Records.{assert, pair}
@@ -52,10 +51,10 @@ module _ {o : List ℕ} {at : ℕ} (e : List ℕ) (h : At o at e) where
 
 -- ---- entries
 
--- an entry is read alike in its list and where the list stands
+-- an entry is allowed in its list exactly if it is where the list stands
 pub record Local (E : Entries) : Type 0 where
   pub same : {o : List ℕ} {at : ℕ} (e : List ℕ) → At o at e → (j : ℕ) {p : ℕ} → p ≡ at + j → j + E .size ≤ length e
-      → E .entryAt o p ≡ E .entryAt e j
+      → E .allowedAt o p ≡ E .allowedAt e j
 
 pub pairs-local : (f : Family) → Local (pairsIn f)
 unfolding pairAt
@@ -64,7 +63,7 @@ pairs-local f = record {
       let w : ℕ = f .width in
       let a : numberAt w o p ≡ numberAt w e j = number-inside e h j w q (omega arith) in
       let b : numberAt w o (p + w) ≡ numberAt w e (j + w) = number-inside e h (j + w) w (omega arith) (omega arith) in
-      λ i. pair (a i) (b i);
+      λ i. allowedPair f true (pair (a i) (b i));
 }
 
 pub asserts-local : (f : Family) → Local (assertsIn f)
@@ -76,25 +75,25 @@ asserts-local f = record {
       let b : numberAt w o (p + w) ≡ numberAt w e (j + w) = number-inside e h (j + w) w (omega arith) (omega arith) in
       let c : numberAt 4 o (p + 2 * w) ≡ numberAt 4 e (j + 2 * w) = number-inside e h (j + 2 * w) 4 (omega arith) (omega arith) in
       let d : numberAt 4 o (p + 2 * w + 4) ≡ numberAt 4 e (j + 2 * w + 4) = number-inside e h (j + 2 * w + 4) 4 (omega arith) (omega arith) in
-      λ i. assert (a i) (b i) (c i) (d i);
+      λ i. allowedAssert f (assert (a i) (b i) (c i) (d i));
 }
 
 module _ (E : Entries) (loc : Local E) {o : List ℕ} {at : ℕ} (e : List ℕ) (h : At o at e) where
-  pub check-fine : (n j : ℕ) {p : ℕ} → p ≡ at + j → j + E .size * n ≤ length e → Every (λ x. E .allowed x ≡ true) (entriesAt E e j n)
+  pub check-fine : (n j : ℕ) {p : ℕ} → p ≡ at + j → j + E .size * n ≤ length e → AllAllowed E e j n
       → checkEntries E o p n ≡ gives tt
-  unfolding checkEntries entriesAt Every fault refuseIf _>>_
+  unfolding checkEntries AllAllowed fault refuseIf _>>_
   check-fine zero j q fits ok = refl
   check-fine (suc n) j q fits ok =
       let s = mul-suc (E .size) n in
       rw (loc .same e h j q (omega arith), ok .0) (check-fine n (j + E .size) (omega arith) (omega arith) (ok .1))
 
   pub check-every : (n j : ℕ) {p : ℕ} → p ≡ at + j → j + E .size * n ≤ length e → checkEntries E o p n ≡ gives tt
-      → Every (λ x. E .allowed x ≡ true) (entriesAt E e j n)
-  unfolding checkEntries entriesAt Every fault
+      → AllAllowed E e j n
+  unfolding checkEntries AllAllowed fault
   check-every zero j q fits g = tt
   check-every (suc n) j {p} q fits g =
       let s = mul-suc (E .size) n in
-      unless-gives (not (E .allowed (E .entryAt o p))) 14 p (checkEntries E o (p + E .size) n) tt g
+      unless-gives (not (E .allowedAt o p)) 14 p (checkEntries E o (p + E .size) n) tt g
       (λ t rest. (rw (← loc .same e h j q (omega arith)) (not-false _ t), check-every n (j + E .size) (omega arith) (omega arith) rest))
 
 -- ---- and back: octets from the numbers read

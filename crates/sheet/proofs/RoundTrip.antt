@@ -22,8 +22,8 @@ use Rattle.records.specs.Every.{Every}
 use Rattle.format.specs.Outcome
 use Rattle.format.specs.Outcome.{Outcome, gives, refuses, refuseIf, _>>=_, _>>_}
 use Rattle.format.specs.Family.{Family, ipv4, mayBeSource}
-use Rattle.format.specs.Entry.{count, whole, entriesOf, entriesAt, assertAt, pairAt, allowedAssert, allowedPair}
-use Rattle.format.specs.Packing.{firstBad}
+use Rattle.format.specs.Entry.{count, whole, assertAt, pairAt, allowedAssert, allowedPair}
+use Rattle.format.specs.Packing.{firstBadAt, firstBad}
 use Rattle.format.specs.Record.{each}
 use Rattle.format.proofs.Outcomes.{no-refusal, gives-same, bind-gives, then-gives}
 use Rattle.format.proofs.Lengths.{AreOctets, number, no-octets, _then_}
@@ -180,7 +180,7 @@ some-sheet =
 
 -- buffers of 48 octets or more
 pub some-written : (d : List ℕ) → 48 ≤ length d → some-writing d .answer ≡ gives 48
-unfolding writing stored asked whole count countsAllowed countsOf contentsOf sheetOctets headerOctets pairsFrom rowsFrom rowOctets each be valid sheetRows allowed has allZero isZero noRow tableOf firstBad entriesOf entriesAt assertAt pairAt numberAt value allowedAssert allowedPair mayBeSource atZero refuseIf Outcome._>>_
+unfolding writing stored asked whole count countsAllowed countsOf contentsOf sheetOctets headerOctets pairsFrom rowsFrom rowOctets each be valid sheetRows allowed has allZero isZero noRow tableOf firstBadAt firstBad assertAt pairAt numberAt value allowedAssert allowedPair mayBeSource atZero refuseIf Outcome._>>_
 some-written d room = rw (le-ltb (length d) 48 room)
 
 module _ (d : List ℕ) (room : 48 ≤ length d) where

@@ -28,7 +28,7 @@ use Rattle.format.specs.Packing.{firstBad}
 use Rattle.format.specs.Record.{each}
 use Rattle.format.proofs.Outcomes.{no-refusal, gives-same, then-gives, unless-gives}
 use Rattle.format.proofs.Readers.{At, at-left, at-right, at-end}
-use Rattle.format.proofs.Calls.{allowed-every}
+use Rattle.format.proofs.Calls.{list-allowed}
 use Rattle.format.proofs.Faithful.{whole-long}
 use Rattle.neighbours.specs.Rows.{allowed, has, used, valid, tableOf}
 use Rattle.neighbours.specs.declared.Neighbour.{Neighbour}
@@ -51,8 +51,8 @@ pub record Accepted (L : Layout) (f : Family) (ea ep : List ℕ) (t : Table) : T
   pub pairs : whole (pairsIn f) ep ≡ true
   pub counts : countsAllowed L (countsOf f (contentsOf ea ep t)) ≡ true
   pub table : valid t ≡ true
-  pub assertsFine : firstBad (assertsIn f .allowed) 0 (entriesOf (assertsIn f) ea) ≡ gives tt
-  pub pairsFine : firstBad (pairsIn f .allowed) 0 (entriesOf (pairsIn f) ep) ≡ gives tt
+  pub assertsFine : firstBad (assertsIn f) ea 0 ≡ gives tt
+  pub pairsFine : firstBad (pairsIn f) ep 0 ≡ gives tt
 
 at-zero-gives : (x : Outcome (Unit {0})) (u : Unit {0}) → atZero x ≡ gives u → x ≡ gives tt
 unfolding atZero
@@ -65,8 +65,8 @@ accepted L f ea ep t room o e =
     unless-gives _ 10 0 _ o e (λ a e1.
     unless-gives _ 14 0 _ o e1 (λ b e2.
     unless-gives _ 8 0 _ o e2 (λ c e3.
-    then-gives (atZero (firstBad (assertsIn f .allowed) 0 (entriesOf (assertsIn f) ea))) _ o e3 (λ u x e4.
-    then-gives (atZero (firstBad (pairsIn f .allowed) 0 (entriesOf (pairsIn f) ep))) _ o e4 (λ v y e5.
+    then-gives (atZero (firstBad (assertsIn f) ea 0)) _ o e3 (λ u x e4.
+    then-gives (atZero (firstBad (pairsIn f) ep 0)) _ o e4 (λ v y e5.
     let lists = and-true _ _ (not-false _ a) in
     let rest = and-true _ _ (not-false _ b) in
     record {
@@ -85,8 +85,8 @@ asked-is L f ea ep t room o e =
     unless-gives _ 10 0 _ o e (λ a e1.
     unless-gives _ 14 0 _ o e1 (λ b e2.
     unless-gives _ 8 0 _ o e2 (λ c e3.
-    then-gives (atZero (firstBad (assertsIn f .allowed) 0 (entriesOf (assertsIn f) ea))) _ o e3 (λ u x e4.
-    then-gives (atZero (firstBad (pairsIn f .allowed) 0 (entriesOf (pairsIn f) ep))) _ o e4 (λ v y e5.
+    then-gives (atZero (firstBad (assertsIn f) ea 0)) _ o e3 (λ u x e4.
+    then-gives (atZero (firstBad (pairsIn f) ep 0)) _ o e4 (λ v y e5.
     (e ∙ sym e5, ltb-false room (length (sheetOctets L f (contentsOf ea ep t))) c))))))
 
 -- ---- the header
@@ -203,10 +203,10 @@ module _ (L : Layout) (f : Family) (roomy : Roomy L f) (ea ep : List ℕ) (t : T
   written-checks =
       let asserts : checkEntries (assertsIn f) octets (headerSize L) (counts .asserts) ≡ gives tt =
       check-fine (assertsIn f) (asserts-local f) ea asserts-at (counts .asserts) 0 (omega arith) (omega (arith, asserts-long))
-      (allowed-every _ 0 _ (was .assertsFine)) in
+      (list-allowed (assertsIn f) ea (was .assertsFine)) in
       let pairs : checkEntries (pairsIn f) octets (pairsFrom L f counts) (counts .pairs) ≡ gives tt =
       check-fine (pairsIn f) (pairs-local f) ep pairs-at (counts .pairs) 0 (omega arith) (omega (arith, pairs-long))
-      (allowed-every _ 0 _ (was .pairsFine)) in
+      (list-allowed (pairsIn f) ep (was .pairsFine)) in
       let rows : checkRows f octets [] (rowsFrom L f counts) (counts .neighbours) ≡ gives tt =
       check-rows f (used t) [] (rowsFrom L f counts) rows-stand (held .fits) (valid-parts t (was .table) .sheet) (every-nothing (used t)) in
       rw (header-checks L f roomy counts (was .counts) header-at long, asserts, pairs, rows)

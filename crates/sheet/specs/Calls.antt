@@ -15,7 +15,7 @@ use lib.Dec.{ltb}
 use Rattle.octets.specs.Octets.{put}
 use Rattle.format.specs.Outcome.{Outcome, gives, refuses, refuseIf, _>>=_, _>>_}
 use Rattle.format.specs.Family.{Family}
-use Rattle.format.specs.Entry.{whole, entriesOf}
+use Rattle.format.specs.Entry.{whole}
 use Rattle.format.specs.Packing.{firstBad}
 use Rattle.neighbours.specs.Rows.{used, valid, tableOf}
 use Rattle.neighbours.specs.declared.Table.{Table}
@@ -72,8 +72,8 @@ asked L f ea ep t room = do
   refuseIf (not (whole (assertsIn f) ea && whole (pairsIn f) ep)) 10 0
   refuseIf (not (countsAllowed L (countsOf f (contentsOf ea ep t)) && valid t)) 14 0
   refuseIf (ltb room (length (sheetOctets L f (contentsOf ea ep t)))) 8 0
-  atZero (firstBad (assertsIn f .allowed) 0 (entriesOf (assertsIn f) ea))
-  atZero (firstBad (pairsIn f .allowed) 0 (entriesOf (pairsIn f) ep))
+  atZero (firstBad (assertsIn f) ea 0)
+  atZero (firstBad (pairsIn f) ep 0)
   gives (sheetOctets L f (contentsOf ea ep t))
 
 pub record WritingCall : Type 0 where

@@ -4,7 +4,7 @@ use crate::copy::copy;
 use crate::put::put_header;
 use crate::put::put_rows;
 use entries::Listed;
-use entries::entries_allowed;
+use entries::first_bad;
 use format::Kind;
 use format::Refusal;
 use neighbours::Table;
@@ -22,7 +22,7 @@ ghost use lib.ListN.{length};
 ghost use Rattle.octets.specs.Octets.{put};
 ghost use Rattle.format.specs.Outcome.{gives, refuses};
 ghost use Rattle.format.specs.Family.{ipv4};
-ghost use Rattle.format.specs.Entry.{whole, entriesOf};
+ghost use Rattle.format.specs.Entry.{whole};
 ghost use Rattle.format.specs.Packing.{firstBad};
 ghost use Rattle.entries.specs.Kinds.{entriesFor};
 ghost use Rattle.neighbours.specs.Rows.{valid};
@@ -63,9 +63,9 @@ fn are_storable(asserts: &[u8], pairs: &[u8], table: Table) -> bool
 
 // Whether every entry of a list is allowed.
 fn all_allowed(kind: Kind, e: &[u8]) -> bool
-    ensures { λ r. ⌜ atZero (firstBad (entriesFor kind .allowed) 0 (entriesOf (entriesFor kind) (now (e .entry)))) ≡ cond r (gives tt) (refuses 7 0) ⌝ }
+    ensures { λ r. ⌜ atZero (firstBad (entriesFor kind) (now (e .entry)) 0) ≡ cond r (gives tt) (refuses 7 0) ⌝ }
 {
-    match entries_allowed(kind, e) {
+    match first_bad(kind, e, 0) {
         Listed::Allowed => true,
         Listed::Bad(_) => false,
     }

@@ -4,20 +4,20 @@ use Prim.Native.Nat.{_+_, _*_, _-_, _/_, _≤_}
 use native.Mathlib.Nat.{div-le-self}
 use native.Mathlib.Omega.{arith}
 use mathlib.Core.Path.{_≡_, refl, sym, ap, _∙_}
-use lib.ListN.{length, drop}
+use lib.ListN.{length}
 use denote.Ref.{now}
 use borrow.Author.Tests.{not-true, not-false}
 use borrow.Author.Needs.{needs}
-use Rattle.format.specs.Entry.{entriesOf}
-use Rattle.format.specs.Packing.{firstBad}
+use Rattle.format.specs.Entry.{count}
+use Rattle.format.specs.Packing.{firstBadAt, firstBad}
 use Rattle.entries.specs.Kinds.{entriesFor, listedBy}
 use Rattle.entries.proofs.ByKind.{size-range}
-use Rattle.entries.proofs.Lists.{drop-past, rest-there, Looking, look-start, look-there, look-bad, look-next, look-end}
+use Rattle.entries.proofs.Lists.{rest-there, Looking, look-start, look-there, look-bad, look-next, look-end}
 use Rattle.entries.proofs.first_bad.Statement.{statement}
 use Rattle.entries.proofs.first_bad.Tie as tie
 
 abbrev Inv-loop : tie.InvT-loop
-Inv-loop kind e start size count i₀ at₀ i at = Looking (entriesFor kind) e (firstBad (entriesFor kind .allowed) start (drop start (entriesOf (entriesFor kind) e))) count i at
+Inv-loop kind e start size count i₀ at₀ i at = Looking (entriesFor kind) e (firstBad (entriesFor kind) e start) count i at
 
 abbrev μ-loop : tie.MeasureT-loop
 μ-loop kind e start size count i₀ at₀ i at = count - i
@@ -29,11 +29,12 @@ div-count : tie.Need-div-count Inv-loop μ-loop
 div-count c = omega (arith, c .entry-size .ensures, size-range (c .before .before .args .kind))
 
 returns : tie.Need-returns Inv-loop μ-loop
-unfolding listedBy firstBad
+unfolding listedBy firstBadAt firstBad count
 returns c =
     let a = c .before .before .before .args in
     let past : length (now (a .e)) / entriesFor (a .kind) .size ≤ a .start = omega (arith, rw (c .before .entry-size .ensures) at (c .if1 .taken)) in
-    sym (ap (firstBad (entriesFor (a .kind) .allowed) (a .start)) (drop-past (entriesFor (a .kind)) (now (a .e)) (a .start) past))
+    let none : length (now (a .e)) / entriesFor (a .kind) .size - a .start ≡ 0 = omega arith in
+    rw none
 
 mul-at : tie.Need-mul-at Inv-loop μ-loop
 mul-at c =

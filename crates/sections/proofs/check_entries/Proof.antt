@@ -17,11 +17,11 @@ same : (c : tie.After-entry-size) → c .entry-size .result * c .before .before 
 same c = ap (λ x. x * c .before .before .args .count) (c .entry-size .ensures)
 
 -- what was found in the part
-found : (c : tie.After-entries-allowed) → Found (c .before .before .before .before .args .kind) (now (c .before .before .before .before .args .o)) (c .before .before .before .before .args .from) (c .before .before .before .before .args .count) (c .entries-allowed .result)
+found : (c : tie.After-first-bad) → Found (c .before .before .before .before .args .kind) (now (c .before .before .before .before .args .o)) (c .before .before .before .before .args .from) (c .before .before .before .before .args .count) (c .first-bad .result)
 found c =
     let a = c .before .before .before .before .args in
     let cut : a .from + c .before .before .entry-size .result * a .count - a .from ≡ entriesFor (a .kind) .size * a .count = omega (arith, same (c .before .before)) in
-    rw cut at (c .entries-allowed .ensures)
+    rw cut at (c .first-bad .ensures)
 
 entry-size-requires : tie.Need-entry-size-requires
 entry-size-requires c κs = search needs
@@ -32,17 +32,17 @@ mul-end c = omega (arith, same c, c .before .before .pre)
 add-end : tie.Need-add-end
 add-end c = omega (arith, same c, c .before .before .pre)
 
-sub-entries-allowed : tie.Need-sub-entries-allowed
-sub-entries-allowed c = search needs
+sub-first-bad : tie.Need-sub-first-bad
+sub-first-bad c = search needs
 
-part-entries-allowed-start : tie.Need-part-entries-allowed-start
-part-entries-allowed-start c = search needs
+part-first-bad-start : tie.Need-part-first-bad-start
+part-first-bad-start c = search needs
 
-part-entries-allowed-end : tie.Need-part-entries-allowed-end
-part-entries-allowed-end c = omega (arith, same c, c .before .before .pre)
+part-first-bad-end : tie.Need-part-first-bad-end
+part-first-bad-end c = omega (arith, same c, c .before .before .pre)
 
-entries-allowed-requires : tie.Need-entries-allowed-requires
-entries-allowed-requires c κs = search needs
+first-bad-requires : tie.Need-first-bad-requires
+first-bad-requires c κs = search needs
 
 enum-told : tie.Need-enum-told
 enum-told c = search needs
@@ -83,10 +83,10 @@ check-entries-spec =
     entry-size-requires
     mul-end
     add-end
-    sub-entries-allowed
-    part-entries-allowed-start
-    part-entries-allowed-end
-    entries-allowed-requires
+    sub-first-bad
+    part-first-bad-start
+    part-first-bad-end
+    first-bad-requires
     enum-told
     enum-known-x
     mul-t14

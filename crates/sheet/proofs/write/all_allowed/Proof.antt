@@ -1,4 +1,4 @@
--- `sheet::write::all_allowed` meets its contract, by what `entries_allowed` answered.
+-- `sheet::write::all_allowed` meets its contract, by what `first_bad` answered.
 -- Assumes nothing.
 use denote.Ref.{now}
 use Rattle.entries.specs.Kinds.{entriesFor}
@@ -7,8 +7,8 @@ use borrow.Author.Needs.{needs}
 use Rattle.sheet.proofs.write.all_allowed.Statement.{statement}
 use Rattle.sheet.proofs.write.all_allowed.Tie as tie
 
-entries-allowed-requires : tie.Need-entries-allowed-requires
-entries-allowed-requires c κs = search needs
+first-bad-requires : tie.Need-first-bad-requires
+first-bad-requires c κs = search needs
 
 enum-told : tie.Need-enum-told
 enum-told c = search needs
@@ -19,18 +19,18 @@ enum-told-2 c = search needs
 returns : tie.Need-returns
 returns c =
     let s = c .before .before .before .before in
-    listed-fine (entriesFor (s .args .kind)) (now (s .args .e)) (c .before .before .entries-allowed .ensures) (c .enum-told .given .1)
+    listed-fine (entriesFor (s .args .kind)) (now (s .args .e)) (c .before .before .first-bad .ensures) (c .enum-told .given .1)
 
 returns-2 : tie.Need-returns-2
 returns-2 c =
     let s = c .before .before .before .before in
-    listed-bad (entriesFor (s .args .kind)) (now (s .args .e)) (c .before .before .entries-allowed .ensures) (c .enum-told2 .given .1)
+    listed-bad (entriesFor (s .args .kind)) (now (s .args .e)) (c .before .before .first-bad .ensures) (c .enum-told2 .given .1)
 
 pub all-allowed-spec : {M : Type 1} → statement M
 all-allowed-spec =
     tie.close
     (tie.spec
-    entries-allowed-requires
+    first-bad-requires
     enum-told
     enum-told-2
     returns
