@@ -9,13 +9,13 @@ use native.Mathlib.Omega.{arith}
 use borrow.Author.Tests.{ltb-false, eqb-false, lt-ltb, eq-eqb}
 use lib.Dec.{eqb, ltb}
 use Rattle.format.specs.Outcome.{gives, refuses, refuseIf, _>>_}
-use Rattle.neighbours.specs.declared.Candidate.{Candidate}
+use Rattle.neighbours.specs.declared.election.Candidate.{Candidate}
 use Rattle.neighbours.specs.declared.Neighbour.{Neighbour}
 use Rattle.neighbours.specs.declared.list.Scan.{Scan}
 use Rattle.neighbours.specs.Rows.{has}
 use Rattle.neighbours.specs.Election.{allHave, candidate, above, better, best}
 use Rattle.neighbours.specs.Highest.{candidates, Highest}
-use Rattle.neighbours.proofs.Election.{best-highest}
+use Rattle.neighbours.proofs.Highest.{best-highest}
 use Rattle.neighbours.specs.Among.{electingAmong, first, looking, seen, answering}
 
 none-after : (s : Scan) (l : List Neighbour) → s .none ≡ false → seen s l .none ≡ false

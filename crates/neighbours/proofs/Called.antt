@@ -12,9 +12,9 @@ use borrow.Author.Tests.{eq-eqb, ne-eqb}
 use Rattle.format.specs.Outcome.{Outcome, gives, refuses, _>>_}
 use Rattle.format.specs.declared.Refusal.{Refusal}
 use Rattle.hello.specs.declared.Hello.{Hello}
-use Rattle.neighbours.specs.declared.Asked.{Asked}
-use Rattle.neighbours.specs.declared.Asked.the-variants.{Fine, Refused as NotAsked}
-use Rattle.neighbours.specs.declared.Candidate.{Candidate}
+use Rattle.neighbours.specs.declared.validity.Asked.{Asked}
+use Rattle.neighbours.specs.declared.validity.Asked.the-variants.{Fine, Refused as NotAsked}
+use Rattle.neighbours.specs.declared.election.Candidate.{Candidate}
 use Rattle.neighbours.specs.declared.Change.the-variants.{Refused}
 use Rattle.neighbours.specs.declared.Changed.{Changed}
 use Rattle.neighbours.specs.declared.Table.{Table}

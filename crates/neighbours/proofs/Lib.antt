@@ -5,6 +5,6 @@ pub mod Called
 pub mod Gaps
 pub mod Changes
 pub mod Entering
-pub mod Election
+pub mod Highest
 pub mod Among
 pub mod Kept

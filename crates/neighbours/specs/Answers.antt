@@ -10,8 +10,8 @@ use Rattle.format.specs.Outcome.{Outcome, gives, refuses}
 use Rattle.neighbours.specs.Rows.{tableOf}
 use Rattle.neighbours.specs.Hearing.{Done, replaced, appended, forgotten, After, after}
 use Rattle.neighbours.specs.declared.Table.{Table}
-use Rattle.neighbours.specs.declared.Asked.{Asked}
-use Rattle.neighbours.specs.declared.Asked.the-variants.{Fine, Refused as NotAsked}
+use Rattle.neighbours.specs.declared.validity.Asked.{Asked}
+use Rattle.neighbours.specs.declared.validity.Asked.the-variants.{Fine, Refused as NotAsked}
 use Rattle.neighbours.specs.declared.Change.{Change}
 use Rattle.neighbours.specs.declared.Change.the-variants.{Replaced, Appended, Forgotten, Refused}
 use Rattle.neighbours.specs.declared.Packing.{Packing}

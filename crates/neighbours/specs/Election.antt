@@ -12,7 +12,7 @@ use lib.Dec.{eqb, ltb}
 use Rattle.format.specs.Outcome.{Outcome, gives, refuseIf, _>>_}
 use Rattle.neighbours.specs.Rows.{used, valid}
 use Rattle.neighbours.specs.Hearing.{asked}
-use Rattle.neighbours.specs.declared.Candidate.{Candidate}
+use Rattle.neighbours.specs.declared.election.Candidate.{Candidate}
 use Rattle.neighbours.specs.declared.Neighbour.{Neighbour}
 use Rattle.neighbours.specs.declared.Table.{Table}
 

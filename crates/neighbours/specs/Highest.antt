@@ -11,7 +11,7 @@ use mathlib.Core.List.{List, [], _∷_, map}
 use mathlib.Core.Logic.{_⊎_}
 use Rattle.records.specs.Every.{Every}
 use Rattle.neighbours.specs.Election.{candidate}
-use Rattle.neighbours.specs.declared.Candidate.{Candidate}
+use Rattle.neighbours.specs.declared.election.Candidate.{Candidate}
 use Rattle.neighbours.specs.declared.Neighbour.{Neighbour}
 
 unfoldable pub In : {A : Type 0} → A → List A → Type 0

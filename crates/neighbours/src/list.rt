@@ -7,12 +7,12 @@ ghost use lib.ListN.{take};
 ghost use Rattle.neighbours.specs.Rows.{most, used};
 ghost use Rattle.neighbours.specs.Answers.{electedBy};
 ghost use Rattle.neighbours.specs.Among.{first, looking, answering, electingAmong};
-use crate::Candidate;
 use crate::Elected;
 use crate::Neighbour;
 use crate::ROWS;
-use crate::better;
-use crate::higher;
+use crate::election::Candidate;
+use crate::election::better;
+use crate::election::higher;
 use format::Refusal;
 
 // What was seen of the rows so far. No row: both candidates are 0.

@@ -1,0 +1,75 @@
+-- `neighbours::validity::find` meets its contract. The loop's invariant: where the address stands among the rows that are left is where it stands among
+-- all of them.
+-- Assumes nothing.
+use mathlib.Core.Path.{_≡_, refl, _∙_}
+use Prim.Native.Nat.{_+_, _-_, _≤_}
+use native.Mathlib.Omega.{arith}
+use borrow.Author.Needs.{needs}
+use lib.ListN.{length, drop}
+use Rattle.neighbours.specs.Rows.{most, used, place}
+use Rattle.neighbours.proofs.Rows.{all-rows, next-row, no-row-left, place-here, place-next, place-none}
+use Rattle.neighbours.proofs.validity.find.Statement.{statement}
+use Rattle.neighbours.proofs.validity.find.Tie as tie
+
+abbrev Inv-loop : tie.InvT-loop
+Inv-loop from address table count i₀ i = (i ≤ count) × (i + place address (drop i (used table)) ≡ from + place address (drop from (used table)))
+
+abbrev μ-loop : tie.MeasureT-loop
+μ-loop from address table count i₀ i = count - i
+
+-- the rows in use are rows of the array
+within : (c : tie.Start Inv-loop μ-loop) → c .args .t1 .count ≤ length (c .args .t1 .rows)
+within c =
+    let full : length (c .args .t1 .rows) ≡ most = all-rows (c .args .t1 .rows) (c .good .0 .1 .1 .0 .1 .0 .1) in
+    omega (arith, full, c .pre .1)
+
+loop-holds : tie.Need-loop-holds Inv-loop μ-loop
+loop-holds c = (c .pre .0, refl)
+
+mul-if1 : tie.Need-mul-if1 Inv-loop μ-loop
+mul-if1 c = search needs
+
+element-copy-out-if1 : tie.Need-element-copy-out-if1 Inv-loop μ-loop
+element-copy-out-if1 c = omega (arith, c .loop-test .taken, c .before .before .pre .1)
+
+returns : tie.Need-returns Inv-loop μ-loop
+returns c =
+    let s = c .before .before .before in
+    let i = c .before .before .loop .i in
+    place-here (s .args .address) (used (s .args .t1)) i (c .before .before .loop .inv .1)
+    (next-row (s .args .t1 .rows) (s .args .t1 .count) (within s) i _ (c .before .loop-test .taken))
+    (c .if1 .taken)
+
+add-i : tie.Need-add-i Inv-loop μ-loop
+add-i c = search needs
+
+loop-less : tie.Need-loop-less Inv-loop μ-loop
+loop-less c = search needs
+
+loop-again : tie.Need-loop-again Inv-loop μ-loop
+loop-again c =
+    let s = c .before .before .before in
+    let i = c .before .before .loop .i in
+    (search needs, place-next (s .args .address) (used (s .args .t1)) i (c .before .before .loop .inv .1) (next-row (s .args .t1 .rows) (s .args .t1 .count) (within s) i _ (c .before .loop-test .taken)) (c .if1 .left))
+
+returns-2 : tie.Need-returns-2 Inv-loop μ-loop
+returns-2 c =
+    let s = c .before .before in
+    let i = c .before .loop .i in
+    let e : s .args .t1 .count ≡ i = omega (arith, c .before .loop .inv .0, c .loop-test .left) in
+    e ∙ place-none (s .args .address) (used (s .args .t1)) i (c .before .loop .inv .1) (no-row-left (s .args .t1 .rows) (s .args .t1 .count) (within s) i (c .loop-test .left))
+
+pub find-spec : {M : Type 1} → statement M
+find-spec =
+    tie.close
+    (tie.spec
+    Inv-loop
+    μ-loop
+    loop-holds
+    mul-if1
+    element-copy-out-if1
+    returns
+    add-i
+    loop-less
+    loop-again
+    returns-2)

@@ -1,0 +1,78 @@
+// One row of the table: a neighbour.
+use crate::Neighbour;
+use hello::Hello;
+ghost use mathlib.Core.Path.{_≡_};
+ghost use mathlib.Core.Bool.{cond};
+ghost use Rattle.neighbours.specs.Rows.{noRow, isZero, allowed};
+ghost use Rattle.neighbours.specs.Hearing.{rowOf};
+
+// A row that is not in use.
+pub(crate) fn no_row() -> Neighbour
+    ensures { λ r. ⌜ r ≡ noRow ⌝ }
+{
+    Neighbour {
+        address: 0,
+        priority: 0,
+        has_priority: false,
+        packs: false,
+        holdtime: 0,
+    }
+}
+
+// Whether a row is all 0.
+pub(crate) fn is_zero(row: Neighbour) -> bool
+    ensures { λ r. ⌜ r ≡ isZero row ⌝ }
+{
+    if row.address != 0 {
+        return false;
+    }
+    if row.priority != 0 {
+        return false;
+    }
+    if row.has_priority {
+        return false;
+    }
+    if row.packs {
+        return false;
+    }
+    row.holdtime == 0
+}
+
+// Whether a sheet may hold a row.
+pub fn is_allowed(row: Neighbour) -> bool
+    ensures { λ r. ⌜ r ≡ allowed row ⌝ }
+{
+    if row.address == 0 {
+        return false;
+    }
+    if row.holdtime == 0 {
+        return false;
+    }
+    if row.has_priority {
+        return true;
+    }
+    row.priority == 0
+}
+
+// The priority, 0 where none is announced.
+fn priority_of(given: bool, n: u32) -> u32
+    ensures { λ r. ⌜ r ≡ cond given n 0 ⌝ }
+{
+    if given {
+        return n;
+    }
+    0
+}
+
+// The row of an address and what its Hello said.
+pub(crate) fn row_of(address: u32, said: Hello) -> Neighbour
+    ensures { λ r. ⌜ r ≡ rowOf address said ⌝ }
+{
+    Neighbour {
+        address,
+        priority: priority_of(said.has_priority, said.priority),
+        has_priority: said.has_priority,
+        packs: said.packing,
+        holdtime: said.holdtime,
+    }
+}
