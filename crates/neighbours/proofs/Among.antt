@@ -1,22 +1,38 @@
 -- What was seen of the rows, one after another, elects as the definition of the call says.
---     seen-elects         answering (seen first l) ≡ electingAmong l
---     among-highest       the address is that of a row above which none ranks
+--     seen-next, seen-end     a loop over rows: what was seen so far and the rows that are left give what all of them give
+--     chosen-is, have-both    what was seen is chosen by the order of the rows
+--     answers                 the answer, where there was a row
+--     seen-elects             answering (seen first l) ≡ electingAmong l
+--     among-highest           the address is that of a row above which none ranks
 -- Assumes nothing.
 use mathlib.Core.Path.{_≡_, refl, ap, _∙_}
 use mathlib.Core.Bool.{Bool, true, false, cond, _&&_, _||_}
 use mathlib.Core.List.{List, [], _∷_, map}
+use Prim.Native.Nat.{ℕ, suc, _+_}
 use native.Mathlib.Omega.{arith}
 use borrow.Author.Tests.{ltb-false, eqb-false, lt-ltb, eq-eqb}
 use lib.Dec.{eqb, ltb}
+use lib.ListN.{drop}
 use Rattle.format.specs.Outcome.{gives, refuses, refuseIf, _>>_}
 use Rattle.neighbours.specs.declared.election.Candidate.{Candidate}
 use Rattle.neighbours.specs.declared.Neighbour.{Neighbour}
-use Rattle.neighbours.specs.declared.list.Scan.{Scan}
+use Rattle.neighbours.specs.declared.election.Scan.{Scan}
 use Rattle.neighbours.specs.Rows.{has}
 use Rattle.neighbours.specs.Election.{allHave, candidate, above, better, best}
 use Rattle.neighbours.specs.Highest.{candidates, Highest}
 use Rattle.neighbours.proofs.Highest.{best-highest}
-use Rattle.neighbours.specs.Among.{electingAmong, first, looking, seen, answering}
+use Rattle.neighbours.specs.Among.{electingAmong, first, looking, seen, chosen, answering}
+
+module _ (l : List Neighbour) (i : ℕ) (s : Scan) {w : Scan} (so : seen s (drop i l) ≡ w) where
+  pub seen-next : {n : Neighbour} → drop i l ≡ n ∷ drop (suc i) l → seen (looking s n) (drop (i + 1) l) ≡ w
+  unfolding seen
+  seen-next here =
+      let e : i + 1 ≡ suc i = omega arith in
+      rw e (rw here at so)
+
+  pub seen-end : drop i l ≡ [] → s ≡ w
+  unfolding seen
+  seen-end e = rw e at so
 
 none-after : (s : Scan) (l : List Neighbour) → s .none ≡ false → seen s l .none ≡ false
 unfolding seen looking
@@ -73,21 +89,37 @@ no-first : (a b : Bool) → (a || b) ≡ false → a ≡ false
 no-first false b e = refl
 no-first true b e = e
 
-answers : (s : Scan) (h a : Bool) → s .none ≡ false → s .zero ≡ h → s .«all_have» ≡ a → answering s ≡ cond h (refuses 7 0) (gives (cond a (s .«by_priority» .address) (s .«by_address» .address)))
+-- the order that what was seen is chosen by: that of the rows, where both candidates begin as one
+pub chosen-is : (s : Scan) (c : Candidate) (l : List Neighbour) → s .«by_priority» ≡ c → s .«by_address» ≡ c → chosen (seen s l) ≡ best (cond (allHave l) (s .«all_have») false) c l .address
+unfolding chosen
+chosen-is s c l e f = rw (have-after s l, by-priority-after s l, by-address-after s l, e, f) (go (cond (allHave l) (s .«all_have») false))
+  where
+    go : (b : Bool) → cond b (best true c l .address) (best false c l .address) ≡ best b c l .address
+    go true = refl
+    go false = refl
+
+pub have-both : (a b : Bool) → cond b (cond a true false) false ≡ (a && b)
+have-both true true = refl
+have-both true false = refl
+have-both false true = refl
+have-both false false = refl
+
+pub answers : (s : Scan) (h : Bool) → s .none ≡ false → s .zero ≡ h → answering s ≡ cond h (refuses 7 0) (gives (chosen s))
 unfolding answering
-answers s h a e f g = rw (e, f, g)
+answers s h e f = rw (e, f)
 
 pub seen-elects : (l : List Neighbour) → answering (seen first l) ≡ electingAmong l
-unfolding seen first looking answering electingAmong refuseIf _>>_ has
+unfolding seen first looking answering electingAmong refuseIf _>>_ has allHave
 seen-elects [] = refl
-seen-elects (n ∷ l) = answers (seen first (n ∷ l)) _ _ (none-after (looking first n) l refl) (zero-after first (n ∷ l)) (have-after first (n ∷ l)) ∙ go (has 0 (n ∷ l)) refl (allHave (n ∷ l))
+seen-elects (n ∷ l) = answers (seen first (n ∷ l)) _ (none-after (looking first n) l refl) (zero-after first (n ∷ l)) ∙ go (has 0 (n ∷ l)) refl
   where
-    go : (h : Bool) → has 0 (n ∷ l) ≡ h → (a : Bool)
-        → cond (cond h true false) (refuses 7 0) (gives (cond (cond a true false) (seen first (n ∷ l) .«by_priority» .address) (seen first (n ∷ l) .«by_address» .address)))
-        ≡ (refuseIf h 7 0 >> gives (best a (candidate n) l .address))
-    go true e a = refl
-    go false e true = ap (λ (c : Candidate). gives (c .address)) (by-priority-after (looking first n) l ∙ ap (λ (c : Candidate). best true c l) (up true n (no-first _ _ e)))
-    go false e false = ap (λ (c : Candidate). gives (c .address)) (by-address-after (looking first n) l ∙ ap (λ (c : Candidate). best false c l) (up false n (no-first _ _ e)))
+    go : (h : Bool) → has 0 (n ∷ l) ≡ h
+        → cond (cond h true false) (refuses 7 0) (gives (chosen (seen first (n ∷ l)))) ≡ (refuseIf h 7 0 >> gives (best (allHave (n ∷ l)) (candidate n) l .address))
+    go true e = refl
+    go false e =
+        ap gives
+        (chosen-is (looking first n) (candidate n) l (up true n (no-first _ _ e)) (up false n (no-first _ _ e))
+        ∙ ap (λ (p : Bool). best p (candidate n) l .address) (have-both (n .«has_priority») (allHave l)))
 
 -- what is elected is a row, and none ranks above it
 pub among-highest : (n : Neighbour) (l : List Neighbour) → has 0 (n ∷ l) ≡ false

@@ -5,8 +5,8 @@
 --     Answered                      an answer is what a call comes to: the table and what was done
 --     answered-refused, answered-by a refusal; the same call in other words
 -- Assumes nothing.
-use mathlib.Core.Path.{_≡_, sym, ap, _∙_}
-use mathlib.Core.Bool.{Bool}
+use mathlib.Core.Path.{_≡_, refl, sym, ap, _∙_}
+use mathlib.Core.Bool.{Bool, true, false}
 use Prim.Native.Nat.{ℕ}
 use borrow.Author.Tests.{eq-eqb, ne-eqb}
 use Rattle.format.specs.Outcome.{Outcome, gives, refuses, _>>_}
@@ -14,14 +14,16 @@ use Rattle.format.specs.declared.Refusal.{Refusal}
 use Rattle.hello.specs.declared.Hello.{Hello}
 use Rattle.neighbours.specs.declared.validity.Asked.{Asked}
 use Rattle.neighbours.specs.declared.validity.Asked.the-variants.{Fine, Refused as NotAsked}
-use Rattle.neighbours.specs.declared.election.Candidate.{Candidate}
+use Rattle.neighbours.specs.declared.election.Scan.{Scan}
 use Rattle.neighbours.specs.declared.Change.the-variants.{Refused}
 use Rattle.neighbours.specs.declared.Changed.{Changed}
 use Rattle.neighbours.specs.declared.Table.{Table}
 use Rattle.neighbours.specs.Rows.{used}
 use Rattle.neighbours.specs.Hearing.{asked, After, rowOf, entering, leaving, hearing, forgetting}
 use Rattle.neighbours.specs.Election.{allHave, best, elect, electing}
+use Rattle.neighbours.specs.Among.{seen, chosen}
 use Rattle.neighbours.specs.Answers.{askedBy, doneBy, doneOf, tableAfter}
+use Rattle.neighbours.proofs.Among.{chosen-is, have-both}
 
 module _ (t : Table) (a : ℕ) {x : Asked} (e : askedBy x ≡ asked t a) where
   pub stopped : {A : Type 0} (rest : Outcome A) (r : Refusal) → x ≡ NotAsked r → asked t a >> rest ≡ refuses (r .number) (r .place)
@@ -32,9 +34,11 @@ module _ (t : Table) (a : ℕ) {x : Asked} (e : askedBy x ≡ asked t a) where
   unfolding askedBy
   went-on f = sym e ∙ ap askedBy f
 
-  pub elects : (p : ℕ) {h : Bool} {b : Candidate} → x ≡ Fine → h ≡ allHave (used t) → b ≡ best h (record { address = a; priority = p }) (used t) → gives (b .address) ≡ electing t a p
+  pub elects : (p : ℕ) {before s : Scan} {n : ℕ} → x ≡ Fine
+      → before ≡ record { none = false; zero = false; «all_have» = true; «by_priority» = record { address = a; priority = p }; «by_address» = record { address = a; priority = p } }
+      → s ≡ seen before (used t) → n ≡ chosen s → gives n ≡ electing t a p
   unfolding electing elect _>>_
-  elects p f g k = rw (went-on f, k, g)
+  elects p f b g k = rw (went-on f, k, g, b) (ap gives (chosen-is _ (record { address = a; priority = p }) (used t) refl refl ∙ ap (λ (h : Bool). best h (record { address = a; priority = p }) (used t) .address) (have-both true (allHave (used t)))))
 
   pub hears-out : (h : Hello) → x ≡ Fine → h .holdtime ≡ 0 → hearing t a h ≡ leaving a (used t)
   unfolding hearing _>>_

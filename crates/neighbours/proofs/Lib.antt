@@ -1,10 +1,10 @@
 pub mod Rows
 pub mod Tables
 pub mod Ranks
+pub mod Highest
+pub mod Among
 pub mod Called
 pub mod Gaps
 pub mod Changes
 pub mod Entering
-pub mod Highest
-pub mod Among
 pub mod Kept

@@ -2,7 +2,7 @@
 -- rows' addresses are tested, by 7").
 --     electingAmong             the call: the first candidate is the first row
 --     first, looking, seen      what was seen of the rows: of none, of one more, and of all
---     answering                 what was seen elects
+--     chosen, answering         whom what was seen elects, and the answer
 -- Assumes nothing: these are definitions.
 use Prim.Native.Nat.{ℕ}
 use mathlib.Core.Bool.{true, false, cond}
@@ -12,7 +12,7 @@ use Rattle.format.specs.Outcome.{Outcome, gives, refuses, refuseIf, _>>_}
 use Rattle.neighbours.specs.Rows.{has}
 use Rattle.neighbours.specs.Election.{allHave, candidate, better, best}
 use Rattle.neighbours.specs.declared.Neighbour.{Neighbour}
-use Rattle.neighbours.specs.declared.list.Scan.{Scan}
+use Rattle.neighbours.specs.declared.election.Scan.{Scan}
 
 unfoldable pub electingAmong : List Neighbour → Outcome ℕ
 electingAmong [] = refuses 12 0
@@ -36,5 +36,8 @@ unfoldable pub seen : Scan → List Neighbour → Scan
 seen s [] = s
 seen s (n ∷ l) = seen (looking s n) l
 
+unfoldable pub chosen : Scan → ℕ
+chosen s = cond (s .«all_have») (s .«by_priority» .address) (s .«by_address» .address)
+
 unfoldable pub answering : Scan → Outcome ℕ
-answering s = cond (s .none) (refuses 12 0) (cond (s .zero) (refuses 7 0) (gives (cond (s .«all_have») (s .«by_priority» .address) (s .«by_address» .address))))
+answering s = cond (s .none) (refuses 12 0) (cond (s .zero) (refuses 7 0) (gives (chosen s)))

@@ -14,8 +14,8 @@ use Rattle.neighbours.specs.declared.validity.Asked.{Asked}
 use Rattle.neighbours.specs.declared.validity.Asked.the-variants.{Fine, Refused as NotAsked}
 use Rattle.neighbours.specs.declared.Change.{Change}
 use Rattle.neighbours.specs.declared.Change.the-variants.{Replaced, Appended, Forgotten, Refused}
-use Rattle.neighbours.specs.declared.Packing.{Packing}
-use Rattle.neighbours.specs.declared.Packing.the-variants.{Allowed, Refused as NoPacking}
+use Rattle.neighbours.specs.declared.Allowance.{Allowance}
+use Rattle.neighbours.specs.declared.Allowance.the-variants.{Allowed, Refused as NoPacking}
 use Rattle.neighbours.specs.declared.Elected.{Elected}
 use Rattle.neighbours.specs.declared.Elected.the-variants.{Is, Refused as NotElected}
 
@@ -38,7 +38,7 @@ unfoldable pub tableAfter : Table → Outcome After → Table
 tableAfter t (gives (after d l)) = tableOf l
 tableAfter t (refuses n p) = t
 
-unfoldable pub packingBy : Packing → Outcome Bool
+unfoldable pub packingBy : Allowance → Outcome Bool
 packingBy (Allowed b) = gives b
 packingBy (NoPacking r) = refuses (r .number) (r .place)
 

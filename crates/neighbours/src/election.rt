@@ -1,22 +1,35 @@
-// Whether packing is allowed, and the election over the rows and our own router.
+// Whether packing is allowed; then the election: two candidates, one row more, the rows of a table, and whom they elect. Each row is
+// looked at once.
+use crate::Allowance;
 use crate::Elected;
-use crate::Packing;
+use crate::Neighbour;
 use crate::Table;
 use crate::validity::Asked;
 use crate::validity::ask;
 use crate::validity::is_valid;
 use format::Refusal;
 ghost use mathlib.Core.Path.{_≡_};
-ghost use mathlib.Core.Bool.{false};
+ghost use mathlib.Core.Bool.{true, false, cond};
+ghost use lib.Dec.{eqb};
 ghost use Prim.Native.Nat.{_≤_};
 ghost use Rattle.neighbours.specs.Rows.{most, used};
-ghost use Rattle.neighbours.specs.Election.{allPack, mayPack, allHave, better, best, electing};
+ghost use Rattle.neighbours.specs.Election.{allPack, mayPack, better, electing};
+ghost use Rattle.neighbours.specs.Among.{looking, seen, chosen};
 ghost use Rattle.neighbours.specs.Answers.{packingBy, electedBy};
 
 // One that may be elected.
 pub(crate) struct Candidate {
     pub(crate) address: u32,
     pub(crate) priority: u32,
+}
+
+// What was seen of the rows so far: none, one with address 0, only such as have a priority; and the highest in each order.
+pub(crate) struct Scan {
+    pub(crate) none: bool,
+    pub(crate) zero: bool,
+    pub(crate) all_have: bool,
+    pub(crate) by_priority: Candidate,
+    pub(crate) by_address: Candidate,
 }
 
 // Whether every neighbour announced packing.
@@ -36,35 +49,8 @@ fn all_pack(table: Table) -> bool
     true
 }
 
-// Whether every neighbour has a priority.
-fn all_have(table: Table) -> bool
-    requires { ⌜ table .count ≤ most ⌝ }
-    ensures { λ r. ⌜ r ≡ allHave (used table) ⌝ }
-{
-    let count = table.count;
-    let mut i = 0;
-    while i < count {
-        if table.rows[i].has_priority {
-            i += 1;
-        } else {
-            return false;
-        }
-    }
-    true
-}
-
-// The one with the higher address.
-pub(crate) fn higher(c: Candidate, d: Candidate) -> Candidate
-    ensures { λ r. ⌜ r ≡ better false c d ⌝ }
-{
-    if c.address < d.address {
-        return d;
-    }
-    c
-}
-
 // The higher of two candidates, by priority and then address or by address alone.
-pub(crate) fn better(by_priority: bool, c: Candidate, d: Candidate) -> Candidate
+fn better(by_priority: bool, c: Candidate, d: Candidate) -> Candidate
     ensures { λ r. ⌜ r ≡ better «by_priority» c d ⌝ }
 {
     if by_priority {
@@ -74,40 +60,88 @@ pub(crate) fn better(by_priority: bool, c: Candidate, d: Candidate) -> Candidate
         if d.priority < c.priority {
             return c;
         }
-        return higher(c, d);
     }
-    higher(c, d)
+    if c.address < d.address {
+        return d;
+    }
+    c
 }
 
-// The highest of our own router and the rows in use.
-fn best(table: Table, by_priority: bool, ours: Candidate) -> Candidate
+// Whether an address is 0, or one before it was.
+fn zero_or(address: u32, before: bool) -> bool
+    ensures { λ r. ⌜ r ≡ cond (eqb address 0) true before ⌝ }
+{
+    if address == 0 {
+        return true;
+    }
+    before
+}
+
+// Whether both hold.
+fn both(a: bool, b: bool) -> bool
+    ensures { λ r. ⌜ r ≡ cond a b false ⌝ }
+{
+    if a {
+        return b;
+    }
+    false
+}
+
+// One row more was looked at.
+pub(crate) fn looked(s: Scan, row: Neighbour) -> Scan
+    ensures { λ r. ⌜ r ≡ looking s row ⌝ }
+{
+    let c = Candidate {
+        address: row.address,
+        priority: row.priority,
+    };
+    let by_priority = better(true, s.by_priority, c);
+    let by_address = better(false, s.by_address, c);
+    let zero = zero_or(row.address, s.zero);
+    let all_have = both(row.has_priority, s.all_have);
+    Scan {
+        none: false,
+        zero,
+        all_have,
+        by_priority,
+        by_address,
+    }
+}
+
+// The rows in use of a table were looked at too.
+pub(crate) fn looked_over(table: Table, before: Scan) -> Scan
     requires { ⌜ table .count ≤ most ⌝ }
-    ensures { λ r. ⌜ r ≡ best «by_priority» ours (used table) ⌝ }
+    ensures { λ r. ⌜ r ≡ seen before (used table) ⌝ }
 {
     let count = table.count;
-    let mut highest = ours;
+    let mut s = before;
     let mut i = 0;
     while i < count {
-        let row = table.rows[i];
-        let other = Candidate {
-            address: row.address,
-            priority: row.priority,
-        };
-        highest = better(by_priority, highest, other);
+        s = looked(s, table.rows[i]);
         i += 1;
     }
-    highest
+    s
+}
+
+// The address that the rows looked at elect.
+pub(crate) fn chosen(s: Scan) -> u32
+    ensures { λ r. ⌜ r ≡ chosen s ⌝ }
+{
+    if s.all_have {
+        return s.by_priority.address;
+    }
+    s.by_address.address
 }
 
 impl Table {
     // Whether packing is allowed: exactly if every neighbour announced it.
-    pub fn packing_allowed(self) -> Packing
+    pub fn packing_allowed(self) -> Allowance
         ensures { λ r. ⌜ packingBy r ≡ mayPack self ⌝ }
     {
         if is_valid(self) {
-            return Packing::Allowed(all_pack(self));
+            return Allowance::Allowed(all_pack(self));
         }
-        Packing::Refused(Refusal {
+        Allowance::Refused(Refusal {
             number: 14,
             place: 0,
         })
@@ -121,9 +155,15 @@ impl Table {
         match a {
             Asked::Refused(r) => Elected::Refused(r),
             Asked::Fine => {
-                let by_priority = all_have(self);
-                let highest = best(self, by_priority, Candidate { address, priority });
-                Elected::Is(highest.address)
+                let ours = Candidate { address, priority };
+                let before = Scan {
+                    none: false,
+                    zero: false,
+                    all_have: true,
+                    by_priority: ours,
+                    by_address: ours,
+                };
+                Elected::Is(chosen(looked_over(self, before)))
             }
         }
     }

@@ -53,7 +53,7 @@ pub struct Changed {
 }
 
 // Whether packing is allowed.
-pub enum Packing {
+pub enum Allowance {
     Allowed(bool),
     Refused(Refusal),
 }

@@ -1,30 +1,23 @@
-// Election over a lent list of neighbour rows, without our own router: each row is looked at once.
+// Election over a lent list of neighbour rows, without our own router.
 ghost use mathlib.Core.Path.{_≡_};
-ghost use mathlib.Core.Bool.{true, false, cond};
-ghost use lib.Dec.{eqb, ltb};
-ghost use Prim.Native.Nat.{_≤_};
+ghost use mathlib.Core.Bool.{cond};
+ghost use lib.Dec.{ltb};
 ghost use lib.ListN.{take};
-ghost use Rattle.neighbours.specs.Rows.{most, used};
+ghost use Rattle.neighbours.specs.Rows.{most};
 ghost use Rattle.neighbours.specs.Answers.{electedBy};
-ghost use Rattle.neighbours.specs.Among.{first, looking, answering, electingAmong};
+ghost use Rattle.neighbours.specs.Among.{first, answering, electingAmong};
 use crate::Elected;
 use crate::Neighbour;
 use crate::ROWS;
+use crate::Table;
 use crate::election::Candidate;
-use crate::election::better;
-use crate::election::higher;
+use crate::election::Scan;
+use crate::election::chosen;
+use crate::election::looked;
+use crate::election::looked_over;
 use format::Refusal;
 
-// What was seen of the rows so far. No row: both candidates are 0.
-struct Scan {
-    none: bool,
-    zero: bool,
-    all_have: bool,
-    by_priority: Candidate,
-    by_address: Candidate,
-}
-
-// No row was looked at.
+// No row was looked at: both candidates are 0.
 fn start() -> Scan
     ensures { λ r. ⌜ r ≡ first ⌝ }
 {
@@ -38,47 +31,6 @@ fn start() -> Scan
         all_have: true,
         by_priority: nobody,
         by_address: nobody,
-    }
-}
-
-// Whether an address is 0, or one before it was.
-fn zero_or(address: u32, before: bool) -> bool
-    ensures { λ r. ⌜ r ≡ cond (eqb address 0) true before ⌝ }
-{
-    if address == 0 {
-        return true;
-    }
-    before
-}
-
-// Whether both hold.
-fn both(a: bool, b: bool) -> bool
-    ensures { λ r. ⌜ r ≡ cond a b false ⌝ }
-{
-    if a {
-        return b;
-    }
-    false
-}
-
-// One row more was looked at.
-fn looked(s: Scan, row: Neighbour) -> Scan
-    ensures { λ r. ⌜ r ≡ looking s row ⌝ }
-{
-    let c = Candidate {
-        address: row.address,
-        priority: row.priority,
-    };
-    let by_priority = better(true, s.by_priority, c);
-    let by_address = higher(s.by_address, c);
-    let zero = zero_or(row.address, s.zero);
-    let all_have = both(row.has_priority, s.all_have);
-    Scan {
-        none: false,
-        zero,
-        all_have,
-        by_priority,
-        by_address,
     }
 }
 
@@ -98,10 +50,7 @@ fn answer(s: Scan) -> Elected
             place: 0,
         });
     }
-    if s.all_have {
-        return Elected::Is(s.by_priority.address);
-    }
-    Elected::Is(s.by_address.address)
+    Elected::Is(chosen(s))
 }
 
 // The designated router over a lent list of rows.
@@ -127,18 +76,13 @@ fn at_most(count: usize) -> usize
     count
 }
 
-// The first rows of an array, lent.
-fn elect_first(rows: [Neighbour; ROWS], n: usize) -> Elected
-    requires { ⌜ n ≤ most ⌝ }
-    ensures { λ r. ⌜ electedBy r ≡ electingAmong (take n rows) ⌝ }
-{
-    elect_among(&rows[..n])
-}
-
 // The designated router over the first n rows of an array, by value, for callers who do not lend.
 pub fn elect_rows(rows: [Neighbour; ROWS], n: usize) -> Elected
     ensures { λ r. ⌜ electedBy r ≡ electingAmong (take n rows) ⌝ }
 {
-    let first = at_most(n);
-    elect_first(rows, first)
+    let table = Table {
+        rows,
+        count: at_most(n),
+    };
+    answer(looked_over(table, start()))
 }

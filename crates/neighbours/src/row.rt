@@ -2,7 +2,6 @@
 use crate::Neighbour;
 use hello::Hello;
 ghost use mathlib.Core.Path.{_≡_};
-ghost use mathlib.Core.Bool.{cond};
 ghost use Rattle.neighbours.specs.Rows.{noRow, isZero, allowed};
 ghost use Rattle.neighbours.specs.Hearing.{rowOf};
 
@@ -54,25 +53,19 @@ pub fn is_allowed(row: Neighbour) -> bool
     row.priority == 0
 }
 
-// The priority, 0 where none is announced.
-fn priority_of(given: bool, n: u32) -> u32
-    ensures { λ r. ⌜ r ≡ cond given n 0 ⌝ }
-{
-    if given {
-        return n;
-    }
-    0
-}
-
 // The row of an address and what its Hello said.
 pub(crate) fn row_of(address: u32, said: Hello) -> Neighbour
     ensures { λ r. ⌜ r ≡ rowOf address said ⌝ }
 {
-    Neighbour {
+    let mut row = Neighbour {
         address,
-        priority: priority_of(said.has_priority, said.priority),
+        priority: 0,
         has_priority: said.has_priority,
         packs: said.packing,
         holdtime: said.holdtime,
+    };
+    if said.has_priority {
+        row.priority = said.priority;
     }
+    row
 }

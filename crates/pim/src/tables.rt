@@ -2,11 +2,11 @@
 use crate::messages::accepted;
 use format::Refusal;
 use hello::Hello;
+use neighbours::Allowance;
 use neighbours::Change;
 use neighbours::Changed;
 use neighbours::Elected;
 use neighbours::Neighbour;
-use neighbours::Packing;
 use neighbours::Table;
 ghost use mathlib.Core.Path.{_≡_};
 ghost use mathlib.Core.List.{[]};
@@ -87,15 +87,15 @@ pub extern "C" fn pim_forget(table: Table, address: u32) -> TableAnswer
     table_answer(table.forget(address))
 }
 
-fn allowed_answer(p: Packing) -> AllowedAnswer
+fn allowed_answer(p: Allowance) -> AllowedAnswer
     ensures { λ r. ⌜ r ≡ allowedAnswer (packingBy p) ⌝ }
 {
     match p {
-        Packing::Allowed(allowed) => AllowedAnswer {
+        Allowance::Allowed(allowed) => AllowedAnswer {
             refusal: accepted(),
             allowed,
         },
-        Packing::Refused(refusal) => AllowedAnswer {
+        Allowance::Refused(refusal) => AllowedAnswer {
             refusal,
             allowed: false,
         },

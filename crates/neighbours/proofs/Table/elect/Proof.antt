@@ -1,7 +1,7 @@
 -- `neighbours::Table::elect` meets its contract.
 -- Assumes nothing.
 use Prim.Native.Nat.{_≤_}
-use mathlib.Core.Path.{sym}
+use mathlib.Core.Path.{refl, sym}
 use borrow.Author.Needs.{needs}
 use Rattle.neighbours.specs.Rows.{most}
 use Rattle.neighbours.specs.Election.{electing}
@@ -26,11 +26,11 @@ within c =
     let s = c .before .before .before in
     valid-parts (s .args .self) (asked-valid (s .args .self) (s .args .address) (went-on (s .args .self) (s .args .address) (c .before .before .ask .ensures) (c .enum-told .given .1))) .within
 
-all-have-requires : tie.Need-all-have-requires
-all-have-requires c κs = within c
+looked-over-requires : tie.Need-looked-over-requires
+looked-over-requires c κs = within c
 
-best-requires : tie.Need-best-requires
-best-requires c κs = within (c .before)
+chosen-requires : tie.Need-chosen-requires
+chosen-requires c κs = search needs
 
 returns : tie.Need-returns
 unfolding electedBy electing
@@ -42,7 +42,7 @@ returns-2 : tie.Need-returns-2
 unfolding electedBy
 returns-2 c =
     let s = c .before .before .before .before .before in
-    elects (s .args .self) (s .args .address) (c .before .before .before .before .ask .ensures) (s .args .priority) (c .before .before .enum-told .given .1) (c .before .all-have .ensures) (c .best .ensures)
+    elects (s .args .self) (s .args .address) (c .before .before .before .before .ask .ensures) (s .args .priority) (c .before .before .enum-told .given .1) refl (c .before .looked-over .ensures) (c .chosen .ensures)
 
 pub elect-spec : {M : Type 1} → statement M
 elect-spec =
@@ -51,7 +51,7 @@ elect-spec =
     ask-requires
     enum-known-a
     enum-told
-    all-have-requires
-    best-requires
+    looked-over-requires
+    chosen-requires
     returns
     returns-2)

@@ -1,10 +1,19 @@
 -- `neighbours::election::better` meets its contract, test by test.
 -- Assumes nothing.
-use mathlib.Core.Path.{_∙_}
-use borrow.Author.Needs.{needs}
+use mathlib.Core.Path.{_≡_, refl, _∙_}
+use mathlib.Core.Bool.{false}
+use mathlib.Core.Logic.{⊎-elim}
+use borrow.Author.Tests.{lt-ltb, le-ltb}
+use Rattle.neighbours.specs.Election.{above, better}
 use Rattle.neighbours.proofs.Ranks.{better-up, better-down, better-even}
 use Rattle.neighbours.proofs.election.better.Statement.{statement}
 use Rattle.neighbours.proofs.election.better.Tie as tie
+
+-- where the addresses are compared: by address alone, or the priorities are equal
+even : (c : tie.Joined1) → better false (c .before .args .c) (c .before .args .d) ≡ better (c .before .args .by-priority) (c .before .args .c) (c .before .args .d)
+even c =
+    let a = c .before .args in
+    ⊎-elim (λ t. rw (t .0 .taken) (better-even (a .c) (a .d) (t .3 .left) (t .6 .left))) (λ e. rw (e .left) refl) (c .if1 .came)
 
 returns : tie.Need-returns
 returns c =
@@ -16,20 +25,13 @@ returns-2 c =
     let s = c .before .before .before .before .before .before in
     rw (s .if1 .taken) (better-down (s .before .args .c) (s .before .args .d) (c .if3 .taken))
 
-higher-requires : tie.Need-higher-requires
-higher-requires c κs = search needs
-
 returns-3 : tie.Need-returns-3
-returns-3 c =
-    let r = c .before .before .before .before in
-    let s = r .before .before .before in
-    rw (s .if1 .taken) (c .higher .ensures ∙ better-even (s .before .args .c) (s .before .args .d) (r .if2 .left) (c .before .if3 .left))
-
-higher-requires-2 : tie.Need-higher-requires-2
-higher-requires-2 c κs = search needs
+unfolding better above
+returns-3 c = (rw (lt-ltb _ _ (c .if4 .taken))) ∙ even (c .before .before .before)
 
 returns-4 : tie.Need-returns-4
-returns-4 c = rw (c .before .if1 .left) (c .higher2 .ensures)
+unfolding better above
+returns-4 c = (rw (le-ltb _ _ (c .if4 .left))) ∙ even (c .before .before .before)
 
 pub better-spec : {M : Type 1} → statement M
-better-spec = tie.close (tie.spec returns returns-2 higher-requires returns-3 higher-requires-2 returns-4)
+better-spec = tie.close (tie.spec returns returns-2 returns-3 returns-4)

@@ -6,7 +6,7 @@
 --     exits           from what is had at the end to the postcondition
 -- Assumes nothing.
 use mathlib.Core.Path.{_≡_, refl, sym, ap, subst, _∙_}
-use Prim.Native.Nat.{ℕ, suc, _+_, _*_, _-_, _≤_, _<_, _^_, zero-le}
+use Prim.Native.Nat.{ℕ, _+_, _*_, _-_, _≤_, _<_, _^_, zero-le}
 use native.Mathlib.Nat.{lt-of-le-of-lt}
 use native.Mathlib.Numerals.{add-one-le, add-one-dec}
 use native.Mathlib.Omega.{arith}
@@ -57,22 +57,22 @@ use Rattle.neighbours.specs.Answers.{electedBy}
 use Rattle.neighbours.specs.Among.{electingAmong, first, looking, seen, answering}
 use Rattle.neighbours.specs.declared.Neighbour.{Neighbour}
 use Rattle.neighbours.specs.declared.Elected.{Elected}
-use Rattle.neighbours.specs.declared.list.Scan.{Scan}
+use Rattle.neighbours.specs.declared.election.Scan.{Scan}
 use Rattle.neighbours.proofs.Neighbour as N
 use Rattle.neighbours.proofs.Neighbour.Laws as N′
 use Rattle.neighbours.proofs.Elected as E
 use Rattle.neighbours.proofs.Elected.Laws as E′
-use Rattle.neighbours.proofs.list.Scan as S
-use Rattle.neighbours.proofs.list.Scan.Laws as S′
-use Rattle.neighbours.proofs.Among.{seen-elects}
+use Rattle.neighbours.proofs.election.Scan as S
+use Rattle.neighbours.proofs.election.Scan.Laws as S′
+use Rattle.neighbours.proofs.Among.{seen-next, seen-end, seen-elects}
 use Rattle.neighbours.proofs.list.start as start
 use Rattle.neighbours.proofs.list.start.Symbol as start-def
 use Rattle.neighbours.proofs.list.start.Symbol.{name as #start}
 use Rattle.neighbours.proofs.list.start.Met as start-thm
-use Rattle.neighbours.proofs.list.looked as looked
-use Rattle.neighbours.proofs.list.looked.Symbol as looked-def
-use Rattle.neighbours.proofs.list.looked.Symbol.{name as #looked}
-use Rattle.neighbours.proofs.list.looked.Met as looked-thm
+use Rattle.neighbours.proofs.election.looked as looked
+use Rattle.neighbours.proofs.election.looked.Symbol as looked-def
+use Rattle.neighbours.proofs.election.looked.Symbol.{name as #looked}
+use Rattle.neighbours.proofs.election.looked.Met as looked-thm
 use Rattle.neighbours.proofs.list.answer as answer
 use Rattle.neighbours.proofs.list.answer.Symbol as answer-def
 use Rattle.neighbours.proofs.list.answer.Symbol.{name as #answer}
@@ -129,16 +129,6 @@ record Turn (ys : List Neighbour) : Type 0 where
 
 byte-fits : (i n : ℕ) → i < n → n * 12 < 2 ^ 63 → i * 12 < 2 ^ 64
 byte-fits i n l m = omega arith
-
-next-left : (ys : List Neighbour) (i : ℕ) (s : Scan) → i < length ys → seen s (dropN i ys) ≡ seen (looking s (getD ys i noRow)) (dropN (i + 1) ys)
-unfolding seen
-next-left ys i s l =
-    let e : suc i ≡ i + 1 = omega arith in
-    ap (seen s) (drop-cons ys i noRow l) ∙ ap (λ (k : ℕ). seen (looking s (getD ys i noRow)) (dropN k ys)) e
-
-none-left : (ys : List Neighbour) (i : ℕ) (s : Scan) → length ys ≤ i → seen s (dropN i ys) ≡ s
-unfolding seen
-none-left ys i s l = ap (seen s) (drop-of-length-le ys {i = i} l)
 
 module _ {M : Type 1} (𝓤 : URA M) (H : Heap 𝓤) (A : Atoms 𝓤) (at-mem : Memory → SProp 𝓤) (run : Routine → Fun 𝓤) where
   -- the contracts that the proof cites, and of each `ensured` the clause alone
@@ -284,7 +274,7 @@ module _ {M : Type 1} (𝓤 : URA M) (H : Heap 𝓤) (A : Atoms 𝓤) (W : Given
 
         -- no row is left: what was seen is what all rows give
         all-seen : Holds (not (ltb (t .i) (length ys))) → t .s ≡ seen first ys
-        all-seen over = sym (none-left ys (t .i) (t .s) (nltb→le (t .i) (length ys) over)) ∙ t .left
+        all-seen over = seen-end ys (t .i) (t .s) (t .left) (drop-of-length-le ys {i = t .i} (nltb→le (t .i) (length ys) over))
 
         next : Holds (ltb (t .i) (length ys)) → (r : Scan) (v : Val) → Is S.the-row r (v ∷ []) → r ≡ looking (t .s) n → Turn ys
         next less r v r-is e = record {
@@ -292,7 +282,7 @@ module _ {M : Type 1} (𝓤 : URA M) (H : Heap 𝓤) (A : Atoms 𝓤) (W : Given
           within = add-one-le (under less);
           s = r;
           is = subst (Is S.the-row r) (LL.tells S.the-type S′.the-laws r (v ∷ []) r-is) r-is;
-          left = ap (λ (z : Scan). seen z (dropN (t .i + 1) ys)) e ∙ sym (next-left ys (t .i) (t .s) (under less)) ∙ t .left;
+          left = ap (λ (z : Scan). seen z (dropN (t .i + 1) ys)) e ∙ seen-next ys (t .i) (t .s) (t .left) (drop-cons ys (t .i) noRow (under less));
         }
 
   module _ (𝓣 : Tables 𝓤 H) (known-start : Triple 𝓤 (𝓣 .C #start) (Start 𝓤 H A at-mem run)) (known-looked : Triple 𝓤 (𝓣 .C #looked) (Looked 𝓤 H A at-mem run)) (known-answer : Triple 𝓤 (𝓣 .C #answer) (Answer 𝓤 H A at-mem run)) where
@@ -349,5 +339,5 @@ elect-among-spec 𝓤 H 𝓜 𝓖 𝓡 =
     (tables 𝓤 H 𝓜 𝓡 code.env .C) (tables 𝓤 H 𝓜 𝓡 code.env .Λ) #elect-among code.function (code.unfolded 𝓤 H 𝓜 𝓡)
     (among-meets 𝓤 H (𝓖 .A) (givenOf 𝓤 H 𝓜 𝓖) (𝓜 .mem) (𝓡 .run) (tablesOf 𝓤 H 𝓜 (tables 𝓤 H 𝓜 𝓡 code.env))
     (cited 𝓤 H (Start 𝓤 H (𝓖 .A) (𝓜 .mem) (𝓡 .run)) 𝓜 𝓡 code.env #start start-def.routine code.calls-neighbours·list·start (start-thm.met 𝓤 H 𝓜 𝓖 𝓡))
-    (cited 𝓤 H (Looked 𝓤 H (𝓖 .A) (𝓜 .mem) (𝓡 .run)) 𝓜 𝓡 code.env #looked looked-def.routine code.calls-neighbours·list·looked (looked-thm.met 𝓤 H 𝓜 𝓖 𝓡))
+    (cited 𝓤 H (Looked 𝓤 H (𝓖 .A) (𝓜 .mem) (𝓡 .run)) 𝓜 𝓡 code.env #looked looked-def.routine code.calls-neighbours·election·looked (looked-thm.met 𝓤 H 𝓜 𝓖 𝓡))
     (cited 𝓤 H (Answer 𝓤 H (𝓖 .A) (𝓜 .mem) (𝓡 .run)) 𝓜 𝓡 code.env #answer answer-def.routine code.calls-neighbours·list·answer (answer-thm.met 𝓤 H 𝓜 𝓖 𝓡)))

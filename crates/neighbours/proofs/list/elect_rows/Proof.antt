@@ -1,19 +1,21 @@
--- `neighbours::list::elect_rows` meets its contract: the rows that are lent are the first n.
---     few, all     the number that is lent is at most 16, and the rows lent are the first
+-- `neighbours::list::elect_rows` meets its contract: the rows looked at are the first n.
+--     few, all     the rows looked at are at most 16, and they are the first.
 -- Assumes nothing.
 use mathlib.Core.Path.{_≡_, refl, sym, ap, _∙_}
 use mathlib.Core.Bool.{Bool, true, false, cond}
+use mathlib.Core.List.{List}
 use Prim.Native.Nat.{ℕ, _≤_}
 use native.Mathlib.Omega.{arith}
-use mathlib.Core.List.{List}
 use borrow.Author.Needs.{needs}
 use borrow.Author.Tests.{ltb-true, ltb-false}
 use lib.Dec.{ltb}
 use lib.ListN.{length, take}
 use lib.Seq.{take-all}
 use Rattle.neighbours.specs.Rows.{most}
-use Rattle.neighbours.specs.Among.{electingAmong}
+use Rattle.neighbours.specs.Among.{seen, answering, electingAmong}
 use Rattle.neighbours.specs.declared.Neighbour.{Neighbour}
+use Rattle.neighbours.specs.declared.election.Scan.{Scan}
+use Rattle.neighbours.proofs.Among.{seen-elects}
 use Rattle.neighbours.proofs.list.elect_rows.Statement.{statement}
 use Rattle.neighbours.proofs.list.elect_rows.Tie as tie
 
@@ -29,21 +31,23 @@ all true n rows full e =
     take-all most rows most-all ∙ sym (take-all n rows more)
 all false n rows full e = refl
 
-at-most-requires : tie.Need-at-most-requires
-at-most-requires c κs = search needs
-
-elect-first-requires : tie.Need-elect-first-requires
-elect-first-requires c κs =
-    let n = c .before .args .n in
-    rw (c .at-most .ensures) (few (ltb most n) n refl)
+looked-over-requires : tie.Need-looked-over-requires
+looked-over-requires c κs =
+    let n = c .before .before .args .n in
+    rw (c .before .at-most .ensures) (few (ltb most n) n refl)
 
 returns : tie.Need-returns
 returns c =
-    let s = c .before .before in
-    let rows = s .args .rows in
-    let n = s .args .n in
-    let full : length rows ≡ most = s .good .0 .1 .0 .1 in
-    c .elect-first .ensures ∙ ap (λ (k : ℕ). electingAmong (take k rows)) (c .before .at-most .ensures) ∙ ap electingAmong (all (ltb most n) n rows full refl)
+    let l = c .before in
+    let m = l .before .before in
+    let rows = m .before .args .rows in
+    let n = m .before .args .n in
+    let full : length rows ≡ most = m .before .good .0 .1 .0 .1 in
+    c .answer .ensures
+    ∙ ap answering (l .looked-over .ensures ∙ ap (λ (s : Scan). seen s (take (m .at-most .result) rows)) (l .before .start .ensures))
+    ∙ seen-elects (take (m .at-most .result) rows)
+    ∙ ap (λ (k : ℕ). electingAmong (take k rows)) (m .at-most .ensures)
+    ∙ ap electingAmong (all (ltb most n) n rows full refl)
 
 pub elect-rows-spec : {M : Type 1} → statement M
-elect-rows-spec = tie.close (tie.spec at-most-requires elect-first-requires returns)
+elect-rows-spec = tie.close (tie.spec (λ c κs. search needs) (λ c κs. search needs) looked-over-requires (λ c κs. search needs) returns)

@@ -1,8 +1,8 @@
--- `neighbours::list::zero_or` meets its contract.
+-- `neighbours::election::zero_or` meets its contract.
 -- Assumes nothing.
 use borrow.Author.Tests.{eq-eqb, ne-eqb}
-use Rattle.neighbours.proofs.list.zero_or.Statement.{statement}
-use Rattle.neighbours.proofs.list.zero_or.Tie as tie
+use Rattle.neighbours.proofs.election.zero_or.Statement.{statement}
+use Rattle.neighbours.proofs.election.zero_or.Tie as tie
 
 returns : tie.Need-returns
 returns c = rw (eq-eqb _ _ (c .if1 .taken))
