@@ -1,4 +1,4 @@
--- `counters::count` meets its contract: a walk of its MIR, by hand. The borrow is opened, the counters are copied and passed to `added`, the counters of its answer are stored, and the borrow is closed at them.
+-- `counters::calls::count` meets its contract: a walk of its MIR, by hand. The borrow is opened, the counters are copied and passed to `added`, the counters of its answer are stored, and the borrow is closed at them.
 -- All that the proof knows of `added` is that it meets its contract.
 -- Assumes nothing.
 use mathlib.Core.Path.{_≡_, refl}
@@ -53,14 +53,14 @@ use Rattle.counters.proofs.Answer.Laws as N′
 use Rattle.counters.proofs.Counted as R
 use Rattle.counters.proofs.Counted.Laws as R′
 use Rattle.counters.proofs.Machine.{mach, mach-d, typed, typed-d, counters-own, names, says-both}
-use Rattle.counters.proofs.added as added
-use Rattle.counters.proofs.added.Symbol as added-def
-use Rattle.counters.proofs.added.Symbol.{name as #counters·added}
-use Rattle.counters.proofs.added.Met as added-thm
-use Rattle.counters.proofs.count.Key.{name as #counters·count}
-use Rattle.counters.proofs.count as count
-use Rattle.counters.proofs.count.Statement as stated
-use Rattle.counters.proofs.count.Code as code
+use Rattle.counters.proofs.calls.added as added
+use Rattle.counters.proofs.calls.added.Symbol as added-def
+use Rattle.counters.proofs.calls.added.Symbol.{name as #counters·added}
+use Rattle.counters.proofs.calls.added.Met as added-thm
+use Rattle.counters.proofs.calls.count.Key.{name as #counters·count}
+use Rattle.counters.proofs.calls.count as count
+use Rattle.counters.proofs.calls.count.Statement as stated
+use Rattle.counters.proofs.calls.count.Code as code
 
 abbrev Arg : Type 0
 Arg = RefT Counters × (Direction × (ℕ × (ℕ × Unit {0})))
@@ -171,4 +171,4 @@ count-spec 𝓤 H 𝓜 𝓖 𝓡 =
     entered 𝓤 H (tripleOf 𝓤 H (𝓖 .A) count.signature (count.spec 𝓤 H (𝓖 .A) (𝓜 .mem) (𝓡 .run)))
     (tables 𝓤 H 𝓜 𝓡 code.env .C) (tables 𝓤 H 𝓜 𝓡 code.env .Λ) #counters·count code.function (code.unfolded 𝓤 H 𝓜 𝓡)
     (count-meets 𝓤 H (𝓖 .A) (givenOf 𝓤 H 𝓜 𝓖) (𝓜 .mem) (𝓡 .run) (tablesOf 𝓤 H 𝓜 (tables 𝓤 H 𝓜 𝓡 code.env))
-    (cited 𝓤 H (Added 𝓤 H (𝓖 .A) (𝓜 .mem) (𝓡 .run)) 𝓜 𝓡 code.env #counters·added added-def.routine code.calls-counters·added (added-thm.met 𝓤 H 𝓜 𝓖 𝓡)))
+    (cited 𝓤 H (Added 𝓤 H (𝓖 .A) (𝓜 .mem) (𝓡 .run)) 𝓜 𝓡 code.env #counters·added added-def.routine code.calls-counters·calls·added (added-thm.met 𝓤 H 𝓜 𝓖 𝓡)))

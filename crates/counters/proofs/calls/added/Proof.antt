@@ -1,4 +1,4 @@
--- `counters::added` meets its contract: the test is that of the definition.
+-- `counters::calls::added` meets its contract: the test is that of the definition.
 -- Assumes nothing.
 use mathlib.Core.Path.{refl}
 use Prim.Native.Nat.{_<_, _≤_}
@@ -6,17 +6,14 @@ use native.Mathlib.Omega.{arith}
 use borrow.Author.Tests.{lt-ltb, le-ltb}
 use Rattle.counters.specs.Counting.{counting, answerOf}
 use borrow.Author.Needs.{needs}
-use Rattle.counters.proofs.added.Statement.{statement}
-use Rattle.counters.proofs.added.Tie as tie
+use Rattle.counters.proofs.calls.added.Statement.{statement}
+use Rattle.counters.proofs.calls.added.Tie as tie
 
 returns : tie.Need-returns
 unfolding counting answerOf
 returns c =
     let past : 6 ≤ c .before .args .kind = omega (arith, c .if1 .taken) in
     rw (le-ltb _ _ past) (refl, refl)
-
-added-in-requires : tie.Need-added-in-requires
-added-in-requires c κs = search needs
 
 returns-2 : tie.Need-returns-2
 unfolding counting answerOf
@@ -25,4 +22,4 @@ returns-2 c =
     rw (lt-ltb _ _ within) (refl, c .added-in .ensures)
 
 pub added-spec : {M : Type 1} → statement M
-added-spec = tie.close (tie.spec returns added-in-requires returns-2)
+added-spec = tie.close (tie.spec returns (λ c κs. search needs) returns-2)
