@@ -1,19 +1,18 @@
 -- Octets copied and numbers stored, as the code does it.
 --     Copying                           where a loop that copies stands: copying-start, copying-there, copying-next, copying-end
---     flags-put                         flags and a zero octet, stored one by one
---     row-put                           a row, written in four steps
+--     written-fits, written-next        a number written where it fits, and what is written past it
 --     Rowing                            where a loop that writes rows stands: rowing-start, rowing-there, rowing-next, rowing-end
 -- Assumes nothing.
 use Prim.Native.Nat.{ℕ, suc, _+_, _*_, _≤_, _<_}
 use native.Mathlib.Omega.{arith}
 use mathlib.Core.Path.{_≡_, refl, sym, ap, _∙_}
-use mathlib.Core.Bool.{cond}
-use mathlib.Core.List.{List, [], _∷_, _++_, append-assoc, append-nil}
-use lib.Dec.{lit<}
-use lib.ListN.{length, getD, set, take, drop, length-drop, length-append}
+use borrow.Author.Tests.{le-leb}
+use mathlib.Core.List.{List, [], _∷_, _++_, append-nil}
+use lib.ListN.{length, getD, set, take, drop, length-drop}
 use lib.Seq.{take-add, take-all, take-suc, drop-drop, drop-cons, getD-take, length-take-le}
 use Rattle.octets.specs.Octets.{put, be}
-use Rattle.octets.proofs.Laws.{stores-put, taken-be, put-nil, put-next, length-put, length-be}
+use Rattle.octets.specs.Field.{fitted}
+use Rattle.octets.proofs.Laws.{stores-put, put-nil, put-next, length-put, length-be, length-fitted}
 use Rattle.format.specs.Family.{ipv4}
 use Rattle.format.specs.Record.{each}
 use Rattle.format.proofs.Lengths.{each-append}
@@ -63,28 +62,19 @@ module _ {s : List ℕ} {from n : ℕ} {d₀ : List ℕ} {at : ℕ} {d : List �
   pub copying-end : n ≤ i → d ≡ put d₀ at (take n (drop from s))
   copying-end h = let e : i ≡ n = omega (arith, c .within) in rw (← e) (c .gives)
 
--- ---- a row
+-- ---- numbers written
 
-pub flags-put : (d : List ℕ) (p q x : ℕ) → q ≡ p + 1 → p + 2 ≤ length d → x < 256 → set (set d p x) q 0 ≡ put d p (be 1 x ++ be 1 0)
-flags-put d p q x e h s = rw (e, ← taken-be 1 x s, ← taken-be 1 0 (lit< tt)) (stores-put d p (x ∷ 0 ∷ []) h)
+-- a number written where it fits
+pub written-fits : (k : ℕ) (d : List ℕ) (at n : ℕ) {d′ : List ℕ} → d′ ≡ fitted d at (be k n) → at + k ≤ length d → d′ ≡ put d at (be k n)
+unfolding fitted
+written-fits k d at n p h = p ∙ (rw (le-leb (at + length (be k n)) (length d) (rw length-be h)))
 
-pub row-put : (n : Neighbour) (d : List ℕ) (at : ℕ) {d₁ d₂ d₃ d₄ : List ℕ} {p q r : ℕ}
-    → d₁ ≡ put d at (be 4 (n .address)) → d₂ ≡ put d₁ p (be 4 (n .priority))
-    → d₃ ≡ put d₂ q (be 1 (cond (n .«has_priority») 1 0 + cond (n .packs) 2 0) ++ be 1 0)
-    → d₄ ≡ put d₃ r (be 2 (n .holdtime)) → p ≡ at + 4 → q ≡ at + 8 → r ≡ at + 10
-    → d₄ ≡ put d at (rowOctets ipv4 n)
-unfolding rowOctets
-row-put n d at {d₁} {d₂} {d₃} {d₄} {p} {q} {r} a b f h ep eq er =
-    let flags : ℕ = cond (n .«has_priority») 1 0 + cond (n .packs) 2 0 in
-    let two : List ℕ = be 1 flags ++ be 1 0 in
-    let last : d₄ ≡ put d₂ q (two ++ be 2 (n .holdtime)) = put-next d₂ q two (be 2 (n .holdtime)) f h (omega (arith, length-two flags)) in
-    rw (append-assoc (be 1 flags) (be 1 0) (be 2 (n .holdtime))) at
-    (put-number-next 4 d at (n .address) (be 4 (n .priority) ++ (two ++ be 2 (n .holdtime))) a
-    (put-number-next 4 d₁ p (n .priority) (two ++ be 2 (n .holdtime)) b last (omega arith))
-    ep)
-  where
-    length-two : (x : ℕ) → length (be 1 x ++ be 1 0) ≡ 2
-    length-two x = simp (length-append, length-be)
+-- with m octets more to come
+pub written-next : (k : ℕ) (d : List ℕ) (at n : ℕ) (f : List ℕ) {d′ d″ : List ℕ} {at′ : ℕ} (m : ℕ) → d′ ≡ fitted d at (be k n)
+    → at + (k + m) ≤ length d → at′ ≡ at + k → (at′ + m ≤ length d′ → d″ ≡ put d′ at′ f) → d″ ≡ put d at (be k n ++ f)
+written-next k d at n f {d′} m p h r q =
+    let same : length d′ ≡ length d = ap length p ∙ length-fitted d at (be k n) in
+    put-number-next k d at n f (written-fits k d at n p (omega arith)) (q (omega arith)) r
 
 -- ---- rows one after another
 

@@ -122,19 +122,20 @@ module _ (o da dp : List ℕ) where
     read-short-pairs h g = rw (e, asserts-long, pairs-long, le-ltb (length da) (16 * c .asserts) h, lt-ltb (length dp) (8 * c .pairs) g)
 
     -- the two lists and the table, by the places that code reads at
-    abbrev allRead : ReadingCall
-    allRead = record {
-      answer = gives c;
-      asserts = put da 0 (take (16 * c .asserts) (drop 12 o));
-      pairs = put dp 0 (take (8 * c .pairs) (drop (12 + 16 * c .asserts) o));
-      table = tableOf (rowsAt ipv4 o (12 + 16 * c .asserts + 8 * c .pairs) (c .neighbours));
-    }
+    module _ {p q : ℕ} (pairs : p ≡ pairsFrom base ipv4 c) (rows : q ≡ rowsFrom base ipv4 c) where
+      abbrev allRead : ReadingCall
+      allRead = record {
+        answer = gives c;
+        asserts = put da 0 (take (16 * c .asserts) (drop 12 o));
+        pairs = put dp 0 (take (8 * c .pairs) (drop p o));
+        table = tableOf (rowsAt ipv4 o q (c .neighbours));
+      }
 
-    delivered-is : delivered base ipv4 o da dp (gives c) ≡ allRead
-    unfolding delivered contentsAt rowsFrom pairsFrom
-    delivered-is = refl
+      delivered-is : delivered base ipv4 o da dp (gives c) ≡ allRead
+      unfolding delivered contentsAt
+      delivered-is = rw (pairs, rows) refl
 
-    pub read-fine : 16 * c .asserts ≤ length da → 8 * c .pairs ≤ length dp → reading base ipv4 o da dp ≡ allRead
-    unfolding reading roomFor refuseIf Outcome._>>=_ Outcome._>>_
-    read-fine h g =
-        rw (e, asserts-long, pairs-long, le-ltb (length da) (16 * c .asserts) h, le-ltb (length dp) (8 * c .pairs) g) delivered-is
+      pub read-fine : 16 * c .asserts ≤ length da → 8 * c .pairs ≤ length dp → reading base ipv4 o da dp ≡ allRead
+      unfolding reading roomFor refuseIf Outcome._>>=_ Outcome._>>_
+      read-fine h g =
+          rw (e, asserts-long, pairs-long, le-ltb (length da) (16 * c .asserts) h, le-ltb (length dp) (8 * c .pairs) g) delivered-is

@@ -2,6 +2,7 @@
 use crate::Found;
 use crate::SheetRead;
 use crate::copy::copy;
+use crate::layout::sections_of;
 use format::Refusal;
 use neighbours::Table;
 use sections::ASSERT;
@@ -59,6 +60,7 @@ fn deliver(o: &[u8], c: Counts, asserts: &mut [u8], pairs: &mut [u8]) -> SheetRe
     ensures asserts { λ _. ⌜ now (asserts .exit) ≡ reading base ipv4 (now (o .entry)) (now (asserts .entry)) (now (pairs .entry)) .asserts ⌝ }
     ensures pairs { λ _. ⌜ now (pairs .exit) ≡ reading base ipv4 (now (o .entry)) (now (asserts .entry)) (now (pairs .entry)) .pairs ⌝ }
 {
+    let s = sections_of(c);
     let n = ASSERT * c.asserts;
     let m = PAIR * c.pairs;
     if asserts.len() < n {
@@ -74,9 +76,9 @@ fn deliver(o: &[u8], c: Counts, asserts: &mut [u8], pairs: &mut [u8]) -> SheetRe
         });
     }
     copy(o, HEADER, n, asserts, 0);
-    copy(o, HEADER + n, m, pairs, 0);
+    copy(o, s.pairs, m, pairs, 0);
     SheetRead {
-        table: gather(o, HEADER + n + m, c.neighbours),
+        table: gather(o, s.rows, c.neighbours),
         found: Found::Entries(c),
     }
 }

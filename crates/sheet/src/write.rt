@@ -1,6 +1,7 @@
 // Writing a sheet: what is asked first, in the order 10, 14, 8, 7, then the octets.
 use crate::Stored;
 use crate::copy::copy;
+use crate::layout::sections_of;
 use crate::put::put_header;
 use crate::put::put_rows;
 use entries::Listed;
@@ -104,11 +105,11 @@ fn fill(asserts: &[u8], pairs: &[u8], table: Table, d: &mut [u8])
         pairs: pairs.len() / PAIR,
         neighbours: table.count,
     };
+    let s = sections_of(c);
     put_header(d, c);
     copy(asserts, 0, asserts.len(), d, HEADER);
-    let at = HEADER + asserts.len();
-    copy(pairs, 0, pairs.len(), d, at);
-    put_rows(d, at + pairs.len(), table);
+    copy(pairs, 0, pairs.len(), d, s.pairs);
+    put_rows(d, s.rows, table);
 }
 
 // Writes the one sheet of two entry lists and a table.

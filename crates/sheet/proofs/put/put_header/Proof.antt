@@ -1,110 +1,62 @@
 -- `sheet::put::put_header` meets its contract: six numbers, each written past the one before.
 -- Assumes nothing.
+use Prim.Native.Nat.{_≤_}
 use mathlib.Core.Path.{refl}
 use denote.Ref.{now}
 use Rattle.sections.specs.Layout.{base, headerOctets, pairsFrom, rowsFrom}
-use Rattle.reading.proofs.Copying.{put-number-next}
 use Rattle.sections.proofs.Header.{counts-within}
+use Rattle.sheet.proofs.Copies.{written-fits, written-next}
 use borrow.Author.Needs.{needs}
 use Rattle.sheet.proofs.put.put_header.Statement.{statement}
 use Rattle.sheet.proofs.put.put_header.Tie as tie
 
-mul-pairs-from : tie.Need-mul-pairs-from
-mul-pairs-from c =
-    let s = c .before .before in
-    let l = counts-within base (s .args .c) (s .pre .1) in
+limits : (s : tie.Start) → (s .args .c .asserts ≤ 1024) × (s .args .c .pairs ≤ 1024) × (s .args .c .neighbours ≤ 16)
+limits s = counts-within base (s .args .c) (s .pre .1)
+
+sections-of-requires : tie.Need-sections-of-requires
+sections-of-requires c κs = c .before .pre .1
+
+cast-write16 : tie.Need-cast-write16
+cast-write16 c =
+    let l = limits (c .before .before .before .before) in
     search needs
 
-add-pairs-from : tie.Need-add-pairs-from
-add-pairs-from c =
-    let s = c .before .before in
-    let l = counts-within base (s .args .c) (s .pre .1) in
+cast-write16-3 : tie.Need-cast-write16-3
+cast-write16-3 c =
+    let l = limits (c .before .before .before .before .before .before .before .before .before .before .before .before .before) in
     search needs
 
-mul-rows-from : tie.Need-mul-rows-from
-mul-rows-from c =
-    let s = c .before .before .before in
-    let l = counts-within base (s .args .c) (s .pre .1) in
+cast-write16-4 : tie.Need-cast-write16-4
+unfolding pairsFrom rowsFrom
+cast-write16-4 c =
+    let l = limits (c .before .before .before .before .before .before .before .before .before .before .before .before .before .before .before .before .before .before) in
+    let p = c .before .before .before .before .before .before .before .before .before .before .before .before .before .before .before .before .sections-of .ensures in
     search needs
 
-add-rows-from : tie.Need-add-rows-from
-add-rows-from c =
-    let s = c .before .before .before in
-    let l = counts-within base (s .args .c) (s .pre .1) in
+cast-write16-5 : tie.Need-cast-write16-5
+cast-write16-5 c =
+    let l = limits (c .before .before .before .before .before .before .before .before .before .before .before .before .before .before .before .before .before .before .before .before .before .before .before) in
     search needs
 
-put16-requires : tie.Need-put16-requires
-put16-requires c κs =
-    let s = c .before .before .before .before in
-    let l = counts-within base (s .args .c) (s .pre .1) in
+cast-write16-6 : tie.Need-cast-write16-6
+unfolding pairsFrom rowsFrom
+cast-write16-6 c =
+    let l = limits (c .before .before .before .before .before .before .before .before .before .before .before .before .before .before .before .before .before .before .before .before .before .before .before .before .before .before .before .before) in
+    let p = c .before .before .before .before .before .before .before .before .before .before .before .before .before .before .before .before .before .before .before .before .before .before .before .before .before .before .sections-of .ensures in
     search needs
-
-put16-requires-2 : tie.Need-put16-requires-2
-put16-requires-2 c κs =
-    let s = c .before .before .before .before .before .before .before .before in
-    let l = counts-within base (s .args .c) (s .pre .1) in
-    search needs
-
-put16-requires-3 : tie.Need-put16-requires-3
-put16-requires-3 c κs =
-    let s = c .before .before .before .before .before .before .before .before .before .before .before .before in
-    let l = counts-within base (s .args .c) (s .pre .1) in
-    search needs
-
-put16-requires-4 : tie.Need-put16-requires-4
-put16-requires-4 c κs =
-    let s = c .before .before .before .before .before .before .before .before .before .before .before .before .before .before .before .before in
-    let l = counts-within base (s .args .c) (s .pre .1) in
-    search needs
-
-put16-requires-5 : tie.Need-put16-requires-5
-put16-requires-5 c κs =
-    let s = c .before .before .before .before .before .before .before .before .before .before .before .before .before .before .before .before .before .before .before .before in
-    let l = counts-within base (s .args .c) (s .pre .1) in
-    search needs
-
-put16-requires-6 : tie.Need-put16-requires-6
-put16-requires-6 c κs =
-    let s = c .before .before .before .before .before .before .before .before .before .before .before .before .before .before .before .before .before .before .before .before .before .before .before .before in
-    let l = counts-within base (s .args .c) (s .pre .1) in
-    search needs
-
-same-length : tie.Need-same-length
-same-length c = search needs
 
 returns : tie.Need-returns
-unfolding headerOctets pairsFrom rowsFrom
+unfolding headerOctets
 returns c =
-    let s = c .before .before .before .before .before .before .before .before .before .before .before .before .before .before .before .before .before .before .before .before .before .before .before .before .before .before .before in
-    let c6 = c .before .before in
-    let c5 = c6 .before .before .before .before in
-    let c4 = c5 .before .before .before .before in
-    let c3 = c4 .before .before .before .before in
-    let c2 = c3 .before .before .before .before in
-    let c1 = c2 .before .before .before .before in
-    put-number-next 2 (now (s .args .d)) 0 _ _ (c1 .put16 .ensures)
-    (put-number-next 2 _ 2 _ _ (c2 .put162 .ensures)
-    (put-number-next 2 _ 4 _ _ (c3 .put163 .ensures)
-    (put-number-next 2 _ 6 _ _ (c4 .put164 .ensures)
-    (put-number-next 2 _ 8 _ _ (c5 .put165 .ensures) (c6 .put166 .ensures) refl)
-    refl)
-    refl)
-    refl)
-    refl
+    let s = c .before .before .before .before .before .before .before .before .before .before .before .before .before .before .before .before .before .before .before .before .before .before .before .before .before .before .before .before .before .before .before in
+    let p = c .before .before .before .before .before .before .before .before .before .before .before .before .before .before .before .before .before .before .before .before .before .before .before .before .before .before .before .before .before .sections-of .ensures in
+    rw (← p .0, ← p .1)
+    (written-next 2 (now (s .args .d)) 0 _ _ 10 (c .before .before .before .before .before .before .before .before .before .before .before .before .before .before .before .before .before .before .before .before .before .before .before .before .before .before .write16 .ensures .1) (s .pre .0) refl (λ h.
+    written-next 2 _ 2 _ _ 8 (c .before .before .before .before .before .before .before .before .before .before .before .before .before .before .before .before .before .before .before .before .before .before .write162 .ensures .1) h refl (λ h.
+    written-next 2 _ 4 _ _ 6 (c .before .before .before .before .before .before .before .before .before .before .before .before .before .before .before .before .before .write163 .ensures .1) h refl (λ h.
+    written-next 2 _ 6 _ _ 4 (c .before .before .before .before .before .before .before .before .before .before .before .before .write164 .ensures .1) h refl (λ h.
+    written-next 2 _ 8 _ _ 2 (c .before .before .before .before .before .before .before .write165 .ensures .1) h refl (λ h.
+    written-fits 2 _ 10 _ (c .before .before .write166 .ensures .1) h))))))
 
 pub put-header-spec : {M : Type 1} → statement M
-put-header-spec =
-    tie.close
-    (tie.spec
-    mul-pairs-from
-    add-pairs-from
-    mul-rows-from
-    add-rows-from
-    put16-requires
-    put16-requires-2
-    put16-requires-3
-    put16-requires-4
-    put16-requires-5
-    put16-requires-6
-    same-length
-    returns)
+put-header-spec = tie.close (tie.spec sections-of-requires cast-write16 (λ c κs. search needs) (λ c. search needs) (λ c κs. search needs) cast-write16-3 (λ c κs. search needs) cast-write16-4 (λ c κs. search needs) cast-write16-5 (λ c κs. search needs) cast-write16-6 (λ c κs. search needs) (λ c. search needs) returns)

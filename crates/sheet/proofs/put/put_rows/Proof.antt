@@ -34,17 +34,11 @@ mul-put-row c = omega (arith, c .before .loop-test .taken, c .before .before .be
 add-put-row : tie.Need-add-put-row Inv-loop μ-loop
 add-put-row c = let t = rowing-there (c .before .before .loop .inv) (c .before .loop-test .taken) in search needs
 
-mul-put-row-2 : tie.Need-mul-put-row-2 Inv-loop μ-loop
-mul-put-row-2 c = search needs
-
 element-copy-out-put-row : tie.Need-element-copy-out-put-row Inv-loop μ-loop
 element-copy-out-put-row c = omega (arith, c .before .loop-test .taken, c .before .before .before .before .pre .0)
 
 put-row-requires : tie.Need-put-row-requires Inv-loop μ-loop
 put-row-requires c κs = rowing-there (c .before .before .before .loop .inv) (c .before .before .loop-test .taken)
-
-add-i : tie.Need-add-i Inv-loop μ-loop
-add-i c = search needs
 
 loop-less : tie.Need-loop-less Inv-loop μ-loop
 loop-less c = omega (arith, c .before .before .before .before .before .loop-test .taken)
@@ -60,18 +54,4 @@ returns c = rowing-end (c .before .loop .inv) (c .loop-test .left)
 
 pub put-rows-spec : {M : Type 1} → statement M
 put-rows-spec =
-    tie.close
-    (tie.spec
-    Inv-loop
-    μ-loop
-    loop-holds
-    mul-put-row
-    add-put-row
-    mul-put-row-2
-    element-copy-out-put-row
-    put-row-requires
-    add-i
-    loop-less
-    loop-again
-    same-length
-    returns)
+    tie.close (tie.spec Inv-loop μ-loop loop-holds mul-put-row add-put-row (λ c. search needs) element-copy-out-put-row put-row-requires (λ c. search needs) loop-less loop-again same-length returns)

@@ -1,7 +1,12 @@
 -- `sheet::read::deliver` meets its contract: the tests are those of the definition; then two copies and the rows.
 -- Assumes nothing.
-use mathlib.Core.Path.{refl}
+use Prim.Native.Nat.{_+_, _*_, _≤_}
+use mathlib.Core.Path.{_≡_, refl}
+use mathlib.Core.Bool.{true}
+use lib.ListN.{length}
 use denote.Ref.{now}
+use Rattle.sections.specs.Layout.{base, pairsFrom, rowsFrom}
+use Rattle.sections.specs.Checking.{countsAllowed}
 use Rattle.sheet.specs.Calls.{foundBy}
 use Rattle.sheet.proofs.Again.{sizes}
 use Rattle.sheet.proofs.Gathered.{read-short, read-short-pairs, read-fine}
@@ -9,104 +14,62 @@ use borrow.Author.Needs.{needs}
 use Rattle.sheet.proofs.read.deliver.Statement.{statement}
 use Rattle.sheet.proofs.read.deliver.Tie as tie
 
+-- the parts lie in the sheet
+parts : (s : tie.Start) → (s .args .c .neighbours ≤ 16)
+    × (12 + 16 * s .args .c .asserts + 8 * s .args .c .pairs + 12 * s .args .c .neighbours ≡ length (now (s .args .o))) × (countsAllowed base (s .args .c) ≡ true)
+parts s = sizes (now (s .args .o)) (s .args .c) (s .pre)
+
+sections-of-requires : tie.Need-sections-of-requires
+sections-of-requires c κs = parts (c .before .before .before) .2
+
 mul-n : tie.Need-mul-n
 mul-n c =
-    let s = c .before .before .before .before in
-    let z = sizes (now (s .args .o)) (s .args .c) (s .pre) in
+    let z = parts (c .before .before .before .before .before) in
     search needs
 
 mul-m : tie.Need-mul-m
 mul-m c =
-    let s = c .before .before .before .before .before in
-    let z = sizes (now (s .args .o)) (s .args .c) (s .pre) in
+    let z = parts (c .before .before .before .before .before .before) in
     search needs
-
-refused-requires : tie.Need-refused-requires
-refused-requires c κs = search needs
 
 returns : tie.Need-returns
 returns c =
-    let s = c .before .before .before .before .before .before .before in
+    let s = c .before .before .before .before .before .before .before .before in
     rw (read-short (now (s .args .o)) (now (s .args .asserts)) (now (s .args .pairs)) (s .args .c) (s .pre) (c .before .if1 .taken))
     (c .refused .ensures .0, (c .refused .ensures .1, (refl, refl)))
 
-refused-requires-2 : tie.Need-refused-requires-2
-refused-requires-2 c κs = search needs
-
 returns-2 : tie.Need-returns-2
 returns-2 c =
-    let s = c .before .before .before .before .before .before .before .before in
+    let s = c .before .before .before .before .before .before .before .before .before in
     rw (read-short-pairs (now (s .args .o)) (now (s .args .asserts)) (now (s .args .pairs)) (s .args .c) (s .pre) (c .before .before .if1 .left) (c .before .if2 .taken))
     (c .refused2 .ensures .0, (c .refused2 .ensures .1, (refl, refl)))
 
 copy-requires : tie.Need-copy-requires
 copy-requires c κs =
-    let s = c .before .before .before .before .before .before .before .before in
-    let z = sizes (now (s .args .o)) (s .args .c) (s .pre) in
-    search needs
-
-add-copy : tie.Need-add-copy
-add-copy c =
-    let s = c .before .before .before .before .before .before .before .before .before .before .before in
-    let z = sizes (now (s .args .o)) (s .args .c) (s .pre) in
+    let z = parts (c .before .before .before .before .before .before .before .before .before) in
     search needs
 
 copy-requires-2 : tie.Need-copy-requires-2
+unfolding pairsFrom rowsFrom
 copy-requires-2 c κs =
-    let s = c .before .before .before .before .before .before .before .before .before .before .before .before in
-    let z = sizes (now (s .args .o)) (s .args .c) (s .pre) in
-    search needs
-
-add-gather : tie.Need-add-gather
-add-gather c =
-    let s = c .before .before .before .before .before .before .before .before .before .before .before .before .before .before .before in
-    let z = sizes (now (s .args .o)) (s .args .c) (s .pre) in
-    search needs
-
-add-gather-2 : tie.Need-add-gather-2
-add-gather-2 c =
-    let s = c .before .before .before .before .before .before .before .before .before .before .before .before .before .before .before in
-    let z = sizes (now (s .args .o)) (s .args .c) (s .pre) in
+    let z = parts (c .before .before .before .before .before .before .before .before .before .before .before .before .before) in
+    let p = c .before .before .before .before .before .before .before .before .before .sections-of .ensures in
     search needs
 
 gather-requires : tie.Need-gather-requires
+unfolding pairsFrom rowsFrom
 gather-requires c κs =
-    let s = c .before .before .before .before .before .before .before .before .before .before .before .before .before .before .before in
-    let z = sizes (now (s .args .o)) (s .args .c) (s .pre) in
+    let z = parts (c .before .before .before .before .before .before .before .before .before .before .before .before .before .before .before .before) in
+    let p = c .before .before .before .before .before .before .before .before .before .before .before .before .sections-of .ensures in
     search needs
-
-same-length : tie.Need-same-length
-same-length c = search needs
-
-same-length-2 : tie.Need-same-length-2
-same-length-2 c = search needs
 
 returns-3 : tie.Need-returns-3
 unfolding foundBy
 returns-3 c =
-    let s = c .before .before .before .before .before .before .before .before .before .before .before .before .before .before .before .before in
-    let y = c .before .before .before .before .before .before .before .copy in
-    let z = c .before .before .before .copy2 in
-    let e = c .before .before .before .before .before .before .before .before .before in
-    rw (read-fine (now (s .args .o)) (now (s .args .asserts)) (now (s .args .pairs)) (s .args .c) (s .pre) (e .before .if1 .left) (e .if2 .left))
-    (refl, (c .gather .ensures, (y .ensures, z .ensures)))
+    let s = c .before .before .before .before .before .before .before .before .before .before .before .before .before .before .before .before .before in
+    let p = c .before .before .before .before .before .before .before .before .before .before .before .before .before .sections-of .ensures in
+    rw (read-fine (now (s .args .o)) (now (s .args .asserts)) (now (s .args .pairs)) (s .args .c) (s .pre) (p .0) (p .1) (c .before .before .before .before .before .before .before .before .before .before .if1 .left) (c .before .before .before .before .before .before .before .before .before .if2 .left))
+    (refl, (c .gather .ensures, (c .before .before .before .before .before .before .before .copy .ensures, c .before .before .before .copy2 .ensures)))
 
 pub deliver-spec : {M : Type 1} → statement M
-deliver-spec =
-    tie.close
-    (tie.spec
-    mul-n
-    mul-m
-    refused-requires
-    returns
-    refused-requires-2
-    returns-2
-    copy-requires
-    add-copy
-    copy-requires-2
-    add-gather
-    add-gather-2
-    gather-requires
-    same-length
-    same-length-2
-    returns-3)
+deliver-spec = tie.close (tie.spec sections-of-requires mul-n mul-m (λ c κs. search needs) returns (λ c κs. search needs) returns-2 copy-requires copy-requires-2 gather-requires (λ c. search needs) (λ c. search needs) returns-3)

@@ -14,9 +14,6 @@ Inv-loop o at n table₀ i₀ table i = Gathering o at n table i
 abbrev μ-loop : tie.MeasureT-loop
 μ-loop o at n table₀ i₀ table i = n - i
 
-empty-requires : tie.Need-empty-requires Inv-loop μ-loop
-empty-requires c κs = search needs
-
 loop-holds : tie.Need-loop-holds Inv-loop μ-loop
 loop-holds c =
     let s = c .before .before in
@@ -27,12 +24,6 @@ mul-row-at c = omega (arith, c .loop-test .taken, c .before .loop .inv .few)
 
 add-row-at : tie.Need-add-row-at Inv-loop μ-loop
 add-row-at c = let t = c .before .loop .inv .there in search needs
-
-row-at-requires : tie.Need-row-at-requires Inv-loop μ-loop
-row-at-requires c κs = search needs
-
-mul-row : tie.Need-mul-row Inv-loop μ-loop
-mul-row c = search needs
 
 element-set-from-row : tie.Need-element-set-from-row Inv-loop μ-loop
 element-set-from-row c = omega (arith, c .before .loop-test .taken, c .before .before .loop .inv .few)
@@ -51,18 +42,4 @@ returns c = gathering-end (c .before .loop .inv) (c .loop-test .left)
 
 pub gather-spec : {M : Type 1} → statement M
 gather-spec =
-    tie.close
-    (tie.spec
-    Inv-loop
-    μ-loop
-    empty-requires
-    loop-holds
-    mul-row-at
-    add-row-at
-    row-at-requires
-    mul-row
-    element-set-from-row
-    add-i
-    loop-less
-    loop-again
-    returns)
+    tie.close (tie.spec Inv-loop μ-loop (λ c κs. search needs) loop-holds mul-row-at add-row-at (λ c κs. search needs) (λ c. search needs) element-set-from-row add-i loop-less loop-again returns)

@@ -5,16 +5,10 @@ use borrow.Author.Needs.{needs}
 use Rattle.sheet.proofs.read.refused.Statement.{statement}
 use Rattle.sheet.proofs.read.refused.Tie as tie
 
-empty-requires : tie.Need-empty-requires
-empty-requires c κs = search needs
-
 returns : tie.Need-returns
 unfolding foundBy
 returns c = search needs
 
 pub refused-spec : {M : Type 1} → statement M
 refused-spec =
-    tie.close
-    (tie.spec
-    empty-requires
-    returns)
+    tie.close (tie.spec (λ c κs. search needs) returns)

@@ -1,20 +1,11 @@
 -- `sheet::write::all_allowed` meets its contract, by what `first_bad` answered.
 -- Assumes nothing.
 use denote.Ref.{now}
-use Rattle.entries.specs.Kinds.{entriesFor}
+use Rattle.writing.specs.Kinds.{entriesFor}
 use Rattle.sheet.proofs.Asks.{listed-fine, listed-bad}
 use borrow.Author.Needs.{needs}
 use Rattle.sheet.proofs.write.all_allowed.Statement.{statement}
 use Rattle.sheet.proofs.write.all_allowed.Tie as tie
-
-first-bad-requires : tie.Need-first-bad-requires
-first-bad-requires c κs = search needs
-
-enum-told : tie.Need-enum-told
-enum-told c = search needs
-
-enum-told-2 : tie.Need-enum-told-2
-enum-told-2 c = search needs
 
 returns : tie.Need-returns
 returns c =
@@ -28,10 +19,4 @@ returns-2 c =
 
 pub all-allowed-spec : {M : Type 1} → statement M
 all-allowed-spec =
-    tie.close
-    (tie.spec
-    first-bad-requires
-    enum-told
-    enum-told-2
-    returns
-    returns-2)
+    tie.close (tie.spec (λ c κs. search needs) (λ c. search needs) (λ c. search needs) returns returns-2)

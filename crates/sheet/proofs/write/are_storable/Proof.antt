@@ -18,9 +18,6 @@ returns-2 c =
     let s = c .before .before .before .before in
     storable-pairs (now (s .args .asserts)) (now (s .args .pairs)) (s .args .table) (c .before .if1 .left) (c .if2 .taken)
 
-is-valid-requires : tie.Need-is-valid-requires
-is-valid-requires c κs = search needs
-
 returns-3 : tie.Need-returns-3
 returns-3 c =
     let s = c .before .before .before .before .before in
@@ -29,9 +26,4 @@ returns-3 c =
 
 pub are-storable-spec : {M : Type 1} → statement M
 are-storable-spec =
-    tie.close
-    (tie.spec
-    returns
-    returns-2
-    is-valid-requires
-    returns-3)
+    tie.close (tie.spec returns returns-2 (λ c κs. search needs) returns-3)

@@ -52,23 +52,11 @@ long c =
     let many : length (used t) ≡ t .count = used-long (t .rows) (t .count) (omega (arith, full, l .2)) in
     length-sheet (asserts c) (pairs c) t many
 
-are-whole-requires : tie.Need-are-whole-requires
-are-whole-requires c κs = search needs
-
-refused-requires : tie.Need-refused-requires
-refused-requires c κs = search needs
-
 returns : tie.Need-returns
 returns c =
     let s = c .before .before .before .before .before in
     let a = s .args in
     c .refused .ensures ∙ sym (due-10 (now (a .asserts)) (now (a .pairs)) (a .table) (a .room) (sym (c .before .before .are-whole .ensures) ∙ not-true _ (c .before .if1 .taken)))
-
-are-storable-requires : tie.Need-are-storable-requires
-are-storable-requires c κs = search needs
-
-refused-requires-2 : tie.Need-refused-requires-2
-refused-requires-2 c κs = search needs
 
 returns-2 : tie.Need-returns-2
 returns-2 c =
@@ -97,31 +85,16 @@ add-n-3 c =
     let l = storable-limits (asserts (c .before)) (pairs (c .before)) (table (c .before)) (fine (c .before)) in
     search needs
 
-refused-requires-3 : tie.Need-refused-requires-3
-refused-requires-3 c κs = search needs
-
 returns-3 : tie.Need-returns-3
 returns-3 c =
     let e = c .before .before .before in
     c .refused3 .ensures ∙ sym (due-8 (asserts e) (pairs e) (table e) (room e) (both e) (fine e) (long e) (c .before .if3 .taken))
-
-all-allowed-requires : tie.Need-all-allowed-requires
-all-allowed-requires c κs = search needs
-
-refused-requires-4 : tie.Need-refused-requires-4
-refused-requires-4 c κs = search needs
 
 returns-4 : tie.Need-returns-4
 returns-4 c =
     let e = c .before .before .before .before .before in
     let y = c .before .before .all-allowed in
     c .refused4 .ensures ∙ sym (due-7 (asserts e) (pairs e) (table e) (room e) (both e) (fine e) (long e) (c .before .before .before .if3 .left) (seven-not (y .result) (y .ensures) (c .before .if4 .taken)))
-
-all-allowed-requires-2 : tie.Need-all-allowed-requires-2
-all-allowed-requires-2 c κs = search needs
-
-refused-requires-5 : tie.Need-refused-requires-5
-refused-requires-5 c κs = search needs
 
 returns-5 : tie.Need-returns-5
 returns-5 c =
@@ -143,24 +116,4 @@ returns-6 c =
 
 pub due-spec : {M : Type 1} → statement M
 due-spec =
-    tie.close
-    (tie.spec
-    are-whole-requires
-    refused-requires
-    returns
-    are-storable-requires
-    refused-requires-2
-    returns-2
-    add-n
-    add-n-2
-    mul-n
-    add-n-3
-    refused-requires-3
-    returns-3
-    all-allowed-requires
-    refused-requires-4
-    returns-4
-    all-allowed-requires-2
-    refused-requires-5
-    returns-5
-    returns-6)
+    tie.close (tie.spec (λ c κs. search needs) (λ c κs. search needs) returns (λ c κs. search needs) (λ c κs. search needs) returns-2 add-n add-n-2 mul-n add-n-3 (λ c κs. search needs) returns-3 (λ c κs. search needs) (λ c κs. search needs) returns-4 (λ c κs. search needs) (λ c κs. search needs) returns-5 returns-6)

@@ -6,15 +6,6 @@ use borrow.Author.Needs.{needs}
 use Rattle.sheet.proofs.write.write_sheet.Statement.{statement}
 use Rattle.sheet.proofs.write.write_sheet.Tie as tie
 
-due-requires : tie.Need-due-requires
-due-requires c κs = search needs
-
-enum-told : tie.Need-enum-told
-enum-told c = search needs
-
-enum-told-2 : tie.Need-enum-told-2
-enum-told-2 c = search needs
-
 returns : tie.Need-returns
 returns c =
     let s = c .before .before .before .before .before .before in
@@ -31,9 +22,6 @@ fill-requires c κs =
     let x = c .before .before .before .due in
     due-gives (now (a .asserts)) (now (a .pairs)) (a .table) (now (a .d)) (x .result) (x .ensures) (c .before .enum-told .given .1)
 
-same-length : tie.Need-same-length
-same-length c = search needs
-
 returns-2 : tie.Need-returns-2
 returns-2 c =
     let s = c .before .before .before .before .before .before .before .before .before .before in
@@ -46,12 +34,4 @@ returns-2 c =
 
 pub write-sheet-spec : {M : Type 1} → statement M
 write-sheet-spec =
-    tie.close
-    (tie.spec
-    due-requires
-    enum-told
-    enum-told-2
-    returns
-    fill-requires
-    same-length
-    returns-2)
+    tie.close (tie.spec (λ c κs. search needs) (λ c. search needs) (λ c. search needs) returns fill-requires (λ c. search needs) returns-2)
