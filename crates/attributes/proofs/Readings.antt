@@ -1,10 +1,10 @@
 -- What an attribute reads as, by the answers that the code got: laws over the readers of specs/Attribute.antt and specs/Answers.antt.
 --     refused                                a refusal as the code makes it
---     optional-got, optional-cut             an option's value, as it was answered
---     optional-below                         it fits its octets
 --     then-got, then-bad                     a reader that goes on
 --     must-yes, must-no, must-bad            a field that has to pass a test
---     values-apart, values-short, values-on  the values: those of more than an octet, then the others
+--     option-fits, value-read                an option's value fits its octets; what is answered of one
+--     inOrder, numbers, last, chained        readers in order; the same, each called on what the one before it came to: both come to one
+--     values-chained, past-got, past-cut     the options' values, so read; what they come to, by the last of them
 --     has-f, other-type, pop-count           the first octet
 --     agrees-least, fields-read              a length that agrees has all the options, and what is past them is ignored
 --     handed-got, handed-bad                 an attribute by its fields: a fault is handed up
@@ -14,48 +14,28 @@ use native.Mathlib.Nat.{one-le-pow}
 use native.Mathlib.Omega.{arith}
 use mathlib.Core.Path.{_≡_, refl, sym, ap, _∙_}
 use mathlib.Core.Bool.{Bool, true, false, cond}
-use mathlib.Core.List.{List}
+use mathlib.Core.List.{List, [], _∷_, map}
+use lib.ListN.{getD}
 use borrow.Author.Tests.{leb-true, eq-eqb, ne-eqb, eqb-true}
 use lib.Dec.{leb, eqb}
 use Rattle.octets.specs.Octets.{Octets}
 use Rattle.octets.specs.Field.{fieldOf, placeOf}
 use Rattle.octets.specs.declared.Field.{Field}
 use Rattle.octets.specs.declared.Field.the-variants.{Got, Short}
-use Rattle.octets.proofs.Laws.{number-lt, read-got, read-cut}
+use Rattle.octets.proofs.Laws.{number-lt}
 use Rattle.format.specs.Reader.{Read, Reader, got, bad, continue, _>>=_, give, number, must, placed, handUp, inRecord}
-use Rattle.attributes.specs.Options.{Option, bitOf, sizeOf, present, sizes, unallocated}
+use Rattle.attributes.specs.Options.{bitOf, sizeOf, hasBit, present, sizes, unallocated}
 use Rattle.attributes.specs.Attribute.{isPopCount, lengthAgrees, optional, values, attributeFields, attribute}
-use Rattle.attributes.specs.Answers.{readBy, valuesBy, hasBit, optionAt, wideValues, oneOctetValues, valuesAfter, fieldsAfter}
+use Rattle.attributes.specs.Answers.{readBy, sizeFor, optionAt, past, numberOf, valuesAfter, fieldsAfter}
 use Rattle.attributes.specs.declared.Attribute.{Attribute}
 use Rattle.attributes.specs.declared.Fixed.{Fixed}
 use Rattle.attributes.specs.declared.Values.{Values}
 use Rattle.attributes.specs.declared.AttributeRead.{AttributeRead}
 use Rattle.attributes.specs.declared.AttributeRead.the-variants.{Refused}
-use Rattle.attributes.specs.declared.ValuesRead.{ValuesRead}
-use Rattle.attributes.specs.declared.ValuesRead.the-variants.{All, Short as Cut}
 
 pub refused : {r : AttributeRead} {n p : ℕ} → r ≡ Refused (record { number = n; place = p }) → readBy r ≡ bad n p
 unfolding readBy
 refused e = rw e
-
--- ---- fields
-
-module _ (w : ℕ) (i : Option) (o : List ℕ) (at : ℕ) {f : Field} (e : fieldOf f ≡ optionAt (sizeOf i) w (bitOf i) o at) where
-  pub optional-got : {v n : ℕ} → f ≡ Got v n → optional w i o at ≡ got v n
-  unfolding optional present optionAt hasBit
-  optional-got g = read-got e g
-
-  pub optional-cut : {p q : ℕ} → f ≡ Short p → q ≡ placeOf (fieldOf f) → optional w i o at ≡ bad 6 q
-  unfolding optional present optionAt hasBit
-  optional-cut g h = read-cut e g h
-
-pub optional-below : (k w bit : ℕ) (o : List ℕ) (at : ℕ) {v n : ℕ} → optionAt k w bit o at ≡ got v n → Octets o → v < 256 ^ k
-unfolding optionAt give
-optional-below k w bit o at {v} {n} e l = go (hasBit w bit) e
-  where
-    go : (b : Bool) → cond b (number k) (λ (o : List ℕ) (at : ℕ). got 0 at) o at ≡ got v n → v < 256 ^ k
-    go true p = number-lt k o at p l
-    go false p = let z : 0 ≡ v = cc in rw (← z) (one-le-pow k 256 (omega arith))
 
 -- ---- readers that go on
 
@@ -83,25 +63,98 @@ module _ {A : Type 0} (m : ℕ) (test : A → Bool) (r : Reader A) (o : List ℕ
 
 -- ---- the values
 
--- a step in the first of two readers
-peel : {A B C : Type 0} (x : Read A) {k : A → ℕ → Read C} (h : A → ℕ → Read B) (l : B → ℕ → Read C) → ((a : A) (n : ℕ) → k a n ≡ continue (h a n) l)
-    → continue x k ≡ continue (continue x h) l
-unfolding continue
-peel (got a n) h l f = f a n
-peel (bad m p) h l f = refl
+pub option-fits : (w bit : ℕ) (o : List ℕ) (x : Read ℕ) → Octets o → numberOf (past (optionAt w bit) o x) < 256 ^ sizeFor bit
+unfolding past optionAt continue give
+option-fits w bit o x l = go x
+  where
+    none : 0 < 256 ^ sizeFor bit
+    none = one-le-pow (sizeFor bit) 256 (omega arith)
 
-pub values-apart : (w : ℕ) (o : List ℕ) (at : ℕ) → values w o at ≡ continue (wideValues w o at) (λ v n. oneOctetValues w v o n)
-unfolding values wideValues oneOctetValues _>>=_ give
-values-apart w o at = peel _ _ _ (λ t a. peel _ _ _ (λ s b. peel _ _ _ (λ l c. peel _ _ _ (λ g d. sym (then-got _ refl)))))
+    read : (n : ℕ) (y : Read ℕ) → number (sizeFor bit) o n ≡ y → numberOf y < 256 ^ sizeFor bit
+    read n (got v m) e = number-lt (sizeFor bit) o n e l
+    read n (bad m p) e = none
 
-module _ (w : ℕ) (o : List ℕ) (at : ℕ) {r : ValuesRead} (e : valuesBy r ≡ wideValues w o at) where
-  pub values-short : {p : ℕ} → r ≡ Cut p → valuesBy r ≡ values w o at
-  unfolding valuesBy
-  values-short h = ap valuesBy h ∙ sym (values-apart w o at ∙ then-bad _ (sym e ∙ ap valuesBy h))
+    there : (b : Bool) (n : ℕ) → numberOf (cond b (number (sizeFor bit)) (λ (o : List ℕ) (at : ℕ). got 0 at) o n) < 256 ^ sizeFor bit
+    there true n = read n (number (sizeFor bit) o n) refl
+    there false n = none
 
-  pub values-on : {v : Values} {n : ℕ} → r ≡ All v n → values w o at ≡ oneOctetValues w v o n
-  unfolding valuesBy
-  values-on h = values-apart w o at ∙ then-got _ (sym e ∙ ap valuesBy h)
+    go : (x : Read ℕ) → numberOf (continue x (λ v n. cond (hasBit w bit) (number (sizeFor bit)) (λ (o : List ℕ) (at : ℕ). got 0 at) o n)) < 256 ^ sizeFor bit
+    go (got v n) = there (hasBit w bit) n
+    go (bad m p) = none
+
+-- what is answered of an option after a field
+pub value-read : (w bit : ℕ) (o : List ℕ) (x : Read ℕ) {y : Read ℕ} → Octets o → y ≡ past (optionAt w bit) o x
+    → (y ≡ past (optionAt w bit) o x) × (numberOf y < 256 ^ sizeFor bit)
+value-read w bit o x l e = (e, rw e (option-fits w bit o x l))
+
+-- readers one after another, and what is made of their numbers
+unfoldable pub inOrder : {A : Type 0} → List (Reader ℕ) → (List ℕ → A) → Reader A
+inOrder [] f = give (f [])
+inOrder (r ∷ rs) f = r >>= (λ v. inOrder rs (λ l. f (v ∷ l)))
+
+-- the same, each called on what the one before it came to
+module _ (o : List ℕ) where
+  unfoldable pub numbers : List (Reader ℕ) → Read ℕ → List ℕ
+  numbers [] x = []
+  numbers (r ∷ rs) x = numberOf (past r o x) ∷ numbers rs (past r o x)
+
+  unfoldable pub last : List (Reader ℕ) → Read ℕ → Read ℕ
+  last [] x = x
+  last (r ∷ rs) x = last rs (past r o x)
+
+  last-bad : (rs : List (Reader ℕ)) (n p : ℕ) → last rs (bad n p) ≡ bad n p
+  unfolding last past continue
+  last-bad [] n p = refl
+  last-bad (r ∷ rs) n p = last-bad rs n p
+
+  pub chained : {A : Type 0} (rs : List (Reader ℕ)) (f : List ℕ → A) (x : Read ℕ) → past (inOrder rs f) o x ≡ past (give (f (numbers rs x))) o (last rs x)
+  unfolding inOrder numbers last past continue _>>=_
+  chained [] f x = refl
+  chained (r ∷ rs) f (bad n p) = rw (last-bad rs n p)
+  chained {A} (r ∷ rs) f (got v n) = go (r o n) (chained rs)
+    where
+      go : (y : Read ℕ) → ((f : List ℕ → A) (x : Read ℕ) → past (inOrder rs f) o x ≡ past (give (f (numbers rs x))) o (last rs x))
+          → continue y (λ v n. inOrder rs (λ l. f (v ∷ l)) o n) ≡ continue (last rs y) (λ n next. give (f (numberOf y ∷ numbers rs y)) o next)
+      go (got v n) h = h (λ l. f (v ∷ l)) (got v n)
+      go (bad m p) h = rw (last-bad rs m p)
+
+-- the eight options' values
+abbrev pub valuesOf : List ℕ → Values
+valuesOf l = record {
+  transit = getD l 0 0;
+  stub = getD l 1 0;
+  «minimum_speed» = getD l 2 0;
+  «maximum_speed» = getD l 3 0;
+  domain = getD l 4 0;
+  node = getD l 5 0;
+  diameter = getD l 6 0;
+  «time_zone» = getD l 7 0;
+}
+
+abbrev pub numbersOf : List (Read ℕ) → List ℕ
+numbersOf l = map numberOf l
+
+pub values-chained : (w : ℕ) (o : List ℕ) (at : ℕ) {t s l g d n m z : Read ℕ}
+    → t ≡ past (optionAt w 0x8000) o (got 0 at) → s ≡ past (optionAt w 0x4000) o t
+    → l ≡ past (optionAt w 0x2000) o s → g ≡ past (optionAt w 0x1000) o l
+    → d ≡ past (optionAt w 0x0800) o g → n ≡ past (optionAt w 0x0400) o d
+    → m ≡ past (optionAt w 0x0200) o n → z ≡ past (optionAt w 0x0100) o m
+    → values w o at ≡ past (give (valuesOf (numbersOf (t ∷ s ∷ l ∷ g ∷ d ∷ n ∷ m ∷ z ∷ [])))) o z
+unfolding values optional present sizeOf bitOf inOrder numbers last optionAt past continue _>>=_
+values-chained w o at et es el eg ed en em ez =
+    rw (ez, em, en, ed, eg, el, es, et)
+    (chained o (optionAt w 0x8000 ∷ optionAt w 0x4000 ∷ optionAt w 0x2000 ∷ optionAt w 0x1000
+    ∷ optionAt w 0x0800 ∷ optionAt w 0x0400 ∷ optionAt w 0x0200 ∷ optionAt w 0x0100 ∷ []) valuesOf (got 0 at))
+
+-- by the last of them
+module _ {A : Type 0} (a : A) (o : List ℕ) {x : Read A} {f : Field} (e : x ≡ past (give a) o (fieldOf f)) where
+  pub past-got : {v n : ℕ} → f ≡ Got v n → x ≡ got a n
+  unfolding past continue give
+  past-got h = e ∙ rw h
+
+  pub past-cut : {p : ℕ} → f ≡ Short p → x ≡ bad 6 (placeOf (fieldOf f))
+  unfolding past continue
+  past-cut h = e ∙ rw h
 
 -- ---- the first octet and the length
 

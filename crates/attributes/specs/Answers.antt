@@ -1,64 +1,43 @@
 -- What the answers of this crate's calls mean: 01's number and values for each case; and the parts in which the code reads an attribute.
---     readBy, valuesBy              what reading an attribute finds, and its values
---     hasBit, optionAt              a bit of a word, and an option's value by its bit and its size
---     wideValues, oneOctetValues    the values of more than an octet, and those of one
+--     readBy                        what reading an attribute finds
+--     sizeFor, sizeBy, optionAt     an option by its bit: how many octets it has, how many of them a word of option bits gives it, its value
+--     past, numberOf                a reader that goes on where a field ended, and hands a fault on; the number that was read
 --     fieldsAfter, valuesAfter      what follows the length, and what follows the option bits
 -- Assumes nothing: these are definitions.
-use Prim.Native.Nat.{ℕ, _+_, _-_, _/_, _%_}
+use Prim.Native.Nat.{ℕ, _+_, _-_}
 use mathlib.Core.Bool.{Bool, cond}
-use lib.Dec.{eqb}
-use Rattle.format.specs.Reader.{Read, Reader, got, bad, _>>=_, _>>_, give, octets, number, must}
-use Rattle.attributes.specs.Options.{transit, stub, minimumSpeed, maximumSpeed, domain, node, diameter, timeZone, sizes}
-use Rattle.attributes.specs.Attribute.{lengthAgrees, optional, values}
+use mathlib.Core.List.{List}
+use lib.Dec.{leb}
+use Rattle.format.specs.Reader.{Read, Reader, got, bad, continue, _>>=_, _>>_, give, octets, number, must}
+use Rattle.attributes.specs.Options.{hasBit, sizes}
+use Rattle.attributes.specs.Attribute.{lengthAgrees, values}
 use Rattle.attributes.specs.declared.Attribute.{Attribute}
 use Rattle.attributes.specs.declared.Fixed.{Fixed}
-use Rattle.attributes.specs.declared.Values.{Values}
 use Rattle.attributes.specs.declared.AttributeRead.{AttributeRead}
 use Rattle.attributes.specs.declared.AttributeRead.the-variants.{Is, Refused}
-use Rattle.attributes.specs.declared.ValuesRead.{ValuesRead}
-use Rattle.attributes.specs.declared.ValuesRead.the-variants.{All, Short}
 
 unfoldable pub readBy : AttributeRead → Read Attribute
 readBy (Is a next) = got a next
 readBy (Refused r) = bad (r .number) (r .place)
 
-unfoldable pub valuesBy : ValuesRead → Read Values
-valuesBy (All v next) = got v next
-valuesBy (Short place) = bad 6 place
+-- the options of four octets have the highest bits, then come those of two
+abbrev pub sizeFor : ℕ → ℕ
+sizeFor bit = cond (leb 0x4000 bit) 4 (cond (leb 0x1000 bit) 2 1)
 
-unfoldable pub hasBit : ℕ → ℕ → Bool
-hasBit w bit = eqb (w / bit % 2) 1
+abbrev pub sizeBy : ℕ → ℕ → ℕ
+sizeBy w bit = cond (hasBit w bit) (sizeFor bit) 0
 
 -- 0 where it is not present
-unfoldable pub optionAt : ℕ → ℕ → ℕ → Reader ℕ
-optionAt k w bit = cond (hasBit w bit) (number k) (give 0)
+unfoldable pub optionAt : ℕ → ℕ → Reader ℕ
+optionAt w bit = cond (hasBit w bit) (number (sizeFor bit)) (give 0)
 
-unfoldable pub wideValues : ℕ → Reader Values
-wideValues w = do
-  t ← optional w transit
-  s ← optional w stub
-  least ← optional w minimumSpeed
-  greatest ← optional w maximumSpeed
-  give (record { transit = t; stub = s; «minimum_speed» = least; «maximum_speed» = greatest; domain = 0; node = 0; diameter = 0; «time_zone» = 0 })
+unfoldable pub past : {A : Type 0} → Reader A → List ℕ → Read ℕ → Read A
+past r o x = continue x (λ n next. r o next)
 
--- after the others
-unfoldable pub oneOctetValues : ℕ → Values → Reader Values
-oneOctetValues w v = do
-  d ← optional w domain
-  n ← optional w node
-  diam ← optional w diameter
-  z ← optional w timeZone
-  give
-      (record {
-        transit = v .transit;
-        stub = v .stub;
-        «minimum_speed» = v .«minimum_speed»;
-        «maximum_speed» = v .«maximum_speed»;
-        domain = d;
-        node = n;
-        diameter = diam;
-        «time_zone» = z;
-      })
+-- of a fault 0
+abbrev pub numberOf : Read ℕ → ℕ
+numberOf (got n next) = n
+numberOf (bad n place) = 0
 
 -- the values, then k octets that are ignored
 unfoldable pub valuesAfter : Fixed → ℕ → Reader Attribute

@@ -2,8 +2,8 @@
 -- greatest speed 2, domain 1, node 1, diameter 1, time zone 1".
 --     Option                 the options
 --     bitOf, sizeOf          an option's bit, and how many octets it has
---     present                whether a word of option bits has an option's
---     sizes                  the octets of the options present
+--     hasBit, present        whether a word has a bit, and whether a word of option bits has an option's
+--     sizeIn, sizes          the octets of an option, none where it is not present; those of all options
 --     unallocated            whether a bit is set that no option has
 -- Assumes nothing: these are definitions.
 use Prim.Native.Nat.{ℕ, _+_, _/_, _%_}
@@ -41,8 +41,11 @@ sizeOf node = 1
 sizeOf diameter = 1
 sizeOf timeZone = 1
 
+unfoldable pub hasBit : ℕ → ℕ → Bool
+hasBit w bit = eqb (w / bit % 2) 1
+
 unfoldable pub present : ℕ → Option → Bool
-present w i = eqb (w / bitOf i % 2) 1
+present w i = hasBit w (bitOf i)
 
 unfoldable pub sizeIn : ℕ → Option → ℕ
 sizeIn w i = cond (present w i) (sizeOf i) 0

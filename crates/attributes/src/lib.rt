@@ -2,14 +2,13 @@
 // Both calls are total; what they answer is a definition of specs/. First the speeds, then an attribute: its
 // options' values, its other fields, the whole. Merging and writing are in `popcount`.
 ghost use mathlib.Core.Path.{_≡_};
-ghost use mathlib.Core.Bool.{cond};
 ghost use Prim.Native.Nat.{_*_, _^_, _≤_, _<_, min};
 ghost use Rattle.octets.specs.Field.{fieldOf, placeOf};
-ghost use Rattle.format.specs.Reader.{bad};
+ghost use Rattle.format.specs.Reader.{bad, number};
 ghost use Rattle.attributes.specs.Speed.{order, compared};
-ghost use Rattle.attributes.specs.Options.{sizes};
-ghost use Rattle.attributes.specs.Attribute.{lengthAgrees, values, attributeFields, attribute};
-ghost use Rattle.attributes.specs.Answers.{readBy, valuesBy, hasBit, optionAt, wideValues, fieldsAfter, valuesAfter};
+ghost use Rattle.attributes.specs.Options.{hasBit, sizes};
+ghost use Rattle.attributes.specs.Attribute.{lengthAgrees, attributeFields, attribute};
+ghost use Rattle.attributes.specs.Answers.{readBy, sizeFor, sizeBy, optionAt, past, numberOf, fieldsAfter, valuesAfter};
 use format::Refusal;
 use octets::Field;
 
@@ -68,14 +67,6 @@ struct Fixed {
     options: u16,
 }
 
-// What reading the options' values finds.
-enum ValuesRead {
-    // The values, and the place past them.
-    All(Values, usize),
-    // The octets end in or before the value that was due at this place.
-    Short(usize),
-}
-
 // How one speed stands to another.
 pub enum Order {
     Less,
@@ -132,134 +123,83 @@ pub fn compare_speeds(a: u16, b: u16) -> Order
 
 // Whether a word of option bits has a bit.
 fn has_bit(options: u16, bit: u16) -> bool
-    requires { ⌜ 0 < bit ⌝ }
     ensures { λ r. ⌜ r ≡ hasBit options bit ⌝ }
 {
+    if bit == 0 {
+        return false;
+    }
     options / bit % 2 == 1
 }
 
+// How many octets an option has, by its bit.
+fn size_for(bit: u16) -> u32
+    ensures { λ r. ⌜ (r ≡ sizeFor bit) × (r ≤ 4) ⌝ }
+{
+    if bit >= STUB {
+        return 4;
+    }
+    if bit >= MAXIMUM_SPEED {
+        return 2;
+    }
+    1
+}
+
 // The octets of an option: none where it is not present.
-fn size_in(options: u16, bit: u16, size: u32) -> u32
-    requires { ⌜ 0 < bit ⌝ }
-    ensures { λ r. ⌜ (r ≡ cond (hasBit options bit) size 0) × (r ≤ size) ⌝ }
+pub fn size_in(options: u16, bit: u16) -> u32
+    ensures { λ r. ⌜ (r ≡ sizeBy options bit) × (r ≤ 4) ⌝ }
 {
     if has_bit(options, bit) {
-        return size;
+        return size_for(bit);
     }
     0
 }
 
 // The octets of the options present.
 pub fn sizes(options: u16) -> u32
-    ensures { λ r. ⌜ (r ≡ sizes options) × (r ≤ 16) ⌝ }
+    ensures { λ r. ⌜ (r ≡ sizes options) × (r ≤ 32) ⌝ }
 {
-    let counts = size_in(options, TRANSIT, 4) + size_in(options, STUB, 4);
-    let speeds = size_in(options, MINIMUM_SPEED, 2) + size_in(options, MAXIMUM_SPEED, 2);
-    let domain = size_in(options, DOMAIN, 1) + size_in(options, NODE, 1);
-    let diameter = size_in(options, DIAMETER, 1) + size_in(options, TIME_ZONE, 1);
+    let counts = size_in(options, TRANSIT) + size_in(options, STUB);
+    let speeds = size_in(options, MINIMUM_SPEED) + size_in(options, MAXIMUM_SPEED);
+    let domain = size_in(options, DOMAIN) + size_in(options, NODE);
+    let diameter = size_in(options, DIAMETER) + size_in(options, TIME_ZONE);
     counts + speeds + domain + diameter
 }
 
-// An option's value in one octet: 0 where it is not present.
-fn optional8(o: &[u8], at: usize, options: u16, bit: u16) -> Field
-    requires { ⌜ 0 < bit ⌝ }
-    ensures { λ r. ⌜ fieldOf r ≡ optionAt 1 options bit (now (o .entry)) at ⌝ }
+// The number that an option's octets spell.
+fn number_for(o: &[u8], at: usize, bit: u16) -> Field
+    ensures { λ r. ⌜ fieldOf r ≡ number (sizeFor bit) (now (o .entry)) at ⌝ }
 {
-    if has_bit(options, bit) {
-        return octets::read8(o, at);
-    }
-    Field::Got { value: 0, next: at }
-}
-
-// In two.
-fn optional16(o: &[u8], at: usize, options: u16, bit: u16) -> Field
-    requires { ⌜ 0 < bit ⌝ }
-    ensures { λ r. ⌜ fieldOf r ≡ optionAt 2 options bit (now (o .entry)) at ⌝ }
-{
-    if has_bit(options, bit) {
-        return octets::read16(o, at);
-    }
-    Field::Got { value: 0, next: at }
-}
-
-// In four.
-fn optional32(o: &[u8], at: usize, options: u16, bit: u16) -> Field
-    requires { ⌜ 0 < bit ⌝ }
-    ensures { λ r. ⌜ fieldOf r ≡ optionAt 4 options bit (now (o .entry)) at ⌝ }
-{
-    if has_bit(options, bit) {
+    if bit >= STUB {
         return octets::read32(o, at);
     }
-    Field::Got { value: 0, next: at }
+    if bit >= MAXIMUM_SPEED {
+        return octets::read16(o, at);
+    }
+    octets::read8(o, at)
 }
 
-// The values of more than an octet, which come first.
-fn wide_values(o: &[u8], at: usize, options: u16) -> ValuesRead
-    ensures { λ r. ⌜ valuesBy r ≡ wideValues options (now (o .entry)) at ⌝ }
+// An option's value after a field: 0 where the option is not present. A field that is cut is handed on.
+fn value_after(o: &[u8], field: Field, options: u16, bit: u16) -> Field
+    ensures value { λ r. ⌜ fieldOf r ≡ past (optionAt options bit) (now (o .entry)) (fieldOf field) ⌝ }
+    ensures fits { λ r. ⌜ numberOf (fieldOf r) < 256 ^ sizeFor bit ⌝ }
 {
-    let mut v = Values {
-        transit: 0,
-        stub: 0,
-        minimum_speed: 0,
-        maximum_speed: 0,
-        domain: 0,
-        node: 0,
-        diameter: 0,
-        time_zone: 0,
+    let Field::Got { value: _, next } = field else {
+        return field;
     };
-    let t = optional32(o, at, options, TRANSIT);
-    let Field::Got { value, next } = t else {
-        return ValuesRead::Short(octets::place(t));
-    };
-    v.transit = value;
-    let s = optional32(o, next, options, STUB);
-    let Field::Got { value, next } = s else {
-        return ValuesRead::Short(octets::place(s));
-    };
-    v.stub = value;
-    let l = optional16(o, next, options, MINIMUM_SPEED);
-    let Field::Got { value, next } = l else {
-        return ValuesRead::Short(octets::place(l));
-    };
-    v.minimum_speed = value as u16;
-    let g = optional16(o, next, options, MAXIMUM_SPEED);
-    let Field::Got { value, next } = g else {
-        return ValuesRead::Short(octets::place(g));
-    };
-    v.maximum_speed = value as u16;
-    ValuesRead::All(v, next)
+    if has_bit(options, bit) {
+        return number_for(o, next, bit);
+    }
+    Field::Got { value: 0, next }
 }
 
-// All values: those of one octet after the others.
-fn all_values(o: &[u8], at: usize, options: u16) -> ValuesRead
-    ensures { λ r. ⌜ valuesBy r ≡ values options (now (o .entry)) at ⌝ }
+// The number of a field: 0 where it is cut.
+fn number_of(f: Field) -> u32
+    ensures { λ r. ⌜ r ≡ numberOf (fieldOf f) ⌝ }
 {
-    let w = wide_values(o, at, options);
-    let ValuesRead::All(wide, next) = w else {
-        return w;
-    };
-    let mut v = wide;
-    let f = optional8(o, next, options, DOMAIN);
-    let Field::Got { value, next } = f else {
-        return ValuesRead::Short(octets::place(f));
-    };
-    v.domain = value as u8;
-    let n = optional8(o, next, options, NODE);
-    let Field::Got { value, next } = n else {
-        return ValuesRead::Short(octets::place(n));
-    };
-    v.node = value as u8;
-    let m = optional8(o, next, options, DIAMETER);
-    let Field::Got { value, next } = m else {
-        return ValuesRead::Short(octets::place(m));
-    };
-    v.diameter = value as u8;
-    let z = optional8(o, next, options, TIME_ZONE);
-    let Field::Got { value, next } = z else {
-        return ValuesRead::Short(octets::place(z));
-    };
-    v.time_zone = value as u8;
-    ValuesRead::All(v, next)
+    match f {
+        Field::Got { value, next: _ } => value,
+        Field::Short { place: _ } => 0,
+    }
 }
 
 // A refusal, by 01's number and the place.
@@ -280,24 +220,41 @@ fn cut(f: Field) -> AttributeRead
 fn values_after(o: &[u8], at: usize, fixed: Fixed, ignored: u32) -> AttributeRead
     ensures { λ r. ⌜ readBy r ≡ valuesAfter fixed ignored (now (o .entry)) at ⌝ }
 {
-    let v = all_values(o, at, fixed.options);
-    match v {
-        ValuesRead::Short(place) => bad(6, place),
-        ValuesRead::All(values, next) => {
-            let f = octets::skip(o, next, ignored as usize);
-            let Field::Got { value: _, next } = f else {
-                return cut(f);
-            };
-            let a = Attribute {
-                e: fixed.e,
-                mtu: fixed.mtu,
-                flags: fixed.flags,
-                options: fixed.options,
-                values,
-            };
-            AttributeRead::Is(a, next)
-        }
-    }
+    let w = fixed.options;
+    let start = Field::Got { value: 0, next: at };
+    let transit = value_after(o, start, w, TRANSIT);
+    let stub = value_after(o, transit, w, STUB);
+    let minimum = value_after(o, stub, w, MINIMUM_SPEED);
+    let maximum = value_after(o, minimum, w, MAXIMUM_SPEED);
+    let domain = value_after(o, maximum, w, DOMAIN);
+    let node = value_after(o, domain, w, NODE);
+    let diameter = value_after(o, node, w, DIAMETER);
+    let zone = value_after(o, diameter, w, TIME_ZONE);
+    let Field::Got { value: _, next } = zone else {
+        return cut(zone);
+    };
+    let f = octets::skip(o, next, ignored as usize);
+    let Field::Got { value: _, next } = f else {
+        return cut(f);
+    };
+    let values = Values {
+        transit: number_of(transit),
+        stub: number_of(stub),
+        minimum_speed: number_of(minimum) as u16,
+        maximum_speed: number_of(maximum) as u16,
+        domain: number_of(domain) as u8,
+        node: number_of(node) as u8,
+        diameter: number_of(diameter) as u8,
+        time_zone: number_of(zone) as u8,
+    };
+    let a = Attribute {
+        e: fixed.e,
+        mtu: fixed.mtu,
+        flags: fixed.flags,
+        options: w,
+        values,
+    };
+    AttributeRead::Is(a, next)
 }
 
 // Whether a length is one that the options may have: exactly theirs, or more where an unallocated bit is set.

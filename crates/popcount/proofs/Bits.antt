@@ -11,7 +11,7 @@ use native.Mathlib.Nat.{mod-lt, zero-lt-suc, div-div-eq-div-mul}
 use native.Mathlib.Omega.{arith}
 use lib.Bits.{bitAnd, and-step, and-shr, and-mod, and-le-l, and-zero-l}
 use lib.Dec.{eqb, lit<}
-use Rattle.attributes.specs.Options.{Option, transit, stub, minimumSpeed, maximumSpeed, domain, node, diameter, timeZone, bitOf, present}
+use Rattle.attributes.specs.Options.{Option, transit, stub, minimumSpeed, maximumSpeed, domain, node, diameter, timeZone, bitOf, hasBit, present}
 use Rattle.popcount.specs.Rules.{pFlag, otherFlags}
 
 -- ---- one bit
@@ -35,7 +35,7 @@ bit-and : (k a b : ℕ) → eqb (bitAnd a b / 2 ^ k % 2) 1 ≡ (eqb (a / 2 ^ k %
 bit-and k a b = rw (and-shr, low-and) (test-and (a / 2 ^ k % 2) (b / 2 ^ k % 2) (mod-lt (a / 2 ^ k) (zero-lt-suc 1)) (mod-lt (b / 2 ^ k) (zero-lt-suc 1)))
 
 pub present-and : (i : Option) (a b : ℕ) → present (bitAnd a b) i ≡ (present a i && present b i)
-unfolding present bitOf
+unfolding present hasBit bitOf
 present-and transit a b = bit-and 15 a b
 present-and stub a b = bit-and 14 a b
 present-and minimumSpeed a b = bit-and 13 a b
@@ -90,7 +90,7 @@ join : (w a b c d e f g h k m n p q s : ℕ) → w ≡ 512 * a → a ≡ 2 * b +
 join w a b c d e f g h k m n p q s e₁ e₂ e₃ e₄ e₅ e₆ e₇ e₈ e₉ = omega arith
 
 pub spelt-is : (w : ℕ) → Mergeable w → w ≡ spelt (present w)
-unfolding spelt present bitOf
+unfolding spelt present hasBit bitOf
 spelt-is w m =
     rw (b 0x8000, b 0x4000, b 0x2000, b 0x1000, b 0x0400, b 0x0200)
     (join w _ _ _ _ _ _ _ _ _ _ _ _ _ _ (whole w (m .low)) (digit w 0x0200) (digit w 0x0400) (digit w 0x0800) (m .middle)

@@ -22,7 +22,7 @@ use Rattle.format.specs.Reader.{Read, got, bad, continue, _>>=_ as _>>>=_, _>>_
 use Rattle.format.proofs.Outcomes.{no-refusal, gives-same}
 use Rattle.format.proofs.Readers.{At, Reads}
 use Rattle.attributes.specs.Speed.{size}
-use Rattle.attributes.specs.Options.{Option, transit, stub, minimumSpeed, maximumSpeed, domain, node, diameter, timeZone, sizeOf, bitOf, present}
+use Rattle.attributes.specs.Options.{Option, transit, stub, minimumSpeed, maximumSpeed, domain, node, diameter, timeZone, sizeOf, bitOf, hasBit, present}
 use Rattle.attributes.specs.Attribute.{isPopCount, lengthAgrees, optional, values, attributeFields, attribute, attributeOctets}
 use Rattle.attributes.specs.Written.{valueOf, Given, Written}
 use Rattle.attributes.specs.declared.Attribute.{Attribute}
@@ -95,7 +95,7 @@ module _ (own : Own) (fit : OwnFits own) (l : List Attribute) (every : Every (λ
       (own .«maximum_speed») l (fit .maximum) (every-of (λ a s. s .maximum) l every)
 
   values-written : (i : Option) → Given (mergedOptions l) i (valueOf (mergedValues own l) i)
-  unfolding valueOf mergedValues mergedTransit mergedStub mergedNode mergedDiameter total sizeOf present bitOf
+  unfolding valueOf mergedValues mergedTransit mergedStub mergedNode mergedDiameter total sizeOf present hasBit bitOf
   values-written transit = given transit refl l _ (at-most-fits 0xffff_ffff _ _ (lit< tt))
   values-written stub = given stub refl l _ (at-most-fits 0xffff_ffff _ _ (lit< tt))
   values-written minimumSpeed = given minimumSpeed refl l _ minimum-fits

@@ -15,7 +15,7 @@ use lib.Bits.{bitAnd, bitOr}
 use lib.Dec.{ltb, lit<, lit≤}
 use Rattle.octets.specs.Octets.{be}
 use Rattle.attributes.specs.Speed.{order}
-use Rattle.attributes.specs.Options.{Option, transit, stub, minimumSpeed, maximumSpeed, domain, node, diameter, timeZone, bitOf, sizeOf, present}
+use Rattle.attributes.specs.Options.{Option, transit, stub, minimumSpeed, maximumSpeed, domain, node, diameter, timeZone, bitOf, sizeOf, hasBit, present}
 use Rattle.attributes.specs.Attribute.{optionOctets, valuesOctets, attributeOctets}
 use Rattle.attributes.specs.declared.Attribute.{Attribute}
 use Rattle.attributes.specs.declared.Order.{Order}
@@ -84,7 +84,7 @@ mergeable-joined : (l : List Attribute) → Mergeable (joined l)
 mergeable-joined l = mergeable-left l 0xf600 (record { short = lit< tt; low = refl; middle = refl })
 
 pub options-are : (l : List Attribute) → joined l ≡ mergedOptions l
-unfolding mergedOptions ifGiven spelt bitOf present
+unfolding mergedOptions ifGiven spelt bitOf present hasBit
 options-are l = spelt-is (joined l) (mergeable-joined l) ∙ ap spelt (fun-ext (λ i. present-left i l 0xf600)) ∙ refl
 
 pub mergeable-merged : (l : List Attribute) → Mergeable (mergedOptions l)
@@ -172,7 +172,7 @@ module _ (own : Own) (l : List Attribute) where
         ∙ stays 0xffff_ffff (own .stub) (map (λ a. a .values .stub) l) (fit .stub)
 
     values-same : valuesOctets (mergedOptions l) (attributeOf true (all own l) .values) ≡ valuesOctets (mergedOptions l) (mergedValues own l)
-    unfolding valuesOctets attributeOf mergedValues bitOf present
+    unfolding valuesOctets attributeOf mergedValues bitOf present hasBit
     values-same =
         ap₂ _++_ (option-same transit refl l transit-is)
         (ap₂ _++_ (option-same stub refl l stub-is)

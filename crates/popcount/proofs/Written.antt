@@ -1,27 +1,21 @@
 -- What stands in the buffer while an attribute is written.
 --     Lowest                                    the loop of a number's octets, from the last to the first: lowest-start, lowest-step, lowest-end
---     option-there, option-absent               an option's octets, by its bit
---     from1 .. from8, values-are                the options in order, from each on; these are all
---     Left                                      octets one after another, what is still to be written gives the whole: left-start, left-room,
---                                               left-step, left-last, left-end; of a number left-number, left-number-room
---     after0 .. after6, attribute-is            an attribute past so many octets; this is all
+--     put-after                                 a number, and what is written after it
+--     values-are                                the options in order, each by its bit
 -- Assumes nothing.
 use mathlib.Core.Path.{_≡_, refl, sym, ap, _∙_}
-use mathlib.Core.Bool.{cond}
+use mathlib.Core.Bool.{Bool, true, false, cond}
 use mathlib.Core.List.{List, [], _∷_, _++_}
 use Prim.Native.Nat.{ℕ, suc, _+_, _/_, _%_, _^_, _≤_}
 use native.Mathlib.Nat.{add-zero, div-one, div-div-eq-div-mul, pow-suc}
 use native.Mathlib.Omega.{arith}
-use lib.ListN.{length, set, length-append}
-use borrow.Author.Tests.{eq-eqb, ne-eqb}
-use Rattle.octets.specs.Octets.{be, put}
-use Rattle.octets.proofs.Laws.{be-suc, length-be, put-nil, put-put, put-before, length-put, stores-put}
-use Rattle.attributes.specs.Answers.{hasBit}
-use Rattle.attributes.specs.Options.{bitOf, sizeOf, present, sizes}
-use Rattle.attributes.specs.Attribute.{optionOctets, valuesOctets, attributeOctets}
-use Rattle.attributes.specs.declared.Attribute.{Attribute}
+use lib.ListN.{length, set}
+use Rattle.octets.specs.Octets.{be, put, _&_}
+use Rattle.octets.proofs.Laws.{be-suc, length-be, put-nil, put-next, put-before, length-put, stores-put}
+use Rattle.attributes.specs.Answers.{sizeBy}
+use Rattle.attributes.specs.Options.{Option, bitOf, sizeOf, present, sizeIn}
+use Rattle.attributes.specs.Attribute.{optionOctets, valuesOctets}
 use Rattle.attributes.specs.declared.Values.{Values}
-use Rattle.popcount.specs.Tally.{optionField}
 
 -- ---- a number, from its last octet to its first
 
@@ -71,103 +65,27 @@ module _ {d₀ : List ℕ} {at k n : ℕ} {d : List ℕ} {rest i : ℕ} (l : Low
       let all : l .done ≡ k = omega (arith, l .place) in
       rw (here, all) at (l .stands)
 
--- ---- an option
+-- ---- numbers one after another
 
-module _ (w bit k n : ℕ) where
-  pub option-there : w / bit % 2 ≡ 1 → optionField w bit k n ≡ be k n
-  unfolding hasBit
-  option-there e = rw (eq-eqb _ 1 e)
+-- a number, and what a later call writes where it ends
+pub put-after : (l : List ℕ) (at k n : ℕ) (f : List ℕ) {m p : List ℕ} {q : ℕ} → m ≡ put l at (be k n) → q ≡ at + k → p ≡ put m q f
+    → p ≡ put l at (be k n ++ f)
+put-after l at k n f e h g = put-next l at (be k n) f e g (rw length-be h)
 
-  pub option-absent : (w / bit % 2 ≡ 1 → ⊥) → optionField w bit k n ≡ []
-  unfolding hasBit
-  option-absent h = rw (ne-eqb _ 1 h)
+option-is : (w : ℕ) (i : Option) (n : ℕ) → optionOctets w i n ≡ be (sizeIn w i) n
+unfolding optionOctets sizeIn be
+option-is w i n = go (present w i)
+  where
+    go : (b : Bool) → cond b (be (sizeOf i) n) [] ≡ be (cond b (sizeOf i) 0) n
+    go true = refl
+    go false = refl
 
--- ---- the options in order, from each on
-
-abbrev pub from8 : ℕ → Values → List ℕ
-from8 w v = optionField w 0x0100 1 (v .«time_zone»)
-
-abbrev pub from7 : ℕ → Values → List ℕ
-from7 w v = optionField w 0x0200 1 (v .diameter) ++ from8 w v
-
-abbrev pub from6 : ℕ → Values → List ℕ
-from6 w v = optionField w 0x0400 1 (v .node) ++ from7 w v
-
-abbrev pub from5 : ℕ → Values → List ℕ
-from5 w v = optionField w 0x0800 1 (v .domain) ++ from6 w v
-
-abbrev pub from4 : ℕ → Values → List ℕ
-from4 w v = optionField w 0x1000 2 (v .«maximum_speed») ++ from5 w v
-
-abbrev pub from3 : ℕ → Values → List ℕ
-from3 w v = optionField w 0x2000 2 (v .«minimum_speed») ++ from4 w v
-
-abbrev pub from2 : ℕ → Values → List ℕ
-from2 w v = optionField w 0x4000 4 (v .stub) ++ from3 w v
-
-abbrev pub from1 : ℕ → Values → List ℕ
-from1 w v = optionField w 0x8000 4 (v .transit) ++ from2 w v
-
-pub values-are : (w : ℕ) (v : Values) → valuesOctets w v ≡ from1 w v
-unfolding valuesOctets optionOctets present bitOf sizeOf hasBit
-values-are w v = refl
-
--- ---- octets one after another
-
-pub record Left (d₀ : List ℕ) (start : ℕ) (whole d : List ℕ) (at : ℕ) (rest : List ℕ) : Type 0 where
-  pub room : start + length whole ≤ length d₀
-  pub same : length d ≡ length d₀
-  pub place : at + length rest ≡ start + length whole
-  pub gives : put d at rest ≡ put d₀ start whole
-
-pub left-start : (d : List ℕ) (at : ℕ) (whole : List ℕ) → at + length whole ≤ length d → Left d at whole d at whole
-left-start d at whole h = record { room = h; same = refl; place = refl; gives = refl }
-
-module _ {d₀ : List ℕ} {start : ℕ} {whole d : List ℕ} {at : ℕ} where
-  pub left-room : (e rest : List ℕ) → Left d₀ start whole d at (e ++ rest) → at + length e ≤ length d
-  left-room e rest l = omega (arith, l .room, l .same, l .place, length-append e rest)
-
-  pub left-step : (e rest : List ℕ) {d′ : List ℕ} {at′ : ℕ} → Left d₀ start whole d at (e ++ rest) → d′ ≡ put d at e → at′ ≡ at + length e
-      → Left d₀ start whole d′ at′ rest
-  left-step e rest l p q = record {
-    room = l .room;
-    same = ap length p ∙ length-put d at e (left-room e rest l) ∙ l .same;
-    place = omega (arith, l .place, length-append e rest);
-    gives = rw (p, q, put-put) (l .gives);
-  }
-
-  -- the last octets need not be followed by any
-  pub left-end : (e : List ℕ) {d′ : List ℕ} → Left d₀ start whole d at e → d′ ≡ put d at e → d′ ≡ put d₀ start whole
-  left-end e l p = p ∙ l .gives
-
-  pub left-last : (e : List ℕ) → Left d₀ start whole d at e → at + length e ≤ length d
-  left-last e l = omega (arith, l .room, l .same, l .place)
-
-  pub left-number-room : (k n : ℕ) (rest : List ℕ) → Left d₀ start whole d at (be k n ++ rest) → at + k ≤ length d
-  left-number-room k n rest l = rw length-be at (left-room (be k n) rest l)
-
-  pub left-number : (k n : ℕ) (rest : List ℕ) {d′ : List ℕ} {at′ : ℕ} → Left d₀ start whole d at (be k n ++ rest) → d′ ≡ put d at (be k n) → at′ ≡ at + k
-      → Left d₀ start whole d′ at′ rest
-  left-number k n rest l p q = left-step (be k n) rest l p (rw length-be q)
-
--- ---- an attribute, of which so many octets stand already
-
-module _ (a : Attribute) (size : ℕ) where
-  abbrev pub after6 : List ℕ
-  after6 = be 2 (a .options) ++ valuesOctets (a .options) (a .values)
-
-  abbrev pub after4 : List ℕ
-  after4 = be 2 (a .flags) ++ after6
-
-  abbrev pub after2 : List ℕ
-  after2 = be 2 (a .mtu) ++ after4
-
-  abbrev pub after1 : List ℕ
-  after1 = be 1 (6 + size) ++ after2
-
-  abbrev pub after0 : List ℕ
-  after0 = be 1 (cond (a .e) 0x43 0x03) ++ after1
-
-  pub attribute-is : size ≡ sizes (a .options) → attributeOctets a ≡ after0
-  unfolding attributeOctets
-  attribute-is e = rw (← e)
+-- the options in order, each by its bit
+pub values-are : (w : ℕ) (v : Values)
+    → valuesOctets w v
+    ≡ be (sizeBy w 0x8000) (v .transit) & be (sizeBy w 0x4000) (v .stub)
+    & be (sizeBy w 0x2000) (v .«minimum_speed») & be (sizeBy w 0x1000) (v .«maximum_speed»)
+    & be (sizeBy w 0x0800) (v .domain) & be (sizeBy w 0x0400) (v .node)
+    & be (sizeBy w 0x0200) (v .diameter) & be (sizeBy w 0x0100) (v .«time_zone»)
+unfolding valuesOctets sizeIn sizeOf present bitOf
+values-are w v = simp option-is

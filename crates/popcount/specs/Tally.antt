@@ -3,17 +3,14 @@
 --     attributeOf                  the attribute that a tally comes to
 --     tallied, tallyOf             what one pass over the contributors finds
 --     finishing                    the call once the contributors are tallied
---     optionField                  an option's octets, by its bit and its size
 -- Assumes nothing: these are definitions.
 use Prim.Native.Nat.{ℕ, _+_, min, max}
-use mathlib.Core.Bool.{Bool, cond}
-use mathlib.Core.List.{List, [], foldl}
+use mathlib.Core.Bool.{Bool}
+use mathlib.Core.List.{List, foldl}
 use lib.ListN.{length}
 use lib.Bits.{bitAnd, bitOr}
 use lib.Dec.{ltb}
-use Rattle.octets.specs.Octets.{be}
 use Rattle.format.specs.Outcome.{Outcome, gives, refuses, refuseIf, _>>=_, _>>_}
-use Rattle.attributes.specs.Answers.{hasBit}
 use Rattle.attributes.specs.Attribute.{attributeOctets}
 use Rattle.attributes.specs.declared.Attribute.{Attribute}
 use Rattle.popcount.specs.Rules.{pFlag, otherFlags, atMost, slower, faster}
@@ -85,6 +82,3 @@ unfoldable pub finishing : List ℕ → Attribute → MergingCall
 finishing d a = written d do
   refuseIf (ltb (length d) (length (attributeOctets a))) 8 0
   gives (attributeOctets a)
-
-abbrev pub optionField : ℕ → ℕ → ℕ → ℕ → List ℕ
-optionField w bit k n = cond (hasBit w bit) (be k n) []

@@ -3,14 +3,15 @@
 // the merged attribute, written; then the public call. It is total; what it answers is a definition of specs/.
 ghost use mathlib.Core.Path.{_≡_};
 ghost use mathlib.Core.Bool.{cond};
-ghost use Prim.Native.Nat.{_+_, _≤_, _<_, min, max};
+ghost use Prim.Native.Nat.{_+_, _≤_, min, max};
 ghost use lib.ListN.{length};
 ghost use Rattle.octets.specs.Octets.{put, be};
 ghost use Rattle.attributes.specs.Options.{sizes};
 ghost use Rattle.attributes.specs.Attribute.{attributeOctets, valuesOctets};
+ghost use Rattle.attributes.specs.Answers.{sizeBy};
 ghost use Rattle.popcount.specs.Rules.{atMost, slower, faster};
 ghost use Rattle.popcount.specs.Merging.{merging, lengthBy};
-ghost use Rattle.popcount.specs.Tally.{begun, counted, attributeOf, tallied, tallyOf, finishing, optionField};
+ghost use Rattle.popcount.specs.Tally.{begun, counted, attributeOf, tallied, tallyOf, finishing};
 pub use attributes::Attribute;
 pub use attributes::AttributeRead;
 pub use attributes::DIAMETER;
@@ -227,33 +228,31 @@ fn put_number(d: &mut [u8], at: usize, k: usize, n: u32)
     }
 }
 
-// An option, if its bit is set: the place past it.
-fn put_option(d: &mut [u8], at: usize, options: u16, bit: u16, size: usize, n: u32) -> usize
-    requires { ⌜ (0 < bit) × (at + length (optionField options bit size n) ≤ length (now d)) ⌝ }
-    ensures next { λ r. ⌜ r ≡ at + length (optionField options bit size n) ⌝ }
-    ensures buffer { λ _. ⌜ now (d .exit) ≡ put (now (d .entry)) at (optionField options bit size n) ⌝ }
+// An option, of which nothing is written where it is not present: the place past it.
+fn put_option(d: &mut [u8], at: usize, options: u16, bit: u16, n: u32) -> usize
+    requires { ⌜ at + sizeBy options bit ≤ length (now d) ⌝ }
+    ensures next { λ r. ⌜ r ≡ at + sizeBy options bit ⌝ }
+    ensures buffer { λ _. ⌜ now (d .exit) ≡ put (now (d .entry)) at (be (sizeBy options bit) n) ⌝ }
 {
-    if options / bit % 2 == 1 {
-        put_number(d, at, size, n);
-        return at + size;
-    }
-    at
+    let size = attributes::size_in(options, bit) as usize;
+    put_number(d, at, size, n);
+    at + size
 }
 
 // The options that are present, in order.
 fn put_values(d: &mut [u8], start: usize, options: u16, v: Values)
-    requires { ⌜ start + length (valuesOctets options v) ≤ length (now d) ⌝ }
+    requires { ⌜ start + sizes options ≤ length (now d) ⌝ }
     ensures { λ _. ⌜ now (d .exit) ≡ put (now (d .entry)) start (valuesOctets options v) ⌝ }
 {
     let mut at = start;
-    at = put_option(d, at, options, TRANSIT, 4, v.transit);
-    at = put_option(d, at, options, STUB, 4, v.stub);
-    at = put_option(d, at, options, MINIMUM_SPEED, 2, v.minimum_speed as u32);
-    at = put_option(d, at, options, MAXIMUM_SPEED, 2, v.maximum_speed as u32);
-    at = put_option(d, at, options, DOMAIN, 1, v.domain as u32);
-    at = put_option(d, at, options, NODE, 1, v.node as u32);
-    at = put_option(d, at, options, DIAMETER, 1, v.diameter as u32);
-    put_option(d, at, options, TIME_ZONE, 1, v.time_zone as u32);
+    at = put_option(d, at, options, TRANSIT, v.transit);
+    at = put_option(d, at, options, STUB, v.stub);
+    at = put_option(d, at, options, MINIMUM_SPEED, v.minimum_speed as u32);
+    at = put_option(d, at, options, MAXIMUM_SPEED, v.maximum_speed as u32);
+    at = put_option(d, at, options, DOMAIN, v.domain as u32);
+    at = put_option(d, at, options, NODE, v.node as u32);
+    at = put_option(d, at, options, DIAMETER, v.diameter as u32);
+    put_option(d, at, options, TIME_ZONE, v.time_zone as u32);
 }
 
 // F is 0, the type 3.
@@ -268,7 +267,7 @@ fn first_octet(e: bool) -> u32
 
 // An attribute, with the octets of its options, at the start of a buffer.
 fn put_attribute(d: &mut [u8], a: Attribute, size: usize)
-    requires { ⌜ (length (attributeOctets a) ≤ length (now d)) × (size ≡ sizes (a .options)) × (size ≤ 32) ⌝ }
+    requires { ⌜ (8 + size ≤ length (now d)) × (size ≡ sizes (a .options)) × (size ≤ 32) ⌝ }
     ensures { λ _. ⌜ now (d .exit) ≡ put (now (d .entry)) 0 (attributeOctets a) ⌝ }
 {
     let v = a.values;

@@ -34,7 +34,7 @@ returns c =
 put-attribute-requires : tie.Need-put-attribute-requires
 put-attribute-requires c κs =
     let s = c .before .before in
-    (omega (arith, c .before .if1 .left, long s), s .sizes-of .ensures .0, s .sizes-of .ensures .1)
+    (c .before .if1 .left, s .sizes-of .ensures .0, s .sizes-of .ensures .1)
 
 add-t4 : tie.Need-add-t4
 add-t4 c = search needs
