@@ -1,6 +1,6 @@
 -- Laws of the tally: field by field it is the fold of the rules over the contributors, and what is written of it is what is written of the
 -- merged attribute.
---     order-less                   what an order of speeds says of the test
+--     is-less                      what comparing two speeds says of the test
 --     fold-field                   a number of the tally, after all contributors
 --     sums-stay                    sums that stay at the maximum at each step are the sum that stays there at the end
 --     present-merged, options-are, mergeable-merged     the option bits
@@ -14,7 +14,7 @@ use native.Mathlib.Omega.{arith}
 use lib.Bits.{bitAnd, bitOr}
 use lib.Dec.{ltb, lit<, lit≤}
 use Rattle.octets.specs.Octets.{be}
-use Rattle.attributes.specs.Speed.{order}
+use Rattle.attributes.specs.Speed.{size, order, compared}
 use Rattle.attributes.specs.Options.{Option, transit, stub, minimumSpeed, maximumSpeed, domain, node, diameter, timeZone, bitOf, sizeOf, hasBit, present}
 use Rattle.attributes.specs.Attribute.{optionOctets, valuesOctets, attributeOctets}
 use Rattle.attributes.specs.declared.Attribute.{Attribute}
@@ -30,14 +30,15 @@ use Rattle.popcount.proofs.Bits.{present-and, Mergeable, mergeable-and,
 -- ---- speeds
 
 -- whether an order says less
-abbrev isLess : Order → Bool
+abbrev pub isLess : Order → Bool
 isLess Less = true
 isLess Equal = false
 isLess Greater = false
 
-pub order-less : (m n : ℕ) → isLess (order m n) ≡ ltb m n
-unfolding order
-order-less m n = go (ltb m n) (ltb n m)
+-- by what comparing two speeds answered
+pub is-less : (s t : ℕ) {o v : Order} → o ≡ compared s t → o ≡ v → isLess v ≡ ltb (size s) (size t)
+unfolding compared order
+is-less s t e h = ap isLess (sym h ∙ e) ∙ go (ltb (size s) (size t)) (ltb (size t) (size s))
   where
     go : (b d : Bool) → isLess (cond b Less (cond d Greater Equal)) ≡ b
     go true d = refl

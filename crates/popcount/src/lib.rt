@@ -5,11 +5,13 @@ ghost use mathlib.Core.Path.{_≡_};
 ghost use mathlib.Core.Bool.{cond};
 ghost use Prim.Native.Nat.{_+_, _≤_, min, max};
 ghost use lib.ListN.{length};
+ghost use lib.Dec.{ltb};
 ghost use Rattle.octets.specs.Octets.{put, be};
+ghost use Rattle.attributes.specs.Speed.{size};
 ghost use Rattle.attributes.specs.Options.{sizes};
 ghost use Rattle.attributes.specs.Attribute.{attributeOctets, valuesOctets};
 ghost use Rattle.attributes.specs.Answers.{sizeBy};
-ghost use Rattle.popcount.specs.Rules.{atMost, slower, faster};
+ghost use Rattle.popcount.specs.Rules.{atMost};
 ghost use Rattle.popcount.specs.Merging.{merging, lengthBy};
 ghost use Rattle.popcount.specs.Tally.{begun, counted, attributeOf, tallied, tallyOf, finishing};
 pub use attributes::Attribute;
@@ -86,46 +88,36 @@ fn greatest(a: u8, b: u8) -> u8
 }
 
 // A sum that stays at its field's maximum.
-fn sum32(a: u32, b: u32) -> u32
-    ensures { λ r. ⌜ r ≡ atMost 0xffff_ffff (a + b) ⌝ }
+fn sum(a: u32, b: u32, most: u32) -> u32
+    requires { ⌜ b ≤ most ⌝ }
+    ensures { λ r. ⌜ (r ≡ atMost most (a + b)) × (r ≤ most) ⌝ }
 {
-    if 0xffff_ffff - b < a {
-        return 0xffff_ffff;
+    if most - b < a {
+        return most;
     }
     a + b
 }
 
-fn sum8(a: u8, b: u8) -> u8
-    ensures { λ r. ⌜ r ≡ atMost 255 (a + b) ⌝ }
+// Whether the first of two speeds is less by exact size.
+fn is_slower(s: u16, t: u16) -> bool
+    ensures { λ r. ⌜ r ≡ ltb (size s) (size t) ⌝ }
 {
-    if 255 - b < a {
-        return 255;
-    }
-    a + b
-}
-
-// The slower of two speeds by exact size, the first where they are equal.
-fn slower(s: u16, t: u16) -> u16
-    ensures { λ r. ⌜ r ≡ slower s t ⌝ }
-{
-    let o = compare_speeds(t, s);
+    let o = compare_speeds(s, t);
     match o {
-        Order::Less => t,
-        Order::Equal => s,
-        Order::Greater => s,
+        Order::Less => true,
+        Order::Equal => false,
+        Order::Greater => false,
     }
 }
 
-// The faster, in the same way.
-fn faster(a: u16, b: u16) -> u16
-    ensures { λ r. ⌜ r ≡ faster a b ⌝ }
+// The second of two numbers if a test holds, else the first.
+fn second_if(test: bool, a: u16, b: u16) -> u16
+    ensures { λ r. ⌜ r ≡ cond test b a ⌝ }
 {
-    let o = compare_speeds(a, b);
-    match o {
-        Order::Less => b,
-        Order::Equal => a,
-        Order::Greater => a,
+    if test {
+        return b;
     }
+    a
 }
 
 // The six options that are merged are given where no contributor lacks them.
@@ -156,11 +148,19 @@ fn count(t: Tally, a: Attribute) -> Tally
         any: t.any | a.flags,
         all: t.all & a.flags,
         options: t.options & a.options,
-        transit: sum32(t.transit, v.transit),
-        stub: sum32(t.stub, v.stub),
-        minimum_speed: slower(t.minimum_speed, v.minimum_speed),
-        maximum_speed: faster(t.maximum_speed, v.maximum_speed),
-        node: sum8(t.node, v.node),
+        transit: sum(t.transit, v.transit, 0xffff_ffff),
+        stub: sum(t.stub, v.stub, 0xffff_ffff),
+        minimum_speed: second_if(
+            is_slower(v.minimum_speed, t.minimum_speed),
+            t.minimum_speed,
+            v.minimum_speed,
+        ),
+        maximum_speed: second_if(
+            is_slower(t.maximum_speed, v.maximum_speed),
+            t.maximum_speed,
+            v.maximum_speed,
+        ),
+        node: sum(t.node as u32, v.node as u32, 255) as u8,
         diameter: greatest(t.diameter, v.diameter),
     }
 }
@@ -195,7 +195,7 @@ fn attribute_of(e: bool, t: Tally) -> Attribute
         maximum_speed: t.maximum_speed,
         domain: 0,
         node: t.node,
-        diameter: sum8(t.diameter, 1),
+        diameter: sum(t.diameter as u32, 1, 255) as u8,
         time_zone: 0,
     };
     Attribute {
