@@ -12,8 +12,8 @@ use Rattle.octets.specs.Octets.{be}
 use Rattle.octets.proofs.Laws.{length-be}
 use Rattle.attributes.specs.Options.{Option, transit, stub, minimumSpeed, maximumSpeed, domain, node, diameter, timeZone, sizeOf, present, sizeIn, sizes}
 use Rattle.attributes.specs.Attribute.{optionOctets, valuesOctets, attributeOctets}
-use Rattle.attributes.specs.declared.Attribute.{Attribute}
-use Rattle.attributes.specs.declared.Values.{Values}
+use Rattle.attributes.specs.declared.read.Attribute.{Attribute}
+use Rattle.attributes.specs.declared.options.Values.{Values}
 
 size-most : (w : ℕ) (i : Option) → sizeIn w i ≤ sizeOf i
 unfolding sizeIn

@@ -27,11 +27,11 @@ use Rattle.format.specs.Reader.{Read, Reader, got, bad, continue, _>>=_, give, 
 use Rattle.attributes.specs.Options.{bitOf, sizeOf, hasBit, present, sizes, unallocated}
 use Rattle.attributes.specs.Attribute.{isPopCount, lengthAgrees, optional, values, attributeFields, attribute}
 use Rattle.attributes.specs.Answers.{readBy, sizeFor, optionAt, past, numberOf, valuesAfter, fieldsAfter}
-use Rattle.attributes.specs.declared.Attribute.{Attribute}
-use Rattle.attributes.specs.declared.Fixed.{Fixed}
-use Rattle.attributes.specs.declared.Values.{Values}
-use Rattle.attributes.specs.declared.AttributeRead.{AttributeRead}
-use Rattle.attributes.specs.declared.AttributeRead.the-variants.{Refused}
+use Rattle.attributes.specs.declared.read.Attribute.{Attribute}
+use Rattle.attributes.specs.declared.read.Fixed.{Fixed}
+use Rattle.attributes.specs.declared.options.Values.{Values}
+use Rattle.attributes.specs.declared.read.AttributeRead.{AttributeRead}
+use Rattle.attributes.specs.declared.read.AttributeRead.the-variants.{Refused}
 
 pub refused : {r : AttributeRead} {n p : ℕ} → r ≡ Refused (record { number = n; place = p }) → readBy r ≡ bad n p
 unfolding readBy

@@ -14,8 +14,8 @@ use Rattle.format.proofs.Readers.{Reads, reads-give, reads-bind, reads-last, re
 use Rattle.attributes.specs.Options.{Option, transit, stub, minimumSpeed, maximumSpeed, domain, node, diameter, timeZone, sizeOf, present, sizes, unallocated}
 use Rattle.attributes.specs.Attribute.{isPopCount, hasE, lengthAgrees, optional, values, attributeFields, attribute, optionOctets, valuesOctets, attributeOctets}
 use Rattle.attributes.specs.Written.{valueOf, Given, Written}
-use Rattle.attributes.specs.declared.Attribute.{Attribute}
-use Rattle.attributes.specs.declared.Values.{Values}
+use Rattle.attributes.specs.declared.read.Attribute.{Attribute}
+use Rattle.attributes.specs.declared.options.Values.{Values}
 use Rattle.attributes.proofs.Lengths.{sizes-most}
 
 -- ---- the values

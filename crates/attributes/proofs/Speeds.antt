@@ -17,8 +17,8 @@ use mathlib.Core.Bool.{Bool, true, false}
 use borrow.Author.Tests.{lt-ltb, le-ltb, ltb-true, ltb-false}
 use lib.Dec.{ltb}
 use Rattle.attributes.specs.Speed.{size, order, compared}
-use Rattle.attributes.specs.declared.Order.{Order}
-use Rattle.attributes.specs.declared.Order.the-variants.{Less, Equal, Greater}
+use Rattle.attributes.specs.declared.speed.Order.{Order}
+use Rattle.attributes.specs.declared.speed.Order.the-variants.{Less, Equal, Greater}
 
 less : (m n : ℕ) → m < n → order m n ≡ Less
 unfolding order

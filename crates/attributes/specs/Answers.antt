@@ -11,10 +11,10 @@ use lib.Dec.{leb}
 use Rattle.format.specs.Reader.{Read, Reader, got, bad, continue, _>>=_, _>>_, give, octets, number, must}
 use Rattle.attributes.specs.Options.{hasBit, sizes}
 use Rattle.attributes.specs.Attribute.{lengthAgrees, values}
-use Rattle.attributes.specs.declared.Attribute.{Attribute}
-use Rattle.attributes.specs.declared.Fixed.{Fixed}
-use Rattle.attributes.specs.declared.AttributeRead.{AttributeRead}
-use Rattle.attributes.specs.declared.AttributeRead.the-variants.{Is, Refused}
+use Rattle.attributes.specs.declared.read.Attribute.{Attribute}
+use Rattle.attributes.specs.declared.read.Fixed.{Fixed}
+use Rattle.attributes.specs.declared.read.AttributeRead.{AttributeRead}
+use Rattle.attributes.specs.declared.read.AttributeRead.the-variants.{Is, Refused}
 
 unfoldable pub readBy : AttributeRead → Read Attribute
 readBy (Is a next) = got a next

@@ -13,8 +13,8 @@ use lib.Dec.{eqb, leb}
 use Rattle.octets.specs.Octets.{be, _&_}
 use Rattle.format.specs.Reader.{Reader, _>>=_, _>>_, give, octets, number, must, inRecord}
 use Rattle.attributes.specs.Options.{Option, transit, stub, minimumSpeed, maximumSpeed, domain, node, diameter, timeZone, sizeOf, present, sizes, unallocated}
-use Rattle.attributes.specs.declared.Attribute.{Attribute}
-use Rattle.attributes.specs.declared.Values.{Values}
+use Rattle.attributes.specs.declared.read.Attribute.{Attribute}
+use Rattle.attributes.specs.declared.options.Values.{Values}
 
 -- ---- the first octet and the length
 

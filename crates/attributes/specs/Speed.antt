@@ -5,8 +5,8 @@
 use Prim.Native.Nat.{ℕ, _*_, _/_, _%_, _^_}
 use mathlib.Core.Bool.{cond}
 use lib.Dec.{ltb}
-use Rattle.attributes.specs.declared.Order.{Order}
-use Rattle.attributes.specs.declared.Order.the-variants.{Less, Equal, Greater}
+use Rattle.attributes.specs.declared.speed.Order.{Order}
+use Rattle.attributes.specs.declared.speed.Order.the-variants.{Less, Equal, Greater}
 
 unfoldable pub size : ℕ → ℕ
 size s = s % 1024 * 10 ^ (s / 1024)

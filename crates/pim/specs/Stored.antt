@@ -8,9 +8,9 @@ use Prim.Native.Nat.{ℕ}
 use mathlib.Core.Bool.{false}
 use Rattle.format.specs.Outcome.{Outcome, gives, refuses}
 use Rattle.format.specs.Reader.{Read, got, bad}
-use Rattle.attributes.specs.declared.Attribute.{Attribute}
-use Rattle.attributes.specs.declared.Order.{Order}
-use Rattle.attributes.specs.declared.Order.the-variants.{Less, Equal, Greater}
+use Rattle.attributes.specs.declared.read.Attribute.{Attribute}
+use Rattle.attributes.specs.declared.speed.Order.{Order}
+use Rattle.attributes.specs.declared.speed.Order.the-variants.{Less, Equal, Greater}
 use Rattle.neighbours.specs.declared.Table.{Table}
 use Rattle.sections.specs.declared.Counts.{Counts}
 use Rattle.pim.specs.Answers.{accepted, refusal}

@@ -5,9 +5,9 @@
 use mathlib.Core.List.{List, [], _∷_, _++_, map, foldl}
 use Prim.Native.Nat.{ℕ, _+_, _≤_, min, max}
 use native.Mathlib.Omega.{arith}
-use Rattle.attributes.specs.declared.Attribute.{Attribute}
+use Rattle.attributes.specs.declared.read.Attribute.{Attribute}
 use Rattle.popcount.specs.Rules.{mergedMtu, atMost, total, mergedTransit, mergedStub, mergedNode, mergedDiameter}
-use Rattle.popcount.specs.declared.Own.{Own}
+use Rattle.popcount.specs.declared.tally.Own.{Own}
 
 -- R: at most, or at least
 module _ (R : ℕ → ℕ → Type 0) (f : ℕ → ℕ → ℕ) (h : Attribute → ℕ)

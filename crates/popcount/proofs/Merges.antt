@@ -10,11 +10,11 @@ use lib.Dec.{ltb}
 use Rattle.format.specs.Outcome.{Outcome, gives, refuses, refuseIf, _>>=_, _>>_}
 use Rattle.format.proofs.Outcomes.{no-refusal, gives-same}
 use Rattle.attributes.specs.Attribute.{attributeOctets}
-use Rattle.attributes.specs.declared.Attribute.{Attribute}
+use Rattle.attributes.specs.declared.read.Attribute.{Attribute}
 use Rattle.popcount.specs.Merging.{contributors, merged, written, merging}
 use Rattle.popcount.specs.Tally.{begun, counted, attributeOf, tallyOf, finishing}
-use Rattle.popcount.specs.declared.Own.{Own}
-use Rattle.popcount.specs.declared.Tally.{Tally}
+use Rattle.popcount.specs.declared.tally.Own.{Own}
+use Rattle.popcount.specs.declared.tally.Tally.{Tally}
 use Rattle.popcount.proofs.Tallies.{CountsFit, octets-same}
 
 module _ (own : Own) (sayE : Bool) (o d : List ℕ) where

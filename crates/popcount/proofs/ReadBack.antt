@@ -25,12 +25,12 @@ use Rattle.attributes.specs.Speed.{size}
 use Rattle.attributes.specs.Options.{Option, transit, stub, minimumSpeed, maximumSpeed, domain, node, diameter, timeZone, sizeOf, bitOf, hasBit, present}
 use Rattle.attributes.specs.Attribute.{isPopCount, lengthAgrees, optional, values, attributeFields, attribute, attributeOctets}
 use Rattle.attributes.specs.Written.{valueOf, Given, Written}
-use Rattle.attributes.specs.declared.Attribute.{Attribute}
-use Rattle.attributes.specs.declared.Values.{Values}
+use Rattle.attributes.specs.declared.read.Attribute.{Attribute}
+use Rattle.attributes.specs.declared.options.Values.{Values}
 use Rattle.attributes.proofs.RoundTrip.{round-trip}
 use Rattle.popcount.specs.Rules.{mergedMtu, mergedFlags, atMost, total, mergedTransit, mergedStub, mergedNode, mergedDiameter, slower, faster, mergedMinimum, mergedMaximum, everyHas, ifGiven, mergedOptions}
 use Rattle.popcount.specs.Merging.{contributors, mergedValues, merged, written, merging}
-use Rattle.popcount.specs.declared.Own.{Own}
+use Rattle.popcount.specs.declared.tally.Own.{Own}
 use Rattle.popcount.proofs.Bits.{flags-fit}
 use Rattle.popcount.proofs.Tallies.{present-merged, mergeable-merged}
 

@@ -15,11 +15,11 @@ use lib.Bits.{bitAnd, bitOr, and-step, or-step, and-shr, or-shr, and-zero-l, or-
 use lib.Dec.{ltb}
 use Rattle.attributes.specs.Speed.{size}
 use Rattle.attributes.specs.Options.{Option, transit, stub, minimumSpeed, maximumSpeed, node, diameter, present}
-use Rattle.attributes.specs.declared.Attribute.{Attribute}
+use Rattle.attributes.specs.declared.read.Attribute.{Attribute}
 use Rattle.popcount.specs.Rules.{mergedMtu, mergedFlags, pFlag, otherFlags, atMost, total, mergedTransit, mergedStub, mergedNode, mergedDiameter, slower, faster, mergedMinimum, mergedMaximum, everyHas, ifGiven, mergedOptions}
 use Rattle.popcount.specs.Merging.{mergedValues, merged}
 use Rattle.popcount.specs.Alike.{Alike}
-use Rattle.popcount.specs.declared.Own.{Own}
+use Rattle.popcount.specs.declared.tally.Own.{Own}
 use Rattle.popcount.proofs.Bits.{spelt}
 
 -- ---- a fold that does not look at the order

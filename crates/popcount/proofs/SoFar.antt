@@ -16,11 +16,11 @@ use Rattle.format.specs.Reader.{Read, got, bad, continue, number, toEnd, outcom
 use Rattle.format.proofs.Taken.{Took, Takes, takes-give, takes-bind, takes-then, takes-octets, takes-number, takes-must, takes-inRecord, takes-cond}
 use Rattle.attributes.specs.Options.{Option, transit, stub, minimumSpeed, maximumSpeed, domain, node, diameter, timeZone, sizeOf, present}
 use Rattle.attributes.specs.Attribute.{isPopCount, lengthAgrees, optional, values, attributeFields, attribute}
-use Rattle.attributes.specs.declared.Attribute.{Attribute}
+use Rattle.attributes.specs.declared.read.Attribute.{Attribute}
 use Rattle.popcount.specs.Merging.{contributors}
 use Rattle.popcount.specs.Tally.{begun, counted, tallyOf}
-use Rattle.popcount.specs.declared.Own.{Own}
-use Rattle.popcount.specs.declared.Tally.{Tally}
+use Rattle.popcount.specs.declared.tally.Own.{Own}
+use Rattle.popcount.specs.declared.tally.Tally.{Tally}
 
 -- ---- an attribute is not empty
 

@@ -17,14 +17,14 @@ use Rattle.octets.specs.Octets.{be}
 use Rattle.attributes.specs.Speed.{size, order, compared}
 use Rattle.attributes.specs.Options.{Option, transit, stub, minimumSpeed, maximumSpeed, domain, node, diameter, timeZone, bitOf, sizeOf, hasBit, present}
 use Rattle.attributes.specs.Attribute.{optionOctets, valuesOctets, attributeOctets}
-use Rattle.attributes.specs.declared.Attribute.{Attribute}
-use Rattle.attributes.specs.declared.Order.{Order}
-use Rattle.attributes.specs.declared.Order.the-variants.{Less, Equal, Greater}
+use Rattle.attributes.specs.declared.read.Attribute.{Attribute}
+use Rattle.attributes.specs.declared.speed.Order.{Order}
+use Rattle.attributes.specs.declared.speed.Order.the-variants.{Less, Equal, Greater}
 use Rattle.popcount.specs.Rules.{mergedMtu, mergedFlags, pFlag, otherFlags, atMost, total, mergedTransit, mergedStub, mergedNode, mergedDiameter, slower, faster, mergedMinimum, mergedMaximum, everyHas, ifGiven, mergedOptions}
 use Rattle.popcount.specs.Merging.{mergedValues, merged}
 use Rattle.popcount.specs.Tally.{begun, counted, attributeOf}
-use Rattle.popcount.specs.declared.Own.{Own}
-use Rattle.popcount.specs.declared.Tally.{Tally}
+use Rattle.popcount.specs.declared.tally.Own.{Own}
+use Rattle.popcount.specs.declared.tally.Tally.{Tally}
 use Rattle.popcount.proofs.Bits.{present-and, Mergeable, mergeable-and, spelt, spelt-is}
 
 -- ---- speeds

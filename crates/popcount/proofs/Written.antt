@@ -15,7 +15,7 @@ use Rattle.octets.proofs.Laws.{be-suc, length-be, put-nil, put-next, put-before
 use Rattle.attributes.specs.Answers.{sizeBy}
 use Rattle.attributes.specs.Options.{Option, bitOf, sizeOf, present, sizeIn}
 use Rattle.attributes.specs.Attribute.{optionOctets, valuesOctets}
-use Rattle.attributes.specs.declared.Values.{Values}
+use Rattle.attributes.specs.declared.options.Values.{Values}
 
 -- ---- a number, from its last octet to its first
 

@@ -3,7 +3,7 @@
 -- Assumes nothing: these are definitions.
 use mathlib.Core.Path.{_≡_}
 use Rattle.attributes.specs.Speed.{size}
-use Rattle.attributes.specs.declared.Attribute.{Attribute}
+use Rattle.attributes.specs.declared.read.Attribute.{Attribute}
 
 pub record Alike (a b : Attribute) : Type 0 where
   pub e : a .e ≡ b .e

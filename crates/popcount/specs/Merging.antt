@@ -15,12 +15,12 @@ use Rattle.format.specs.Outcome.{Outcome, gives, refuses, refuseIf, _>>=_, _>>_
 use Rattle.format.specs.Reader.{from, toEnd}
 use Rattle.attributes.specs.Options.{transit, stub, minimumSpeed, maximumSpeed, node, diameter}
 use Rattle.attributes.specs.Attribute.{attribute, attributeOctets}
-use Rattle.attributes.specs.declared.Attribute.{Attribute}
-use Rattle.attributes.specs.declared.Values.{Values}
+use Rattle.attributes.specs.declared.read.Attribute.{Attribute}
+use Rattle.attributes.specs.declared.options.Values.{Values}
 use Rattle.popcount.specs.Rules.{mergedMtu, mergedFlags, mergedTransit, mergedStub, mergedNode, mergedDiameter, mergedMinimum, mergedMaximum, ifGiven, mergedOptions}
-use Rattle.popcount.specs.declared.Own.{Own}
-use Rattle.popcount.specs.declared.Merged.{Merged}
-use Rattle.popcount.specs.declared.Merged.the-variants.{Wrote, Refused}
+use Rattle.popcount.specs.declared.tally.Own.{Own}
+use Rattle.popcount.specs.declared.merging.Merged.{Merged}
+use Rattle.popcount.specs.declared.merging.Merged.the-variants.{Wrote, Refused}
 
 unfoldable pub contributors : List ℕ → Outcome (List Attribute)
 contributors o = from 0 (toEnd (length o) attribute) o

@@ -15,8 +15,8 @@ use lib.Bits.{bitAnd, bitOr}
 use lib.Dec.{ltb}
 use Rattle.attributes.specs.Speed.{size}
 use Rattle.attributes.specs.Options.{Option, transit, stub, minimumSpeed, maximumSpeed, node, diameter, bitOf, present}
-use Rattle.attributes.specs.declared.Attribute.{Attribute}
-use Rattle.popcount.specs.declared.Own.{Own}
+use Rattle.attributes.specs.declared.read.Attribute.{Attribute}
+use Rattle.popcount.specs.declared.tally.Own.{Own}
 
 -- ---- MTU and flags
 

@@ -12,13 +12,13 @@ use lib.Bits.{bitAnd, bitOr}
 use lib.Dec.{ltb}
 use Rattle.format.specs.Outcome.{Outcome, gives, refuses, refuseIf, _>>=_, _>>_}
 use Rattle.attributes.specs.Attribute.{attributeOctets}
-use Rattle.attributes.specs.declared.Attribute.{Attribute}
+use Rattle.attributes.specs.declared.read.Attribute.{Attribute}
 use Rattle.popcount.specs.Rules.{pFlag, otherFlags, atMost, slower, faster}
 use Rattle.popcount.specs.Merging.{MergingCall, contributors, written}
-use Rattle.popcount.specs.declared.Own.{Own}
-use Rattle.popcount.specs.declared.Tally.{Tally}
-use Rattle.popcount.specs.declared.Tallied.{Tallied}
-use Rattle.popcount.specs.declared.Tallied.the-variants.{All, Refused}
+use Rattle.popcount.specs.declared.tally.Own.{Own}
+use Rattle.popcount.specs.declared.tally.Tally.{Tally}
+use Rattle.popcount.specs.declared.tally.Tallied.{Tallied}
+use Rattle.popcount.specs.declared.tally.Tallied.the-variants.{All, Refused}
 
 -- the six options that are merged, all given as yet
 unfoldable pub begun : Own → Tally

@@ -1,0 +1,173 @@
+-- `attributes::read::fields_after` meets its contract: cut in a field, of a length against the options, or as its values come to.
+-- Assumes nothing.
+use mathlib.Core.Path.{_≡_, refl, sym, _∙_}
+use native.Mathlib.Omega.{arith}
+use denote.Ref.{now}
+use borrow.Author.Needs.{needs}
+use Rattle.octets.specs.Octets.{Octets}
+use Rattle.octets.proofs.Laws.{number-lt, read-got, read-cut}
+use Rattle.format.specs.Reader.{got, number, _>>=_}
+use Rattle.attributes.specs.Answers.{fieldsAfter}
+use Rattle.attributes.proofs.Readings.{refused, then-got, then-bad, must-no, must-bad, agrees-least, fields-read}
+use Rattle.attributes.proofs.read.fields_after.Statement.{statement}
+use Rattle.attributes.proofs.read.fields_after.Tie as tie
+
+-- the fields read, one after another
+
+abbrev start : tie.After-known-told → tie.After-shared-slice-known
+start c = c .before .before .before .before
+
+abbrev first : tie.After-known-told2 → tie.After-known-told
+first c = c .before .before .before .before
+
+abbrev second : tie.After-known-told3 → tie.After-known-told2
+second c = c .before .before .before .before
+
+octets : (c : tie.After-known-told) → Octets (now (start c .before .args .o))
+octets c i = start c .shared-slice-known .given i .fits
+
+mtu : (c : tie.After-known-told)
+    → number 2 (now (start c .before .args .o)) (start c .before .args .at) ≡ got (c .before .m .given .0 .0) (c .before .m .given .0 .1 .0)
+mtu c = read-got (c .before .before .before .read16 .ensures) (c .before .m .given .1)
+
+flags : (c : tie.After-known-told2)
+    → number 2 (now (start (first c) .before .args .o)) (first c .before .m .given .0 .1 .0) ≡ got (c .before .f .given .0 .0) (c .before .f .given .0 .1 .0)
+flags c = read-got (c .before .before .before .read162 .ensures) (c .before .f .given .1)
+
+options : (c : tie.After-known-told3)
+    → number 2 (now (start (first (second c)) .before .args .o)) (second c .before .f .given .0 .1 .0)
+    ≡ got (c .before .w .given .0 .0) (c .before .w .given .0 .1 .0)
+options c = read-got (c .before .before .before .read163 .ensures) (c .before .w .given .1)
+
+read16-requires : tie.Need-read16-requires
+read16-requires c κs = search needs
+
+enum-known-m : tie.Need-enum-known-m
+enum-known-m c = search needs
+
+enum-told : tie.Need-enum-told
+enum-told c = search needs
+
+cut-requires : tie.Need-cut-requires
+cut-requires c κs = search needs
+
+returns : tie.Need-returns
+unfolding fieldsAfter _>>=_
+returns c = c .cut .ensures ∙ sym (then-bad _ (read-cut (c .before .before .before .read16 .ensures) (c .before .enum-told .given .1) refl))
+
+cast-mtu : tie.Need-cast-mtu
+cast-mtu c = record { fits = number-lt 2 _ _ (read-got (c .before .before .before .read16 .ensures) (c .before .m .given .1)) (octets c) }
+
+read16-requires-2 : tie.Need-read16-requires-2
+read16-requires-2 c κs = search needs
+
+enum-known-f : tie.Need-enum-known-f
+enum-known-f c = search needs
+
+enum-told-2 : tie.Need-enum-told-2
+enum-told-2 c = search needs
+
+cut-requires-2 : tie.Need-cut-requires-2
+cut-requires-2 c κs = search needs
+
+returns-2 : tie.Need-returns-2
+unfolding fieldsAfter _>>=_
+returns-2 c =
+    let d = c .before .before .before .before in
+    c .cut2 .ensures
+    ∙ sym (then-got _ (mtu d) ∙ then-bad _ (read-cut (c .before .before .before .read162 .ensures) (c .before .enum-told2 .given .1) refl))
+
+cast-flags : tie.Need-cast-flags
+cast-flags c = record { fits = number-lt 2 _ _ (read-got (c .before .before .before .read162 .ensures) (c .before .f .given .1)) (octets (first c)) }
+
+read16-requires-3 : tie.Need-read16-requires-3
+read16-requires-3 c κs = search needs
+
+enum-known-w : tie.Need-enum-known-w
+enum-known-w c = search needs
+
+enum-told-3 : tie.Need-enum-told-3
+enum-told-3 c = search needs
+
+cut-requires-3 : tie.Need-cut-requires-3
+cut-requires-3 c κs = search needs
+
+returns-3 : tie.Need-returns-3
+unfolding fieldsAfter _>>=_
+returns-3 c =
+    let d = c .before .before .before .before in
+    c .cut3 .ensures
+    ∙ sym (then-got _ (mtu (first d)) ∙ then-got _ (flags d)
+    ∙ then-bad _ (must-bad 13 _ (number 2) _ _ (read-cut (c .before .before .before .read163 .ensures) (c .before .enum-told3 .given .1) refl)))
+
+cast-options : tie.Need-cast-options
+cast-options c = record { fits = number-lt 2 _ _ (read-got (c .before .before .before .read163 .ensures) (c .before .w .given .1)) (octets (first (second c))) }
+
+length-agrees-requires : tie.Need-length-agrees-requires
+length-agrees-requires c κs = search needs
+
+sizes-requires : tie.Need-sizes-requires
+sizes-requires c κs = search needs
+
+add-values-after : tie.Need-add-values-after
+add-values-after c = search needs
+
+sub-values-after : tie.Need-sub-values-after
+sub-values-after c =
+    let l = c .before .before in
+    omega (arith, c .sizes .ensures .0, agrees-least _ _ (sym (l .length-agrees .ensures) ∙ c .before .if1 .taken))
+
+values-after-requires : tie.Need-values-after-requires
+values-after-requires c κs = search needs
+
+returns-4 : tie.Need-returns-4
+returns-4 c =
+    let t = c .before .before in
+    let l = t .before in
+    let d = l .before in
+    fields-read _ _ _ _ (c .values-after .ensures) (c .before .sizes .ensures .0) (mtu (first (second d))) (flags (second d)) (options d)
+    (sym (l .length-agrees .ensures) ∙ t .if1 .taken)
+
+bad-requires : tie.Need-bad-requires
+bad-requires c κs = search needs
+
+returns-5 : tie.Need-returns-5
+unfolding fieldsAfter _>>=_
+returns-5 c =
+    let t = c .before in
+    let l = t .before in
+    let d = l .before in
+    refused (c .bad .ensures)
+    ∙ sym (then-got _ (mtu (first (second d))) ∙ then-got _ (flags (second d))
+    ∙ then-bad _ (must-no 13 _ (number 2) _ _ (options d) (sym (l .length-agrees .ensures) ∙ t .if1 .left)))
+
+pub fields-after-spec : {M : Type 1} → statement M
+fields-after-spec =
+    tie.close
+    (tie.spec
+    read16-requires
+    enum-known-m
+    enum-told
+    cut-requires
+    returns
+    cast-mtu
+    read16-requires-2
+    enum-known-f
+    enum-told-2
+    cut-requires-2
+    returns-2
+    cast-flags
+    read16-requires-3
+    enum-known-w
+    enum-told-3
+    cut-requires-3
+    returns-3
+    cast-options
+    length-agrees-requires
+    sizes-requires
+    add-values-after
+    sub-values-after
+    values-after-requires
+    returns-4
+    bad-requires
+    returns-5)

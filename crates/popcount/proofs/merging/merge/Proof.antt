@@ -1,0 +1,67 @@
+-- `popcount::merging::merge` meets its contract, by what the pass over the contributors came to.
+-- Assumes nothing.
+use mathlib.Core.Path.{sym, ap, _∙_}
+use native.Mathlib.Omega.{arith}
+use denote.Ref.{now}
+use borrow.Author.Needs.{needs}
+use Rattle.popcount.specs.Merging.{lengthBy}
+use Rattle.popcount.specs.Tally.{tallied, finishing}
+use Rattle.popcount.proofs.Tallies.{CountsFit}
+use Rattle.popcount.proofs.Merges.{merging-refused, merging-gives}
+use Rattle.popcount.proofs.merging.merge.Statement.{statement}
+use Rattle.popcount.proofs.merging.merge.Tie as tie
+
+count-all-requires : tie.Need-count-all-requires
+count-all-requires c κs = search needs
+
+enum-known-all : tie.Need-enum-known-all
+enum-known-all c = search needs
+
+attribute-of-requires : tie.Need-attribute-of-requires
+attribute-of-requires c κs = search needs
+
+finish-requires : tie.Need-finish-requires
+finish-requires c κs = search needs
+
+enum-known-all-2 : tie.Need-enum-known-all-2
+enum-known-all-2 c = search needs
+
+same-length : tie.Need-same-length
+same-length c = search needs
+
+fit : (c : tie.Start) → CountsFit (c .args .own)
+fit c = record { transit = omega (arith, c .good); stub = omega (arith, c .good) }
+
+returns : tie.Need-returns
+unfolding tallied
+returns c =
+    let f = c .before .before in
+    let t = f .before .before in
+    let all = t .before .before in
+    let n = all .before .before in
+    let s = n .before .before .before in
+    let a = s .args in
+    let whole = merging-gives (a .own) (a .e) (now (a .contributors)) (now (a .d)) (fit s) (sym (n .count-all .ensures) ∙ ap tallied (all .all .given .1)) in
+    let made = ap (λ x. finishing (now (a .d)) x) (t .attribute-of .ensures) in
+    (f .finish .ensures .0 ∙ ap (λ m. m .answer) (made ∙ sym whole), f .finish .ensures .1 ∙ ap (λ m. m .buffer) (made ∙ sym whole))
+
+returns-2 : tie.Need-returns-2
+unfolding tallied lengthBy
+returns-2 c =
+    let n = c .before .before .before in
+    let a = n .before .before .before .args in
+    let whole = merging-refused (a .own) (a .e) (now (a .contributors)) (now (a .d)) (sym (n .count-all .ensures) ∙ ap tallied (c .before .all2 .given .1)) in
+    (ap (λ m. m .answer) (sym whole), ap (λ m. m .buffer) (sym whole))
+
+pub merge-spec : {M : Type 1} → statement M
+merge-spec =
+    tie.close
+    (tie.spec
+    count-all-requires
+    enum-known-all
+    attribute-of-requires
+    finish-requires
+    enum-known-all-2
+    same-length
+    returns
+    returns-2)
