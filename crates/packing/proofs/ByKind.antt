@@ -3,10 +3,11 @@
 --     record-sized                   a record is 6 octets longer than its entry
 --     kind-is, most-is               a form is of its kind, and takes no more than there is
 --     front-long, front-short, head-range     the beginning of a message, with Zero and Reserved or without
---     packed-is                      the five kinds that are packed
+--     packed-is, hello-never         the five kinds that are packed, and the one that is not
+--     most-one, most-all             how many of some entries a kind that is packed may take
 --     aggregated-is, each-record     the one kind with records of runs; the others have one for each entry
 -- Assumes nothing.
-use Prim.Native.Nat.{ℕ, _+_, _≤_}
+use Prim.Native.Nat.{ℕ, _+_, _≤_, _<_}
 use native.Mathlib.Omega.{arith}
 use mathlib.Core.Path.{_≡_, refl}
 use mathlib.Core.Bool.{true, false}
@@ -21,7 +22,7 @@ use Rattle.format.specs.declared.Kind.{Kind}
 use Rattle.format.specs.declared.Kind.the-variants.{Hello, Assert, Simple, Aggregated, NullRegister, RegisterStop}
 use Rattle.format.proofs.Lengths.{length-assert, length-pair}
 use Rattle.entries.specs.Kinds.{entriesFor}
-use Rattle.packing.specs.Kinds.{formFor, recordSize, recordOctets, isAggregated, recordsFor, frontOf, headSize, isPacked, Packs}
+use Rattle.packing.specs.Kinds.{formFor, recordSize, recordOctets, isAggregated, recordsFor, takesOne, frontOf, headSize, isPacked, Packs}
 
 -- ---- records
 
@@ -103,23 +104,23 @@ head-range RegisterStop = omega arith
 
 plain-packs : Packs Assert
 unfolding plainBody recordOctets recordsFor
-plain-packs = record { body = λ es. refl }
+plain-packs = record { some = refl; body = λ es. refl }
 
 simple-packs : Packs Simple
 unfolding simpleBody recordOctets recordsFor
-simple-packs = record { body = λ es. refl }
+simple-packs = record { some = refl; body = λ es. refl }
 
 aggregated-packs : Packs Aggregated
 unfolding aggregatedBody recordsFor
-aggregated-packs = record { body = λ es. refl }
+aggregated-packs = record { some = refl; body = λ es. refl }
 
 null-packs : Packs NullRegister
 unfolding pairBody recordOctets recordsFor
-null-packs = record { body = λ es. refl }
+null-packs = record { some = refl; body = λ es. refl }
 
 stop-packs : Packs RegisterStop
 unfolding pairBody recordOctets recordsFor
-stop-packs = record { body = λ es. refl }
+stop-packs = record { some = refl; body = λ es. refl }
 
 -- every kind that is packed
 pub packed-is : (k : Kind) → isPacked k ≡ true → Packs k
@@ -129,6 +130,31 @@ packed-is Simple h = simple-packs
 packed-is Aggregated h = aggregated-packs
 packed-is NullRegister h = null-packs
 packed-is RegisterStop h = stop-packs
+
+pub hello-never : Packs Hello → ⊥
+hello-never packs =
+    let h : isPacked Hello ≡ true = packs .some in
+    let never : _≡_ {A = ℕ} 0 1 = cc in
+    omega arith
+
+module _ (n : ℕ) where
+  pub most-one : (k : Kind) → 0 < n → takesOne k ≡ true → formFor k .atMost n ≡ 1
+  unfolding takesOne
+  most-one Hello some h = cc
+  most-one Assert some h = omega arith
+  most-one Simple some h = cc
+  most-one Aggregated some h = cc
+  most-one NullRegister some h = cc
+  most-one RegisterStop some h = cc
+
+  pub most-all : (k : Kind) → Packs k → takesOne k ≡ false → formFor k .atMost n ≡ n
+  unfolding takesOne
+  most-all Hello packs h = absurd (hello-never packs)
+  most-all Assert packs h = cc
+  most-all Simple packs h = refl
+  most-all Aggregated packs h = refl
+  most-all NullRegister packs h = refl
+  most-all RegisterStop packs h = refl
 
 -- ---- which kind has records of runs
 

@@ -25,8 +25,8 @@ use Rattle.format.proofs.Entries.{length-entriesAt, take-entries}
 use Rattle.format.proofs.Calls.{taken-most, taken-fits, pack-none, pack-some}
 use Rattle.packing.specs.Kinds.{formFor, isAggregated, Packs, fitting}
 use Rattle.packing.specs.Aggregates.{allOf, MostWithin}
-use Rattle.packing.proofs.ByKind.{most-is, head-range, aggregated-is}
-use Rattle.packing.proofs.Fitting.{records-long, taken-fixed}
+use Rattle.packing.proofs.ByKind.{most-is, head-range, hello-never, aggregated-is}
+use Rattle.packing.proofs.Fitting.{taken-fixed}
 use Rattle.packing.specs.Joins.{asserts, Aggregated as Joined}
 use Rattle.entries.specs.Kinds.{entriesFor}
 use mathlib.Core.Bool.{Bool, true, false}
@@ -68,8 +68,7 @@ module _ (o : List ℕ) (from n limit : ℕ) where
 
 fixed-some : (k : Kind) → Packs k → isAggregated k ≡ false → (n limit : ℕ) → 0 < n → 38 ≤ limit → 0 < fitting k limit n
 unfolding fitting isAggregated
-fixed-some Hello packs fixed n limit some room =
-    absurd (omega (arith, ap length (packs .body (entriesAt (entriesFor Hello) [] 0 1)), records-long Hello fixed [] 0 1))
+fixed-some Hello packs fixed n limit some room = absurd (hello-never packs)
 fixed-some Assert packs fixed n limit some room = omega arith
 fixed-some Simple packs fixed n limit some room = omega arith
 fixed-some Aggregated packs fixed n limit some room = let never : _≡_ {A = ℕ} 0 1 = cc in absurd (omega arith)

@@ -2,6 +2,7 @@
 --     formFor                      the form of a kind
 --     recordSize, recordOctets     the record of an entry, where records have one length
 --     isAggregated, recordsFor     the kind whose records have not, and the records of entries
+--     takesOne                     the kind whose message takes no more than one entry
 --     frontOf, headSize, beginning what comes before the records: of the body, in octets, and with the checksum as 0
 --     isPacked, Packs              a kind that is packed: its body is that and the records
 --     fitting                      how many entries fit where records have one length
@@ -11,7 +12,7 @@ use mathlib.Core.Path.{_≡_}
 use mathlib.Core.Bool.{Bool, true, false}
 use mathlib.Core.List.{List, [], _∷_}
 use lib.ListN.{length}
-use lib.Dec.{ltb}
+use lib.Dec.{eqb, ltb}
 use Rattle.octets.specs.Octets.{_&_}
 use Rattle.records.specs.Joining.{joined}
 use Rattle.format.specs.Family.{ipv4}
@@ -74,10 +75,14 @@ headSize k = 4 + length (frontOf k)
 abbrev pub beginning : Kind → List ℕ
 beginning k = octet0 k ∷ octet1 k ∷ 0 ∷ 0 ∷ frontOf k
 
+unfoldable pub takesOne : Kind → Bool
+takesOne k = eqb (formFor k .atMost 2) 1
+
 abbrev pub isPacked : Kind → Bool
 isPacked k = ltb 0 (formFor k .atMost 1)
 
 pub record Packs (k : Kind) : Type 0 where
+  pub some : isPacked k ≡ true
   pub body : (es : List (entriesFor k .Entry)) → formFor k .body es ≡ frontOf k & recordsFor k es
 
 -- as many records as there is room for past the head, and no more than there are entries

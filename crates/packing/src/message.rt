@@ -7,47 +7,45 @@ ghost use lib.ListN.{length, take};
 ghost use Rattle.octets.specs.Octets.{put, be};
 ghost use Rattle.checksum.specs.Sum.{checksum as checksumOf};
 ghost use Rattle.format.specs.Header.{octet0 as octet0Of, octet1 as octet1Of};
-ghost use Rattle.packing.specs.Kinds.{isAggregated, headSize, beginning};
+ghost use Rattle.packing.specs.Kinds.{isAggregated, takesOne, headSize, beginning};
 
-// Version 2 and the type.
-fn octet0(kind: Kind) -> u8
-    ensures { λ r. ⌜ r ≡ octet0Of kind ⌝ }
+// How the messages of a kind begin, and how many entries they take.
+pub struct Layout {
+    // Version 2 and the type.
+    octet0: u8,
+    // P and A of an assert, the subtype of a register.
+    octet1: u8,
+    // The octets before the first record: the header, and in a packed assert Zero and Reserved.
+    pub head: usize,
+    // Whether records are those of runs of entries, and not one for each entry.
+    pub aggregated: bool,
+    // Whether a message takes no more than one entry.
+    pub one: bool,
+}
+
+fn laid(octet0: u8, octet1: u8, head: usize, aggregated: bool, one: bool) -> Layout
+    ensures { λ r. ⌜ (r .octet0 ≡ octet0) × (r .octet1 ≡ octet1) × (r .head ≡ head) × (r .aggregated ≡ aggregated) × (r .one ≡ one) ⌝ }
 {
-    match kind {
-        Kind::Hello => 0x20,
-        Kind::Assert => 0x25,
-        Kind::Simple => 0x25,
-        Kind::Aggregated => 0x25,
-        Kind::NullRegister => 0x2d,
-        Kind::RegisterStop => 0x2d,
+    Layout {
+        octet0,
+        octet1,
+        head,
+        aggregated,
+        one,
     }
 }
 
-// P and A of an assert, the subtype of a register.
-fn octet1(kind: Kind) -> u8
-    ensures { λ r. ⌜ r ≡ octet1Of kind ⌝ }
+// What is laid down for a kind.
+pub(crate) fn layout_of(kind: Kind) -> Layout
+    ensures { λ r. ⌜ (r .octet0 ≡ octet0Of kind) × (r .octet1 ≡ octet1Of kind) × (r .head ≡ headSize kind) × (r .aggregated ≡ isAggregated kind) × (r .one ≡ takesOne kind) ⌝ }
 {
     match kind {
-        Kind::Hello => 0,
-        Kind::Assert => 0,
-        Kind::Simple => 1,
-        Kind::Aggregated => 3,
-        Kind::NullRegister => 0,
-        Kind::RegisterStop => 0x10,
-    }
-}
-
-// The octets before the first record: the header, and in a packed assert Zero and Reserved.
-pub(crate) fn head_size(kind: Kind) -> usize
-    ensures { λ r. ⌜ r ≡ headSize kind ⌝ }
-{
-    match kind {
-        Kind::Hello => 4,
-        Kind::Assert => 4,
-        Kind::Simple => 8,
-        Kind::Aggregated => 8,
-        Kind::NullRegister => 4,
-        Kind::RegisterStop => 4,
+        Kind::Hello => laid(0x20, 0, 4, false, false),
+        Kind::Assert => laid(0x25, 0, 4, false, true),
+        Kind::Simple => laid(0x25, 1, 8, false, false),
+        Kind::Aggregated => laid(0x25, 3, 8, true, false),
+        Kind::NullRegister => laid(0x2d, 0, 4, false, false),
+        Kind::RegisterStop => laid(0x2d, 0x10, 4, false, false),
     }
 }
 
@@ -68,15 +66,15 @@ pub(crate) fn begin(kind: Kind, d: &mut [u8]) -> usize
     ensures size { λ r. ⌜ r ≡ headSize kind ⌝ }
     ensures buffer { λ r. ⌜ now (d .exit) ≡ put (now (d .entry)) 0 (beginning kind) ⌝ }
 {
-    let size = head_size(kind);
-    d[0] = octet0(kind);
-    d[1] = octet1(kind);
+    let l = layout_of(kind);
+    d[0] = l.octet0;
+    d[1] = l.octet1;
     d[2] = 0;
     d[3] = 0;
-    if size == 8 {
+    if l.head == 8 {
         put_zeros(d, 4);
     }
-    size
+    l.head
 }
 
 // The checksum of a message of n octets, into its field.
@@ -87,18 +85,4 @@ pub(crate) fn seal(d: &mut [u8], n: usize)
     let c = checksum::checksum(&d[..n]);
     d[2] = (c / 256) as u8;
     d[3] = (c % 256) as u8;
-}
-
-// Whether records are those of runs of entries, and not one for each entry.
-pub(crate) fn is_aggregated(kind: Kind) -> bool
-    ensures { λ r. ⌜ r ≡ isAggregated kind ⌝ }
-{
-    match kind {
-        Kind::Hello => false,
-        Kind::Assert => false,
-        Kind::Simple => false,
-        Kind::Aggregated => true,
-        Kind::NullRegister => false,
-        Kind::RegisterStop => false,
-    }
 }

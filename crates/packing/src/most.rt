@@ -1,7 +1,6 @@
 // The most of some entries that fit into one message, and that message.
 use crate::message::begin;
-use crate::message::head_size;
-use crate::message::is_aggregated;
+use crate::message::layout_of;
 use crate::message::seal;
 use crate::record::put_records;
 use crate::within::Fitted;
@@ -24,33 +23,17 @@ pub struct Written {
     pub taken: usize,
 }
 
-// Of n entries, how many one message may take.
-fn at_most(kind: Kind, n: usize) -> usize
-    ensures { λ r. ⌜ r ≡ formFor kind .atMost n ⌝ }
-{
-    match kind {
-        Kind::Hello => 0,
-        Kind::Assert => {
-            if 1 < n {
-                return 1;
-            }
-            n
-        }
-        Kind::Simple => n,
-        Kind::Aggregated => n,
-        Kind::NullRegister => n,
-        Kind::RegisterStop => n,
-    }
-}
-
 // How many of n entries fit, where every record has one length.
 fn how_many_fixed(kind: Kind, limit: usize, n: usize) -> usize
-    requires { ⌜ headSize kind ≤ limit ⌝ }
+    requires { ⌜ Packs kind × (0 < n) × (headSize kind ≤ limit) ⌝ }
     ensures { λ r. ⌜ r ≡ fitting kind limit n ⌝ }
 {
-    let most = at_most(kind, n);
-    let fit = (limit - head_size(kind)) / (entry_size(kind) + 6);
-    smaller(fit, most)
+    let l = layout_of(kind);
+    let fit = (limit - l.head) / (entry_size(kind) + 6);
+    if l.one {
+        return smaller(fit, 1);
+    }
+    smaller(fit, n)
 }
 
 // The records of the most of n entries that fit, past the beginning of their message.
@@ -68,7 +51,8 @@ fn put_most(
     ensures next { λ r. ⌜ r .next ≡ out + length (recordsFor kind (entriesAt (entriesFor kind) (now (e .entry)) from (r .taken))) ⌝ }
     ensures buffer { λ r. ⌜ now (d .exit) ≡ put (now (d .entry)) out (recordsFor kind (entriesAt (entriesFor kind) (now (e .entry)) from (r .taken))) ⌝ }
 {
-    if is_aggregated(kind) {
+    let l = layout_of(kind);
+    if l.aggregated {
         return put_within(e, from, n, d, out, limit);
     }
     let taken = how_many_fixed(kind, limit, n);

@@ -1,20 +1,19 @@
 -- `packing::most::how_many_fixed` meets its contract: the smaller of two numbers.
 -- Assumes nothing.
 use native.Mathlib.Omega.{arith}
+use mathlib.Core.Path.{sym, _∙_}
 use borrow.Author.Needs.{needs}
-use Rattle.packing.specs.Kinds.{fitting}
 use Rattle.entries.proofs.ByKind.{size-range}
+use Rattle.packing.specs.Kinds.{fitting}
+use Rattle.packing.proofs.ByKind.{most-one, most-all}
 use Rattle.packing.proofs.most.how_many_fixed.Statement.{statement}
 use Rattle.packing.proofs.most.how_many_fixed.Tie as tie
 
-at-most-requires : tie.Need-at-most-requires
-at-most-requires c κs = search needs
-
-head-size-requires : tie.Need-head-size-requires
-head-size-requires c κs = search needs
+layout-of-requires : tie.Need-layout-of-requires
+layout-of-requires c κs = search needs
 
 sub-fit : tie.Need-sub-fit
-sub-fit c = search needs
+sub-fit c = omega (arith, c .before .layout-of .ensures .2, c .before .before .pre .2)
 
 entry-size-requires : tie.Need-entry-size-requires
 entry-size-requires c κs = search needs
@@ -31,18 +30,32 @@ smaller-requires c κs = search needs
 returns : tie.Need-returns
 unfolding fitting
 returns c =
-    let size = c .before in
-    rw (← size .entry-size .ensures, ← size .before .head-size .ensures, ← size .before .before .at-most .ensures) (c .smaller .ensures)
+    let size = c .before .before in
+    let l = size .before .before .layout-of in
+    let s = size .before .before .before in
+    rw (most-one (s .args .n) (s .args .kind) (s .pre .1) (sym (l .ensures .4) ∙ c .before .if1 .taken), ← size .entry-size .ensures, ← l .ensures .2) (c .smaller .ensures)
+
+smaller-requires-2 : tie.Need-smaller-requires-2
+smaller-requires-2 c κs = search needs
+
+returns-2 : tie.Need-returns-2
+unfolding fitting
+returns-2 c =
+    let size = c .before .before in
+    let l = size .before .before .layout-of in
+    let s = size .before .before .before in
+    rw (most-all (s .args .n) (s .args .kind) (s .pre .0) (sym (l .ensures .4) ∙ c .before .if1 .left), ← size .entry-size .ensures, ← l .ensures .2) (c .smaller2 .ensures)
 
 pub how-many-fixed-spec : {M : Type 1} → statement M
 how-many-fixed-spec =
     tie.close
     (tie.spec
-    at-most-requires
-    head-size-requires
+    layout-of-requires
     sub-fit
     entry-size-requires
     add-fit
     div-fit
     smaller-requires
-    returns)
+    returns
+    smaller-requires-2
+    returns-2)

@@ -20,7 +20,7 @@ use Rattle.packing.proofs.most.put_most.Statement.{statement}
 use Rattle.packing.proofs.most.put_most.Tie as tie
 
 fixed : (c : tie.Else1) → isAggregated (c .before .before .before .before .args .kind) ≡ false
-fixed c = sym (c .before .is-aggregated .ensures) ∙ c .if1 .left
+fixed c = sym (c .before .layout-of .ensures .3) ∙ c .if1 .left
 
 -- how many records of one length there are
 counted : (c : tie.After-how-many-fixed) → c .how-many-fixed .result ≡ taken (formFor (c .before .before .before .before .before .args .kind)) (c .before .before .before .before .before .args .limit) (entriesAt (entriesFor (c .before .before .before .before .before .args .kind)) (now (c .before .before .before .before .before .args .e)) (c .before .before .before .before .before .args .from) (c .before .before .before .before .before .args .n))
@@ -30,13 +30,13 @@ counted c =
     c .how-many-fixed .ensures
     ∙ sym (taken-fixed (a .kind) (c .before .before .before .before .before .pre .0) (fixed (c .before)) (a .limit) es (omega (arith, head-range (a .kind), c .before .before .before .before .before .pre .3)) ∙ ap (fitting (a .kind) (a .limit)) (length-entriesAt (entriesFor (a .kind)) (now (a .e)) (a .from) (a .n)))
 
-is-aggregated-requires : tie.Need-is-aggregated-requires
-is-aggregated-requires c κs = search needs
+layout-of-requires : tie.Need-layout-of-requires
+layout-of-requires c κs = search needs
 
 put-within-requires : tie.Need-put-within-requires
 put-within-requires c κs =
     let a = c .before .before .before .before .before .args in
-    let there = rw (aggregated-is (a .kind) (sym (c .before .before .is-aggregated .ensures) ∙ c .before .if1 .taken)) at (c .before .before .before .before .before .pre .2) in
+    let there = rw (aggregated-is (a .kind) (sym (c .before .before .layout-of .ensures .3) ∙ c .before .if1 .taken)) at (c .before .before .before .before .before .pre .2) in
     (there, omega (arith, head-range (a .kind), c .before .before .before .before .before .pre .3, c .before .before .before .before .before .pre .5), c .before .before .before .before .before .pre .4)
 
 same-length : tie.Need-same-length
@@ -46,13 +46,15 @@ returns : tie.Need-returns
 unfolding recordsFor allOf
 returns c =
     let a = c .before .before .before .before .before .before .before .before .args in
-    let kind = aggregated-is (a .kind) (sym (c .before .before .before .before .before .is-aggregated .ensures) ∙ c .before .before .before .before .if1 .taken) in
+    let kind = aggregated-is (a .kind) (sym (c .before .before .before .before .before .layout-of .ensures .3) ∙ c .before .before .before .before .if1 .taken) in
     let head : a .out ≡ 8 = rw kind at (c .before .before .before .before .before .before .before .before .pre .5) in
     let wrote = c .before .before .put-within .ensures in
     rw kind (taken-within (now (a .e)) (a .from) (a .n) (a .limit) _ (omega (arith, c .before .before .before .before .before .before .before .before .pre .3)) (rw head at (wrote .0)), wrote .1)
 
 how-many-fixed-requires : tie.Need-how-many-fixed-requires
-how-many-fixed-requires c κs = omega (arith, head-range (c .before .before .before .before .args .kind), c .before .before .before .before .pre .3)
+how-many-fixed-requires c κs =
+    let s = c .before .before .before .before in
+    (s .pre .0, s .pre .1, omega (arith, head-range (s .args .kind), s .pre .3))
 
 put-records-requires : tie.Need-put-records-requires
 put-records-requires c κs =
@@ -78,7 +80,7 @@ pub put-most-spec : {M : Type 1} → statement M
 put-most-spec =
     tie.close
     (tie.spec
-    is-aggregated-requires
+    layout-of-requires
     put-within-requires
     same-length
     returns
