@@ -34,7 +34,7 @@ fn pack(kind: Kind, e: &[u8], start: usize, limit: usize, d: &mut [u8]) -> Packi
             let size = entry_size(kind);
             let w = write_most(kind, e, size * start, e.len() / size - start, l, d);
             Packing::Wrote {
-                length: w.length,
+                length: w.next,
                 taken: w.taken,
             }
         }

@@ -1,8 +1,8 @@
 // The choice between the two packed assert forms: both are written, each into a buffer of its own.
 use crate::limit::Limit;
 use crate::limit::asked;
-use crate::most::Written;
 use crate::most::write_most;
+use crate::within::Fitted;
 use crate::within::smaller;
 use format::Kind;
 use format::Refusal;
@@ -25,8 +25,8 @@ pub enum Choice {
 }
 
 // The one that took more entries, then the shorter, then the simple.
-fn prefers_aggregated(s: Written, a: Written) -> bool
-    ensures { λ r. ⌜ r ≡ ltb (s .taken) (a .taken) || (eqb (s .taken) (a .taken) && ltb (a .length) (s .length)) ⌝ }
+fn prefers_aggregated(s: Fitted, a: Fitted) -> bool
+    ensures { λ r. ⌜ r ≡ ltb (s .taken) (a .taken) || (eqb (s .taken) (a .taken) && ltb (a .next) (s .next)) ⌝ }
 {
     if s.taken < a.taken {
         return true;
@@ -34,7 +34,7 @@ fn prefers_aggregated(s: Written, a: Written) -> bool
     if s.taken != a.taken {
         return false;
     }
-    a.length < s.length
+    a.next < s.next
 }
 
 // Packs both forms and says which is chosen. Either buffer below the limit is refused with 8.
@@ -60,13 +60,13 @@ pub fn pack_both(
             if prefers_aggregated(s, a) {
                 return Choice::Wrote {
                     aggregated: true,
-                    length: a.length,
+                    length: a.next,
                     taken: a.taken,
                 };
             }
             Choice::Wrote {
                 aggregated: false,
-                length: s.length,
+                length: s.next,
                 taken: s.taken,
             }
         }

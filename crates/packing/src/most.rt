@@ -17,12 +17,6 @@ ghost use Rattle.format.specs.Packing.{canonical, taken, octetsOf, tookOf, pack
 ghost use Rattle.entries.specs.Kinds.{entriesFor};
 ghost use Rattle.packing.specs.Kinds.{formFor, recordsFor, headSize, fitting, Packs};
 
-// A message of so many octets, of so many entries; of none, no message.
-pub struct Written {
-    pub length: usize,
-    pub taken: usize,
-}
-
 // How many of n entries fit, where every record has one length.
 fn how_many_fixed(kind: Kind, limit: usize, n: usize) -> usize
     requires { ⌜ Packs kind × (0 < n) × (headSize kind ≤ limit) ⌝ }
@@ -73,7 +67,7 @@ fn write_message(kind: Kind, e: &[u8], from: usize, n: usize, limit: usize, d: &
     records
 }
 
-// The message of the most of n entries that fit, if there are any: the limit has room for one.
+// The message of the most of n entries that fit: how many it takes, and its length. Of no entries there is none.
 pub(crate) fn write_most(
     kind: Kind,
     e: &[u8],
@@ -81,20 +75,13 @@ pub(crate) fn write_most(
     n: usize,
     limit: usize,
     d: &mut [u8],
-) -> Written
+) -> Fitted
     requires { ⌜ Packs kind × (from + entriesFor kind .size * n ≤ length (now e)) × (38 ≤ limit) × (limit ≤ length (now d)) ⌝ }
-    ensures answer { λ r. ⌜ (r .length ≡ length (octetsOf (pack (formFor kind) limit (entriesAt (entriesFor kind) (now (e .entry)) from n)))) × (r .taken ≡ tookOf (pack (formFor kind) limit (entriesAt (entriesFor kind) (now (e .entry)) from n))) ⌝ }
+    ensures answer { λ r. ⌜ (r .next ≡ length (octetsOf (pack (formFor kind) limit (entriesAt (entriesFor kind) (now (e .entry)) from n)))) × (r .taken ≡ tookOf (pack (formFor kind) limit (entriesAt (entriesFor kind) (now (e .entry)) from n))) ⌝ }
     ensures buffer { λ r. ⌜ now (d .exit) ≡ put (now (d .entry)) 0 (octetsOf (pack (formFor kind) limit (entriesAt (entriesFor kind) (now (e .entry)) from n))) ⌝ }
 {
     if n == 0 {
-        return Written {
-            length: 0,
-            taken: 0,
-        };
+        return Fitted { taken: 0, next: 0 };
     }
-    let message = write_message(kind, e, from, n, limit, d);
-    Written {
-        length: message.next,
-        taken: message.taken,
-    }
+    write_message(kind, e, from, n, limit, d)
 }

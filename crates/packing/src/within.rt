@@ -25,7 +25,7 @@ pub struct Fitted {
     pub next: usize,
 }
 
-// The same, and how many group records were written.
+// How many entries were taken, the place past what was written, and how many group records that is.
 pub struct FittedGroups {
     taken: usize,
     next: usize,
