@@ -6,19 +6,19 @@
 // output.rt       lines of text
 // examples.rt     01's examples 3, 4, 5, 6 and 8
 // choice.rt       both packed assert forms, and the one that is chosen
-// entries.rt      the rule that makes the list of entries
+// rule.rt         the rule that makes the list of entries
 // train.rt        the list packed until nothing is left, and each message read back
 // compare.rt      the list packed against the list read
 mod call;
 mod choice;
 mod compare;
-mod entries;
 mod examples;
 mod output;
+mod rule;
 mod train;
 
 fn main() {
-    let list = entries::list();
+    let list = rule::list();
     examples::run(&list);
     choice::run();
     train::run(&list);

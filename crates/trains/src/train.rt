@@ -2,12 +2,12 @@
 // second list, one after another, and the two lists are compared at the end. What is wrong is said where it is found.
 use crate::call::pack;
 use crate::compare::compare_lists;
-use crate::entries::COUNT;
-use crate::entries::room;
 use crate::output::answer;
 use crate::output::number;
 use crate::output::refused;
 use crate::output::text;
+use crate::rule::COUNT;
+use crate::rule::room;
 use packing::Packing;
 use reading::Reading;
 ghost use mathlib.Core.Path.{_≡_};

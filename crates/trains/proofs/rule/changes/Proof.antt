@@ -1,9 +1,9 @@
--- `trains::entries::changes` meets its contract: a quotient is at most what was divided.
+-- `trains::rule::changes` meets its contract: a quotient is at most what was divided.
 -- Assumes nothing.
 use native.Mathlib.Nat.{div-le-self}
 use borrow.Author.Needs.{needs}
-use Rattle.trains.proofs.entries.changes.Statement.{statement}
-use Rattle.trains.proofs.entries.changes.Tie as tie
+use Rattle.trains.proofs.rule.changes.Statement.{statement}
+use Rattle.trains.proofs.rule.changes.Tie as tie
 
 returns : tie.Need-returns
 returns c = search needs
