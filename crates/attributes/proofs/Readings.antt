@@ -3,7 +3,7 @@
 --     then-got, then-bad                     a reader that goes on
 --     must-yes, must-no, must-bad            a field that has to pass a test
 --     option-fits, value-read                an option's value fits its octets; what is answered of one
---     inOrder, numbers, last, chained        readers in order; the same, each called on what the one before it came to: both come to one
+--     inOrder, numbers, last, chained        readers in order, as a definition and as calls, each on what the one before it came to: both are one
 --     values-chained, past-got, past-cut     the options' values, so read; what they come to, by the last of them
 --     has-f, other-type, pop-count           the first octet
 --     agrees-least, fields-read              a length that agrees has all the options, and what is past them is ignored
@@ -92,7 +92,7 @@ unfoldable pub inOrder : {A : Type 0} → List (Reader ℕ) → (List ℕ → A)
 inOrder [] f = give (f [])
 inOrder (r ∷ rs) f = r >>= (λ v. inOrder rs (λ l. f (v ∷ l)))
 
--- the same, each called on what the one before it came to
+-- readers each called on what the one before it came to: their numbers, and the last
 module _ (o : List ℕ) where
   unfoldable pub numbers : List (Reader ℕ) → Read ℕ → List ℕ
   numbers [] x = []

@@ -11,7 +11,7 @@ use borrow.Author.Tests.{le-leb, eq-eqb}
 use Rattle.octets.specs.Octets.{be}
 use Rattle.format.specs.Reader.{Reader, _>>=_, _>>_, give, octets, number}
 use Rattle.format.proofs.Readers.{Reads, reads-give, reads-bind, reads-last, reads-done, reads-octets, reads-number, reads-must, reads-inRecord}
-use Rattle.attributes.specs.Options.{Option, transit, stub, minimumSpeed, maximumSpeed, domain, node, diameter, timeZone, sizeOf, present, sizes, unallocated}
+use Rattle.attributes.specs.Options.{Option, transit, stub, minimumSpeed, maximumSpeed, domain, node, diameter, timeZone, sizeOf, hasBit, present, sizes, unallocated}
 use Rattle.attributes.specs.Attribute.{isPopCount, hasE, lengthAgrees, optional, values, attributeFields, attribute, optionOctets, valuesOctets, attributeOctets}
 use Rattle.attributes.specs.Written.{valueOf, Given, Written}
 use Rattle.attributes.specs.declared.read.Attribute.{Attribute}
@@ -47,7 +47,7 @@ abbrev first : Bool → ℕ
 first e = cond e 0x43 0x03
 
 first-is : (e : Bool) → (first e < 256) × (isPopCount (first e) ≡ true) × (hasE (first e) ≡ e)
-unfolding isPopCount hasE
+unfolding isPopCount hasE hasBit
 first-is true = (omega arith, refl, refl)
 first-is false = (omega arith, refl, refl)
 

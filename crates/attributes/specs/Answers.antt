@@ -27,14 +27,14 @@ sizeFor bit = cond (leb 0x4000 bit) 4 (cond (leb 0x1000 bit) 2 1)
 abbrev pub sizeBy : ℕ → ℕ → ℕ
 sizeBy w bit = cond (hasBit w bit) (sizeFor bit) 0
 
--- 0 where it is not present
+-- 0 where the option is not present
 unfoldable pub optionAt : ℕ → ℕ → Reader ℕ
 optionAt w bit = cond (hasBit w bit) (number (sizeFor bit)) (give 0)
 
 unfoldable pub past : {A : Type 0} → Reader A → List ℕ → Read ℕ → Read A
 past r o x = continue x (λ n next. r o next)
 
--- of a fault 0
+-- 0 where there is a fault
 abbrev pub numberOf : Read ℕ → ℕ
 numberOf (got n next) = n
 numberOf (bad n place) = 0
@@ -46,7 +46,7 @@ valuesAfter f k = do
   octets k
   give (record { e = f .e; mtu = f .mtu; flags = f .flags; options = f .options; values = v })
 
--- of E and the length
+-- given E and the length
 unfoldable pub fieldsAfter : Bool → ℕ → Reader Attribute
 fieldsAfter e n = do
   m ← number 2

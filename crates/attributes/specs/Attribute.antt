@@ -4,7 +4,7 @@
 --     lengthAgrees                 what the length may be for the options
 --     optional, values             an option's value, and all eight
 --     attributeFields, attribute   an attribute, its faults in the order of its fields
---     optionOctets, valuesOctets, attributeOctets     the same, written
+--     optionOctets, valuesOctets, attributeOctets     an option, all eight and the attribute, written
 -- Assumes nothing: these are definitions.
 use Prim.Native.Nat.{ℕ, _+_, _-_, _/_, _%_}
 use mathlib.Core.Bool.{Bool, _&&_, cond}
@@ -12,7 +12,7 @@ use mathlib.Core.List.{List, []}
 use lib.Dec.{eqb, leb}
 use Rattle.octets.specs.Octets.{be, _&_}
 use Rattle.format.specs.Reader.{Reader, _>>=_, _>>_, give, octets, number, must, inRecord}
-use Rattle.attributes.specs.Options.{Option, transit, stub, minimumSpeed, maximumSpeed, domain, node, diameter, timeZone, sizeOf, present, sizes, unallocated}
+use Rattle.attributes.specs.Options.{Option, transit, stub, minimumSpeed, maximumSpeed, domain, node, diameter, timeZone, sizeOf, hasBit, present, sizes, unallocated}
 use Rattle.attributes.specs.declared.read.Attribute.{Attribute}
 use Rattle.attributes.specs.declared.options.Values.{Values}
 
@@ -23,7 +23,7 @@ unfoldable pub isPopCount : ℕ → Bool
 isPopCount t = eqb (t / 128) 0 && eqb (t % 64) 3
 
 unfoldable pub hasE : ℕ → Bool
-hasE t = eqb (t / 64 % 2) 1
+hasE t = hasBit t 64
 
 -- "Length is 6 plus these"; "If an unallocated option bit is set, octets beyond the known ones are ignored; if none, the length is exact"
 unfoldable pub lengthAgrees : ℕ → ℕ → Bool

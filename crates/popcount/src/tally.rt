@@ -44,7 +44,7 @@ pub(crate) enum Tallied {
     Refused(Refusal),
 }
 
-// The six options that are merged are given where no contributor lacks them.
+// The tally before the first contributor: the six options that are merged are given where none lacks them.
 fn begin(own: Own) -> Tally
     ensures { λ r. ⌜ r ≡ begun own ⌝ }
 {
@@ -62,7 +62,7 @@ fn begin(own: Own) -> Tally
     }
 }
 
-// With one more contributor.
+// A tally with one more contributor.
 fn count(t: Tally, a: Attribute) -> Tally
     ensures { λ r. ⌜ r ≡ counted t a ⌝ }
 {

@@ -66,7 +66,7 @@ fn put_values(d: &mut [u8], start: usize, options: u16, v: Values)
     put_option(d, at, options, TIME_ZONE, v.time_zone as u32);
 }
 
-// F is 0, the type 3.
+// The first octet: F is 0, E as the caller says, the type 3.
 fn first_octet(e: bool) -> u32
     ensures { λ r. ⌜ r ≡ cond e 0x43 0x03 ⌝ }
 {

@@ -11,12 +11,9 @@ returns : tie.Need-returns
 unfolding hasBit
 returns c = rw (c .if1 .taken, div-zero)
 
-div-result : tie.Need-div-result
-div-result c = search needs
-
 returns-2 : tie.Need-returns-2
 unfolding hasBit
 returns-2 c = refl
 
 pub has-bit-spec : {M : Type 1} → statement M
-has-bit-spec = tie.close (tie.spec returns div-result returns-2)
+has-bit-spec = tie.close (tie.spec returns (λ c. search needs) returns-2)

@@ -6,6 +6,7 @@ use denote.Ref.{now}
 use borrow.Author.Needs.{needs}
 use Rattle.octets.proofs.Laws.{read-got, read-cut}
 use Rattle.format.specs.Reader.{got, number, must, _>>=_}
+use Rattle.attributes.specs.Options.{hasBit}
 use Rattle.attributes.specs.Attribute.{isPopCount, hasE, attributeFields}
 use Rattle.attributes.specs.Answers.{fieldsAfter}
 use Rattle.attributes.proofs.Readings.{refused, then-got, then-bad, must-yes, must-no, must-bad, has-f, other-type, pop-count}
@@ -37,35 +38,17 @@ size : (c : tie.After-known-told2)
     ≡ got (c .before .l .given .0 .0) (c .before .l .given .0 .1 .0)
 size c = read-got (c .before .before .before .read82 .ensures) (c .before .l .given .1)
 
-read8-requires : tie.Need-read8-requires
-read8-requires c κs = search needs
-
-enum-known-t : tie.Need-enum-known-t
-enum-known-t c = search needs
-
-enum-told : tie.Need-enum-told
-enum-told c = search needs
-
-cut-requires : tie.Need-cut-requires
-cut-requires c κs = search needs
-
 returns : tie.Need-returns
 unfolding attributeFields _>>=_
 returns c =
     c .cut .ensures
     ∙ sym (then-bad _ (must-bad 13 isPopCount (number 1) _ _ (read-cut (c .before .before .before .read8 .ensures) (c .before .enum-told .given .1) refl)))
 
-bad-requires : tie.Need-bad-requires
-bad-requires c κs = search needs
-
 returns-2 : tie.Need-returns-2
 unfolding attributeFields _>>=_
 returns-2 c =
     let d = c .before .before in
     refused (c .bad .ensures) ∙ sym (then-bad _ (must-no 13 isPopCount (number 1) _ _ (octet d) (has-f _ (c .before .if1 .taken))))
-
-bad-requires-2 : tie.Need-bad-requires-2
-bad-requires-2 c κs = search needs
 
 returns-3 : tie.Need-returns-3
 unfolding attributeFields _>>=_
@@ -74,18 +57,6 @@ returns-3 c =
     refused (c .bad2 .ensures)
     ∙ sym (then-bad _ (must-no 13 isPopCount (number 1) _ _ (octet d) (other-type _ (c .before .before .if1 .left) (c .before .if2 .taken))))
 
-read8-requires-2 : tie.Need-read8-requires-2
-read8-requires-2 c κs = search needs
-
-enum-known-l : tie.Need-enum-known-l
-enum-known-l c = search needs
-
-enum-told-2 : tie.Need-enum-told-2
-enum-told-2 c = search needs
-
-cut-requires-2 : tie.Need-cut-requires-2
-cut-requires-2 c κs = search needs
-
 returns-4 : tie.Need-returns-4
 unfolding attributeFields _>>=_
 returns-4 c =
@@ -93,20 +64,14 @@ returns-4 c =
     ∙ sym (then-got _ (kind (c .before .before .before .before))
     ∙ then-bad _ (must-bad 13 _ (number 1) _ _ (read-cut (c .before .before .before .read82 .ensures) (c .before .enum-told2 .given .1) refl)))
 
-bad-requires-3 : tie.Need-bad-requires-3
-bad-requires-3 c κs = search needs
-
 returns-5 : tie.Need-returns-5
 unfolding attributeFields _>>=_
 returns-5 c =
     let d = c .before .before in
     refused (c .bad3 .ensures) ∙ sym (then-got _ (kind (second d)) ∙ then-bad _ (must-no 13 _ (number 1) _ _ (size d) (lt-leb _ _ (c .before .if3 .taken))))
 
-fields-after-requires : tie.Need-fields-after-requires
-fields-after-requires c κs = search needs
-
 returns-6 : tie.Need-returns-6
-unfolding attributeFields _>>=_ fieldsAfter hasE
+unfolding attributeFields _>>=_ fieldsAfter hasE hasBit
 returns-6 c =
     let d = c .before .before in
     c .fields-after .ensures ∙ sym (then-got _ (kind (second d)) ∙ then-got _ (must-yes 13 _ (number 1) _ _ (size d) (le-leb _ _ (c .before .if3 .left))))
@@ -115,21 +80,21 @@ pub attribute-fields-spec : {M : Type 1} → statement M
 attribute-fields-spec =
     tie.close
     (tie.spec
-    read8-requires
-    enum-known-t
-    enum-told
-    cut-requires
+    (λ c κs. search needs)
+    (λ c. search needs)
+    (λ c. search needs)
+    (λ c κs. search needs)
     returns
-    bad-requires
+    (λ c κs. search needs)
     returns-2
-    bad-requires-2
+    (λ c κs. search needs)
     returns-3
-    read8-requires-2
-    enum-known-l
-    enum-told-2
-    cut-requires-2
+    (λ c κs. search needs)
+    (λ c. search needs)
+    (λ c. search needs)
+    (λ c κs. search needs)
     returns-4
-    bad-requires-3
+    (λ c κs. search needs)
     returns-5
-    fields-after-requires
+    (λ c κs. search needs)
     returns-6)

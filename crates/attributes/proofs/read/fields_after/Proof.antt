@@ -39,36 +39,12 @@ options : (c : tie.After-known-told3)
     ≡ got (c .before .w .given .0 .0) (c .before .w .given .0 .1 .0)
 options c = read-got (c .before .before .before .read163 .ensures) (c .before .w .given .1)
 
-read16-requires : tie.Need-read16-requires
-read16-requires c κs = search needs
-
-enum-known-m : tie.Need-enum-known-m
-enum-known-m c = search needs
-
-enum-told : tie.Need-enum-told
-enum-told c = search needs
-
-cut-requires : tie.Need-cut-requires
-cut-requires c κs = search needs
-
 returns : tie.Need-returns
 unfolding fieldsAfter _>>=_
 returns c = c .cut .ensures ∙ sym (then-bad _ (read-cut (c .before .before .before .read16 .ensures) (c .before .enum-told .given .1) refl))
 
 cast-mtu : tie.Need-cast-mtu
 cast-mtu c = record { fits = number-lt 2 _ _ (read-got (c .before .before .before .read16 .ensures) (c .before .m .given .1)) (octets c) }
-
-read16-requires-2 : tie.Need-read16-requires-2
-read16-requires-2 c κs = search needs
-
-enum-known-f : tie.Need-enum-known-f
-enum-known-f c = search needs
-
-enum-told-2 : tie.Need-enum-told-2
-enum-told-2 c = search needs
-
-cut-requires-2 : tie.Need-cut-requires-2
-cut-requires-2 c κs = search needs
 
 returns-2 : tie.Need-returns-2
 unfolding fieldsAfter _>>=_
@@ -79,18 +55,6 @@ returns-2 c =
 
 cast-flags : tie.Need-cast-flags
 cast-flags c = record { fits = number-lt 2 _ _ (read-got (c .before .before .before .read162 .ensures) (c .before .f .given .1)) (octets (first c)) }
-
-read16-requires-3 : tie.Need-read16-requires-3
-read16-requires-3 c κs = search needs
-
-enum-known-w : tie.Need-enum-known-w
-enum-known-w c = search needs
-
-enum-told-3 : tie.Need-enum-told-3
-enum-told-3 c = search needs
-
-cut-requires-3 : tie.Need-cut-requires-3
-cut-requires-3 c κs = search needs
 
 returns-3 : tie.Need-returns-3
 unfolding fieldsAfter _>>=_
@@ -103,22 +67,10 @@ returns-3 c =
 cast-options : tie.Need-cast-options
 cast-options c = record { fits = number-lt 2 _ _ (read-got (c .before .before .before .read163 .ensures) (c .before .w .given .1)) (octets (first (second c))) }
 
-length-agrees-requires : tie.Need-length-agrees-requires
-length-agrees-requires c κs = search needs
-
-sizes-requires : tie.Need-sizes-requires
-sizes-requires c κs = search needs
-
-add-values-after : tie.Need-add-values-after
-add-values-after c = search needs
-
 sub-values-after : tie.Need-sub-values-after
 sub-values-after c =
     let l = c .before .before in
     omega (arith, c .sizes .ensures .0, agrees-least _ _ (sym (l .length-agrees .ensures) ∙ c .before .if1 .taken))
-
-values-after-requires : tie.Need-values-after-requires
-values-after-requires c κs = search needs
 
 returns-4 : tie.Need-returns-4
 returns-4 c =
@@ -127,9 +79,6 @@ returns-4 c =
     let d = l .before in
     fields-read _ _ _ _ (c .values-after .ensures) (c .before .sizes .ensures .0) (mtu (first (second d))) (flags (second d)) (options d)
     (sym (l .length-agrees .ensures) ∙ t .if1 .taken)
-
-bad-requires : tie.Need-bad-requires
-bad-requires c κs = search needs
 
 returns-5 : tie.Need-returns-5
 unfolding fieldsAfter _>>=_
@@ -145,29 +94,29 @@ pub fields-after-spec : {M : Type 1} → statement M
 fields-after-spec =
     tie.close
     (tie.spec
-    read16-requires
-    enum-known-m
-    enum-told
-    cut-requires
+    (λ c κs. search needs)
+    (λ c. search needs)
+    (λ c. search needs)
+    (λ c κs. search needs)
     returns
     cast-mtu
-    read16-requires-2
-    enum-known-f
-    enum-told-2
-    cut-requires-2
+    (λ c κs. search needs)
+    (λ c. search needs)
+    (λ c. search needs)
+    (λ c κs. search needs)
     returns-2
     cast-flags
-    read16-requires-3
-    enum-known-w
-    enum-told-3
-    cut-requires-3
+    (λ c κs. search needs)
+    (λ c. search needs)
+    (λ c. search needs)
+    (λ c κs. search needs)
     returns-3
     cast-options
-    length-agrees-requires
-    sizes-requires
-    add-values-after
+    (λ c κs. search needs)
+    (λ c κs. search needs)
+    (λ c. search needs)
     sub-values-after
-    values-after-requires
+    (λ c κs. search needs)
     returns-4
-    bad-requires
+    (λ c κs. search needs)
     returns-5)

@@ -7,12 +7,6 @@ use Rattle.attributes.specs.Attribute.{lengthAgrees}
 use Rattle.attributes.proofs.read.length_agrees.Statement.{statement}
 use Rattle.attributes.proofs.read.length_agrees.Tie as tie
 
-sizes-requires : tie.Need-sizes-requires
-sizes-requires c κs = search needs
-
-add-known : tie.Need-add-known
-add-known c = search needs
-
 returns : tie.Need-returns
 unfolding lengthAgrees unallocated
 returns c = rw (eq-eqb _ _ (c .if1 .taken), c .before .sizes .ensures .0)
@@ -22,4 +16,4 @@ unfolding lengthAgrees unallocated
 returns-2 c = rw (ne-eqb _ _ (c .if1 .left), c .before .sizes .ensures .0)
 
 pub length-agrees-spec : {M : Type 1} → statement M
-length-agrees-spec = tie.close (tie.spec sizes-requires add-known returns returns-2)
+length-agrees-spec = tie.close (tie.spec (λ c κs. search needs) (λ c. search needs) returns returns-2)

@@ -8,18 +8,6 @@ use Rattle.attributes.proofs.Readings.{refused, handed-got, handed-bad}
 use Rattle.attributes.proofs.read.read_attribute.Statement.{statement}
 use Rattle.attributes.proofs.read.read_attribute.Tie as tie
 
-attribute-fields-requires : tie.Need-attribute-fields-requires
-attribute-fields-requires c κs = search needs
-
-enum-known-f : tie.Need-enum-known-f
-enum-known-f c = search needs
-
-enum-known-f-2 : tie.Need-enum-known-f-2
-enum-known-f-2 c = search needs
-
-bad-requires : tie.Need-bad-requires
-bad-requires c κs = search needs
-
 returns : tie.Need-returns
 unfolding readBy
 returns c =
@@ -37,4 +25,4 @@ returns-2 c =
 pub read-attribute-spec : {M : Type 1} → statement M
 read-attribute-spec =
     tie.close
-    (tie.spec attribute-fields-requires enum-known-f enum-known-f-2 bad-requires returns returns-2)
+    (tie.spec (λ c κs. search needs) (λ c. search needs) (λ c. search needs) (λ c κs. search needs) returns returns-2)

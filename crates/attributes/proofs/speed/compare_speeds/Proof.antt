@@ -9,23 +9,8 @@ use Rattle.attributes.proofs.Speeds.{compared-left, compared-right, pro
 use Rattle.attributes.proofs.speed.compare_speeds.Statement.{statement}
 use Rattle.attributes.proofs.speed.compare_speeds.Tie as tie
 
-cast-m : tie.Need-cast-m
-cast-m c = search needs
-
-cast-n : tie.Need-cast-n
-cast-n c = search needs
-
-sub-power : tie.Need-sub-power
-sub-power c = search needs
-
-power-requires : tie.Need-power-requires
-power-requires c κs = search needs
-
 mul-ordered : tie.Need-mul-ordered
 mul-ordered c = omega (arith, product-most (c .before .before .args .b) (c .power .result) (c .power .ensures .1))
-
-ordered-requires : tie.Need-ordered-requires
-ordered-requires c κs = search needs
 
 returns : tie.Need-returns
 returns c =
@@ -33,14 +18,8 @@ returns c =
     c .ordered .ensures ∙ ap (λ n. order (a .a % 1024) (a .b % 1024 * n)) (c .before .power .ensures .0)
     ∙ compared-right (a .a) (a .b) (c .before .before .if1 .taken)
 
-power-requires-2 : tie.Need-power-requires-2
-power-requires-2 c κs = search needs
-
 mul-ordered-2 : tie.Need-mul-ordered-2
 mul-ordered-2 c = omega (arith, product-most (c .before .before .args .a) (c .power2 .result) (c .power2 .ensures .1))
-
-ordered-requires-2 : tie.Need-ordered-requires-2
-ordered-requires-2 c κs = search needs
 
 returns-2 : tie.Need-returns-2
 returns-2 c =
@@ -52,14 +31,14 @@ pub compare-speeds-spec : {M : Type 1} → statement M
 compare-speeds-spec =
     tie.close
     (tie.spec
-    cast-m
-    cast-n
-    sub-power
-    power-requires
+    (λ c. search needs)
+    (λ c. search needs)
+    (λ c. search needs)
+    (λ c κs. search needs)
     mul-ordered
-    ordered-requires
+    (λ c κs. search needs)
     returns
-    power-requires-2
+    (λ c κs. search needs)
     mul-ordered-2
-    ordered-requires-2
+    (λ c κs. search needs)
     returns-2)

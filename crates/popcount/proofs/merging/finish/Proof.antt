@@ -15,12 +15,6 @@ use Rattle.popcount.specs.Tally.{finishing}
 use Rattle.popcount.proofs.merging.finish.Statement.{statement}
 use Rattle.popcount.proofs.merging.finish.Tie as tie
 
-sizes-of-requires : tie.Need-sizes-of-requires
-sizes-of-requires c κs = search needs
-
-add-if1 : tie.Need-add-if1
-add-if1 c = search needs
-
 long : (c : tie.After-sizes-of) → length (attributeOctets (c .before .before .args .a)) ≡ 8 + c .sizes-of .result
 long c = length-attribute (c .before .before .args .a) ∙ ap (λ n. 8 + n) (sym (c .sizes-of .ensures .0))
 
@@ -36,12 +30,6 @@ put-attribute-requires c κs =
     let s = c .before .before in
     (c .before .if1 .left, s .sizes-of .ensures .0, s .sizes-of .ensures .1)
 
-add-t4 : tie.Need-add-t4
-add-t4 c = search needs
-
-same-length : tie.Need-same-length
-same-length c = search needs
-
 returns-2 : tie.Need-returns-2
 unfolding finishing written lengthBy refuseIf _>>_
 returns-2 c =
@@ -55,10 +43,10 @@ pub finish-spec : {M : Type 1} → statement M
 finish-spec =
     tie.close
     (tie.spec
-    sizes-of-requires
-    add-if1
+    (λ c κs. search needs)
+    (λ c. search needs)
     returns
     put-attribute-requires
-    add-t4
-    same-length
+    (λ c. search needs)
+    (λ c. search needs)
     returns-2)

@@ -11,24 +11,6 @@ use Rattle.popcount.proofs.Merges.{merging-refused, merging-gives}
 use Rattle.popcount.proofs.merging.merge.Statement.{statement}
 use Rattle.popcount.proofs.merging.merge.Tie as tie
 
-count-all-requires : tie.Need-count-all-requires
-count-all-requires c κs = search needs
-
-enum-known-all : tie.Need-enum-known-all
-enum-known-all c = search needs
-
-attribute-of-requires : tie.Need-attribute-of-requires
-attribute-of-requires c κs = search needs
-
-finish-requires : tie.Need-finish-requires
-finish-requires c κs = search needs
-
-enum-known-all-2 : tie.Need-enum-known-all-2
-enum-known-all-2 c = search needs
-
-same-length : tie.Need-same-length
-same-length c = search needs
-
 fit : (c : tie.Start) → CountsFit (c .args .own)
 fit c = record { transit = omega (arith, c .good); stub = omega (arith, c .good) }
 
@@ -57,11 +39,11 @@ pub merge-spec : {M : Type 1} → statement M
 merge-spec =
     tie.close
     (tie.spec
-    count-all-requires
-    enum-known-all
-    attribute-of-requires
-    finish-requires
-    enum-known-all-2
-    same-length
+    (λ c κs. search needs)
+    (λ c. search needs)
+    (λ c κs. search needs)
+    (λ c κs. search needs)
+    (λ c. search needs)
+    (λ c. search needs)
     returns
     returns-2)

@@ -19,20 +19,8 @@ Inv-loop o t₀ at₀ t at = SoFar o t₀ t at
 abbrev μ-loop : tie.MeasureT-loop
 μ-loop o t₀ at₀ t at = length o - at
 
-begin-requires : tie.Need-begin-requires Inv-loop μ-loop
-begin-requires c κs = search needs
-
 loop-holds : tie.Need-loop-holds Inv-loop μ-loop
 loop-holds c = so-far-start (now (c .before .before .args .o)) (c .begin .result)
-
-read-attribute-requires : tie.Need-read-attribute-requires Inv-loop μ-loop
-read-attribute-requires c κs = search needs
-
-enum-known-f : tie.Need-enum-known-f Inv-loop μ-loop
-enum-known-f c = search needs
-
-count-requires : tie.Need-count-requires Inv-loop μ-loop
-count-requires c κs = search needs
 
 loop-less : tie.Need-loop-less Inv-loop μ-loop
 unfolding readBy
@@ -49,9 +37,6 @@ loop-again c =
     let l = r .before .before in
     let read = sym (r .read-attribute .ensures) ∙ ap readBy (c .before .before .f .given .1) in
     rw (c .count .ensures) (so-far-next (l .loop .inv) (r .before .loop-test .taken) read)
-
-enum-known-f-2 : tie.Need-enum-known-f-2 Inv-loop μ-loop
-enum-known-f-2 c = search needs
 
 returns : tie.Need-returns Inv-loop μ-loop
 unfolding readBy tallied
@@ -71,13 +56,13 @@ count-all-spec =
     (tie.spec
     Inv-loop
     μ-loop
-    begin-requires
+    (λ c κs. search needs)
     loop-holds
-    read-attribute-requires
-    enum-known-f
-    count-requires
+    (λ c κs. search needs)
+    (λ c. search needs)
+    (λ c κs. search needs)
     loop-less
     loop-again
-    enum-known-f-2
+    (λ c. search needs)
     returns
     returns-2)
