@@ -1,6 +1,7 @@
 -- How long a written attribute is.
---     sizes-most           the options have at most 16 octets
---     length-option, length-values, length-attribute     what is written of an option, of all, of an attribute
+--     sizes-most                           the options have at most 16 octets
+--     option-is                            what is written of an option, as a number
+--     length-values, length-attribute      how long the options are, and an attribute
 -- Assumes nothing.
 use Prim.Native.Nat.{ℕ, _+_, _≤_}
 use native.Mathlib.Omega.{arith}
@@ -38,17 +39,18 @@ sizes-most w =
       size-most w timeZone,
     )
 
-pub length-option : (w : ℕ) (i : Option) (n : ℕ) → length (optionOctets w i n) ≡ sizeIn w i
-unfolding optionOctets sizeIn
-length-option w i n = go (present w i)
+-- an option that is not present is a number of no octets
+pub option-is : (w : ℕ) (i : Option) (n : ℕ) → optionOctets w i n ≡ be (sizeIn w i) n
+unfolding optionOctets sizeIn be
+option-is w i n = go (present w i)
   where
-    go : (b : Bool) → length (cond b (be (sizeOf i) n) []) ≡ cond b (sizeOf i) 0
-    go true = length-be (sizeOf i) n
+    go : (b : Bool) → cond b (be (sizeOf i) n) [] ≡ be (cond b (sizeOf i) 0) n
+    go true = refl
     go false = refl
 
 pub length-values : (w : ℕ) (v : Values) → length (valuesOctets w v) ≡ sizes w
 unfolding valuesOctets sizes
-length-values w v = simp (length-append, length-option)
+length-values w v = simp (length-append, option-is, length-be)
 
 pub length-attribute : (a : Attribute) → length (attributeOctets a) ≡ 8 + sizes (a .options)
 unfolding attributeOctets

@@ -4,7 +4,6 @@
 --     values-are                                the options in order, each by its bit
 -- Assumes nothing.
 use mathlib.Core.Path.{_≡_, refl, sym, ap, _∙_}
-use mathlib.Core.Bool.{Bool, true, false, cond}
 use mathlib.Core.List.{List, [], _∷_, _++_}
 use Prim.Native.Nat.{ℕ, suc, _+_, _/_, _%_, _^_, _≤_}
 use native.Mathlib.Nat.{add-zero, div-one, div-div-eq-div-mul, pow-suc}
@@ -13,9 +12,10 @@ use lib.ListN.{length, set}
 use Rattle.octets.specs.Octets.{be, put, _&_}
 use Rattle.octets.proofs.Laws.{be-suc, length-be, put-nil, put-next, put-before, length-put, stores-put}
 use Rattle.attributes.specs.Answers.{sizeBy}
-use Rattle.attributes.specs.Options.{Option, bitOf, sizeOf, present, sizeIn}
-use Rattle.attributes.specs.Attribute.{optionOctets, valuesOctets}
+use Rattle.attributes.specs.Options.{bitOf, sizeOf, present, sizeIn}
+use Rattle.attributes.specs.Attribute.{valuesOctets}
 use Rattle.attributes.specs.declared.options.Values.{Values}
+use Rattle.attributes.proofs.Lengths.{option-is}
 
 -- ---- a number, from its last octet to its first
 
@@ -71,14 +71,6 @@ module _ {d₀ : List ℕ} {at k n : ℕ} {d : List ℕ} {rest i : ℕ} (l : Low
 pub put-after : (l : List ℕ) (at k n : ℕ) (f : List ℕ) {m p : List ℕ} {q : ℕ} → m ≡ put l at (be k n) → q ≡ at + k → p ≡ put m q f
     → p ≡ put l at (be k n ++ f)
 put-after l at k n f e h g = put-next l at (be k n) f e g (rw length-be h)
-
-option-is : (w : ℕ) (i : Option) (n : ℕ) → optionOctets w i n ≡ be (sizeIn w i) n
-unfolding optionOctets sizeIn be
-option-is w i n = go (present w i)
-  where
-    go : (b : Bool) → cond b (be (sizeOf i) n) [] ≡ be (cond b (sizeOf i) 0) n
-    go true = refl
-    go false = refl
 
 -- the options in order, each by its bit
 pub values-are : (w : ℕ) (v : Values)
