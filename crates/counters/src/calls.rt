@@ -1,7 +1,7 @@
 // The calls: by value, and on counters that are lent.
 use crate::Answer;
-use crate::Counted;
 use crate::Counters;
+use crate::CountersAfter;
 use crate::Direction;
 use crate::sums::added_in;
 use format::Refusal;
@@ -9,12 +9,12 @@ ghost use mathlib.Core.Path.{_≡_};
 ghost use Rattle.counters.specs.Counting.{counting, answerOf};
 
 // Adds one message and its records to the totals of a direction and a kind, by value.
-pub fn added(c: Counters, direction: Direction, kind: u8, records: u64) -> Counted
+pub fn added(c: Counters, direction: Direction, kind: u8, records: u64) -> CountersAfter
     ensures answer { λ r. ⌜ answerOf (r .answer) ≡ counting c direction kind records .answer ⌝ }
     ensures counters { λ r. ⌜ r .counters ≡ counting c direction kind records .counters ⌝ }
 {
     if 5 < kind {
-        return Counted {
+        return CountersAfter {
             answer: Answer::Refused(Refusal {
                 number: 4,
                 place: 0,
@@ -23,7 +23,7 @@ pub fn added(c: Counters, direction: Direction, kind: u8, records: u64) -> Count
         };
     }
     let counters = added_in(c, direction, kind, records);
-    Counted {
+    CountersAfter {
         answer: Answer::Added,
         counters,
     }

@@ -53,7 +53,7 @@ pub enum Answer {
 }
 
 // What a call did, and the counters after it.
-pub struct Counted {
+pub struct CountersAfter {
     pub answer: Answer,
     pub counters: Counters,
 }

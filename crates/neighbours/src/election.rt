@@ -1,5 +1,5 @@
-// Whether packing is allowed; then the election: two candidates, one row more, the rows of a table, and whom they elect. Each row is
-// looked at once.
+// Whether packing is allowed; then the election: two candidates, one row more, the rows of a table, and whom they elect; last the calls.
+// Each row is looked at once.
 use crate::Allowance;
 use crate::Elected;
 use crate::Neighbour;

@@ -1,4 +1,4 @@
-// A table without neighbours, and what changes one: a row entered, an address forgotten. Each call gives the table back, changed or as it was.
+// What changes a table: a row entered, an address forgotten; then the calls, which give the table back, changed or as it was.
 use crate::Change;
 use crate::Changed;
 use crate::Neighbour;

@@ -1,4 +1,4 @@
-// Election over a lent list of neighbour rows, without our own router.
+// Election over a lent list of neighbour rows, without our own router; and over the first rows of an array.
 ghost use mathlib.Core.Path.{_≡_};
 ghost use mathlib.Core.Bool.{cond};
 ghost use lib.Dec.{ltb};

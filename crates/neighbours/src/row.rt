@@ -1,4 +1,4 @@
-// One row of the table: a neighbour.
+// One row of the table: one that is not in use, whether a row is all 0, whether a sheet may hold it, and the row that a Hello gives.
 use crate::Neighbour;
 use hello::Hello;
 ghost use mathlib.Core.Path.{_≡_};

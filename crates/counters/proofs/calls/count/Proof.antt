@@ -43,15 +43,15 @@ use denote.Exit.{yes}
 use Rattle.counters.specs.Counting.{counting, answerOf}
 use Rattle.counters.specs.declared.Counters.{Counters}
 use Rattle.counters.specs.declared.Direction.{Direction}
-use Rattle.counters.specs.declared.Counted.{Counted}
+use Rattle.counters.specs.declared.CountersAfter.{CountersAfter}
 use Rattle.counters.proofs.Counters as T
 use Rattle.counters.proofs.Counters.Laws as T′
 use Rattle.counters.proofs.Direction as D
 use Rattle.counters.proofs.Direction.Laws as D′
 use Rattle.counters.proofs.Answer as N
 use Rattle.counters.proofs.Answer.Laws as N′
-use Rattle.counters.proofs.Counted as R
-use Rattle.counters.proofs.Counted.Laws as R′
+use Rattle.counters.proofs.CountersAfter as R
+use Rattle.counters.proofs.CountersAfter.Laws as R′
 use Rattle.counters.proofs.Machine.{mach, mach-d, typed, typed-d, counters-own, names, says-both}
 use Rattle.counters.proofs.calls.added as added
 use Rattle.counters.proofs.calls.added.Symbol as added-def
@@ -69,10 +69,10 @@ abbrev stayed : Stays (count.ended .signature .params) (count.ended .kept)
 stayed = (stay-ref (0 ∷ []) tt (plain (λ _. T.the-row)), (stay-none (λ _. D.the-row) yes, (stay-none (λ _. u8) yes, (stay-none (λ _. u64) yes, tt))))
 
 -- the two equations that both contracts state, of an answer and of the counters then
-abbrev Told : Counters → Direction → ℕ → ℕ → Counted → Type 0
+abbrev Told : Counters → Direction → ℕ → ℕ → CountersAfter → Type 0
 Told h d k n r = answerOf (r .answer) ≡ counting h d k n .answer
 
-abbrev Held : Counters → Direction → ℕ → ℕ → Counted → Type 0
+abbrev Held : Counters → Direction → ℕ → ℕ → CountersAfter → Type 0
 Held h d k n r = r .counters ≡ counting h d k n .counters
 
 module _ {M : Type 1} (𝓤 : URA M) (H : Heap 𝓤) (A : Atoms 𝓤) (at-mem : Memory → SProp 𝓤) (run : Routine → Fun 𝓤) where
@@ -81,7 +81,7 @@ module _ {M : Type 1} (𝓤 : URA M) (H : Heap 𝓤) (A : Atoms 𝓤) (at-mem : 
   Added = tripleOf 𝓤 H A added.signature (added.spec 𝓤 H A at-mem run)
 
   -- of its `ensured`, the two clauses alone
-  added-of : (h : Counters) (d : Direction) (k n : ℕ) (r : Counted) → ent 𝓤 (ensured 𝓤 H A added.ended (added.clauses 𝓤 H A at-mem run) tt (h, (d, (k, (n, tt)))) tt r) (sep 𝓤 (fact 𝓤 (Told h d k n r)) (fact 𝓤 (Held h d k n r)))
+  added-of : (h : Counters) (d : Direction) (k n : ℕ) (r : CountersAfter) → ent 𝓤 (ensured 𝓤 H A added.ended (added.clauses 𝓤 H A at-mem run) tt (h, (d, (k, (n, tt)))) tt r) (sep 𝓤 (fact 𝓤 (Told h d k n r)) (fact 𝓤 (Held h d k n r)))
   added-of h d k n r = exE 𝓤 _ (λ ws. snd∗ 𝓤 (sem 𝓤 H A (lasts added.ended tt (h, (d, (k, (n, tt)))) ws)) (sep 𝓤 (fact 𝓤 (Told h d k n r)) (fact 𝓤 (Held h d k n r))))
 
 module _ {M : Type 1} (𝓤 : URA M) (H : Heap 𝓤) (A : Atoms 𝓤) (W : Given 𝓤 H A) (at-mem : Memory → SProp 𝓤) (run : Routine → Fun 𝓤) (κ : Lft) (q : Share) (b o : ℕ) (γ : GName) (h : Counters) (d : Direction) (k n : ℕ)
@@ -96,16 +96,16 @@ module _ {M : Type 1} (𝓤 : URA M) (H : Heap 𝓤) (A : Atoms 𝓤) (W : Given
   Post = walkOf 𝓤 H A count.ended stayed (count.clauses 𝓤 H A at-mem run) .post (((κ, tt), (q, tt), tt, x, at), tt)
 
   -- what `added` returned: the machine values of its two fields, and their relations
-  abbrev val-a : Counted → Val
+  abbrev val-a : CountersAfter → Val
   val-a r = EL.val N.the-type N′.the-laws (r .answer)
 
-  is-answer : (r : Counted) (v : Val) → Is R.the-row r (v ∷ []) → Is N.the-row (r .answer) (val-a r ∷ [])
+  is-answer : (r : CountersAfter) (v : Val) → Is R.the-row r (v ∷ []) → Is N.the-row (r .answer) (val-a r ∷ [])
   is-answer r v is = LL.owed R.the-type R′.the-laws r (v ∷ []) is .0
 
-  is-counters : (r : Counted) (v : Val) → Is R.the-row r (v ∷ []) → Is T.the-row (r .counters) (mach (r .counters) ∷ [])
+  is-counters : (r : CountersAfter) (v : Val) → Is R.the-row r (v ∷ []) → Is T.the-row (r .counters) (mach (r .counters) ∷ [])
   is-counters r v is = LL.owed R.the-type R′.the-laws r (v ∷ []) is .1 .0
 
-  exits : (r : Counted) → Is N.the-row (r .answer) (val-a r ∷ []) → Told h d k n r → Held h d k n r
+  exits : (r : CountersAfter) → Is N.the-row (r .answer) (val-a r ∷ []) → Told h d k n r → Held h d k n r
       → ent 𝓤 (sep 𝓤 (A .obs γ (T.the-row .coded .code (r .counters))) (sep 𝓤 (A .bor κ (Body (mem T.the-row) b o γ)) (A .lft κ q))) (Post (val-a r))
   exits r is told held =
       qed W (‵ (fobs γ (T.the-row .coded .code (r .counters))) ∷ ‵ (fbor κ (Body (mem T.the-row) b o γ)) ∷ ‵ (flft κ q) ∷ []) ∵
@@ -137,7 +137,7 @@ module _ {M : Type 1} (𝓤 : URA M) (H : Heap 𝓤) (A : Atoms 𝓤) (W : Given
         assigns ! (of-opd ! (load ! (from ! (hop ! (look ! 15 refl) (stop !))) (look-raw ! 0 refl))) (from ! (stop !)) (init ! 5 refl (typed 𝓤 H A W h was)) $
         move ! (1 ∷ []) $ use1 W (raw (Added 𝓤 H A at-mem run .pre to-added)) goes-added $
         calls-at ! fm (Added 𝓤 H A at-mem run) known to-added (and-then ! (load ! (from ! (stop !)) (look ! 5 refl)) (and-then ! (load ! (from ! (stop !)) (look ! 13 refl)) (and-then ! (load ! (from ! (stop !)) (look ! 11 refl)) (and-then ! (load ! (from ! (stop !)) (look ! 9 refl)) (no-more !))))) (λ v.
-        use1 W (later (some (λ (r : Counted). (‵ ftrue ⊛ ‵ (R.the-row .own r (v ∷ []))) ⊛ raw (ensured 𝓤 H A added.ended (added.clauses 𝓤 H A at-mem run) tt (h, (d, (k, (n, tt)))) tt r)))) (id⊢ 𝓤 _) $ await ! tt $ pick ! (λ r.
+        use1 W (later (some (λ (r : CountersAfter). (‵ ftrue ⊛ ‵ (R.the-row .own r (v ∷ []))) ⊛ raw (ensured 𝓤 H A added.ended (added.clauses 𝓤 H A at-mem run) tt (h, (d, (k, (n, tt)))) tt r)))) (id⊢ 𝓤 _) $ await ! tt $ pick ! (λ r.
         split ! $ move ! (1 ∷ []) $ use1 W (raw (fact 𝓤 (Told h d k n r)) ⊛ raw (fact 𝓤 (Held h d k n r))) (added-of 𝓤 H A at-mem run h d k n r) $ split ! $ heard ! (Told h d k n r) (λ told. heard ! (Held h d k n r) (λ held. split ! $ drop ! $
         peeks ! R.the-row (Is R.the-row) (shows 𝓤 H A R.the-row) r (v ∷ []) (λ is.
         -- [what the answer owns; the counters' cell; the open borrow; obs; auth; _6; …; _5; …; _4; …; _3; …; _2; …; _1; …; _0; …]

@@ -11,15 +11,6 @@ use Rattle.neighbours.proofs.Called.{stopped, went-on, elects}
 use Rattle.neighbours.proofs.Table.elect.Statement.{statement}
 use Rattle.neighbours.proofs.Table.elect.Tie as tie
 
-ask-requires : tie.Need-ask-requires
-ask-requires c κs = search needs
-
-enum-known-a : tie.Need-enum-known-a
-enum-known-a c = search needs
-
-enum-told : tie.Need-enum-told
-enum-told c = search needs
-
 -- the table is one that the call takes
 within : (c : tie.After-enum-told) → c .before .before .before .args .self .count ≤ most
 within c =
@@ -28,9 +19,6 @@ within c =
 
 looked-over-requires : tie.Need-looked-over-requires
 looked-over-requires c κs = within c
-
-chosen-requires : tie.Need-chosen-requires
-chosen-requires c κs = search needs
 
 returns : tie.Need-returns
 unfolding electedBy electing
@@ -46,12 +34,4 @@ returns-2 c =
 
 pub elect-spec : {M : Type 1} → statement M
 elect-spec =
-    tie.close
-    (tie.spec
-    ask-requires
-    enum-known-a
-    enum-told
-    looked-over-requires
-    chosen-requires
-    returns
-    returns-2)
+    tie.close (tie.spec (λ c κs. search needs) (λ c. search needs) (λ c. search needs) looked-over-requires (λ c κs. search needs) returns returns-2)

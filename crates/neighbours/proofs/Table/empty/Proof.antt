@@ -5,12 +5,9 @@ use Rattle.neighbours.specs.Rows.{tableOf}
 use Rattle.neighbours.proofs.Table.empty.Statement.{statement}
 use Rattle.neighbours.proofs.Table.empty.Tie as tie
 
-no-row-requires : tie.Need-no-row-requires
-no-row-requires c κs = search needs
-
 returns : tie.Need-returns
 unfolding tableOf
 returns c = rw (c .no-row .ensures)
 
 pub empty-spec : {M : Type 1} → statement M
-empty-spec = tie.close (tie.spec no-row-requires returns)
+empty-spec = tie.close (tie.spec (λ c κs. search needs) returns)

@@ -8,18 +8,6 @@ use Rattle.neighbours.proofs.Called.{stopped, went-on, forgets, answere
 use Rattle.neighbours.proofs.Table.forget.Statement.{statement}
 use Rattle.neighbours.proofs.Table.forget.Tie as tie
 
-ask-requires : tie.Need-ask-requires
-ask-requires c κs = search needs
-
-enum-known-a : tie.Need-enum-known-a
-enum-known-a c = search needs
-
-refused-requires : tie.Need-refused-requires
-refused-requires c κs = search needs
-
-enum-told : tie.Need-enum-told
-enum-told c = search needs
-
 leave-requires : tie.Need-leave-requires
 leave-requires c κs =
     let a = c .before .before .before .args in
@@ -44,12 +32,4 @@ returns-2 c =
 
 pub forget-spec : {M : Type 1} → statement M
 forget-spec =
-    tie.close
-    (tie.spec
-    ask-requires
-    enum-known-a
-    refused-requires
-    enum-told
-    leave-requires
-    returns
-    returns-2)
+    tie.close (tie.spec (λ c κs. search needs) (λ c. search needs) (λ c κs. search needs) (λ c. search needs) leave-requires returns returns-2)

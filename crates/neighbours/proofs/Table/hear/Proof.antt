@@ -16,18 +16,6 @@ taken c =
     let a = c .before .before .before .args in
     asked-valid (a .self) (a .address) (went-on (a .self) (a .address) (c .before .before .ask .ensures) (c .enum-told .given .1))
 
-ask-requires : tie.Need-ask-requires
-ask-requires c κs = search needs
-
-enum-known-a : tie.Need-enum-known-a
-enum-known-a c = search needs
-
-refused-requires : tie.Need-refused-requires
-refused-requires c κs = search needs
-
-enum-told : tie.Need-enum-told
-enum-told c = search needs
-
 leave-requires : tie.Need-leave-requires
 leave-requires c κs = taken (c .before .before)
 
@@ -39,9 +27,6 @@ returns c =
     let e = hears-out (a .self) (a .address) (k .ask .ensures) (a .said) (g .enum-told .given .1) (c .before .if1 .taken) in
     let x = answered-by (a .self) (hearing (a .self) (a .address) (a .said)) (leaving (a .address) (used (a .self))) e (record { table = c .leave .ensures .0; done = c .leave .ensures .1 }) in
     (x .table, x .done)
-
-row-of-requires : tie.Need-row-of-requires
-row-of-requires c κs = search needs
 
 enter-requires : tie.Need-enter-requires
 enter-requires c κs = taken (c .before .before .before)
@@ -68,15 +53,4 @@ returns-3 c =
 
 pub hear-spec : {M : Type 1} → statement M
 hear-spec =
-    tie.close
-    (tie.spec
-    ask-requires
-    enum-known-a
-    refused-requires
-    enum-told
-    leave-requires
-    returns
-    row-of-requires
-    enter-requires
-    returns-2
-    returns-3)
+    tie.close (tie.spec (λ c κs. search needs) (λ c. search needs) (λ c κs. search needs) (λ c. search needs) leave-requires returns (λ c κs. search needs) enter-requires returns-2 returns-3)

@@ -9,9 +9,6 @@ use Rattle.neighbours.proofs.Tables.{valid-parts}
 use Rattle.neighbours.proofs.Table.packing_allowed.Statement.{statement}
 use Rattle.neighbours.proofs.Table.packing_allowed.Tie as tie
 
-is-valid-requires : tie.Need-is-valid-requires
-is-valid-requires c κs = search needs
-
 all-pack-requires : tie.Need-all-pack-requires
 all-pack-requires c κs = valid-parts (c .before .before .args .self) (sym (c .before .is-valid .ensures) ∙ c .if1 .taken) .within
 
@@ -24,4 +21,4 @@ unfolding packingBy mayPack refuseIf _>>_
 returns-2 c = rw (← c .before .is-valid .ensures, c .if1 .left)
 
 pub packing-allowed-spec : {M : Type 1} → statement M
-packing-allowed-spec = tie.close (tie.spec is-valid-requires all-pack-requires returns returns-2)
+packing-allowed-spec = tie.close (tie.spec (λ c κs. search needs) all-pack-requires returns returns-2)

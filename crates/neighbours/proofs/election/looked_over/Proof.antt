@@ -28,20 +28,8 @@ within c =
 loop-holds : tie.Need-loop-holds Inv-loop μ-loop
 loop-holds c = (search needs, refl)
 
-mul-looked : tie.Need-mul-looked Inv-loop μ-loop
-mul-looked c = search needs
-
 element-copy-out-looked : tie.Need-element-copy-out-looked Inv-loop μ-loop
 element-copy-out-looked c = omega (arith, c .loop-test .taken, c .before .before .pre)
-
-looked-requires : tie.Need-looked-requires Inv-loop μ-loop
-looked-requires c κs = search needs
-
-add-i : tie.Need-add-i Inv-loop μ-loop
-add-i c = search needs
-
-loop-less : tie.Need-loop-less Inv-loop μ-loop
-loop-less c = search needs
 
 loop-again : tie.Need-loop-again Inv-loop μ-loop
 loop-again c =
@@ -60,15 +48,4 @@ returns c =
 
 pub looked-over-spec : {M : Type 1} → statement M
 looked-over-spec =
-    tie.close
-    (tie.spec
-    Inv-loop
-    μ-loop
-    loop-holds
-    mul-looked
-    element-copy-out-looked
-    looked-requires
-    add-i
-    loop-less
-    loop-again
-    returns)
+    tie.close (tie.spec Inv-loop μ-loop loop-holds (λ c. search needs) element-copy-out-looked (λ c κs. search needs) (λ c. search needs) (λ c. search needs) loop-again returns)

@@ -35,9 +35,6 @@ returns c =
     let x = enter-old (s .args .table) (full s) (s .pre) (s .args .row) (c .before .find .result) (c .before .find .ensures) (c .if1 .taken) in
     (x .table, x .done)
 
-refused-requires : tie.Need-refused-requires
-refused-requires c κs = search needs
-
 returns-2 : tie.Need-returns-2
 returns-2 c =
     let f = c .before .before .before in
@@ -80,15 +77,4 @@ returns-3 c =
 
 pub enter-spec : {M : Type 1} → statement M
 enter-spec =
-    tie.close
-    (tie.spec
-    find-requires
-    mul-row
-    element-set-from-row
-    returns
-    refused-requires
-    returns-2
-    mul-row-2
-    element-set-from-row-2
-    add-after
-    returns-3)
+    tie.close (tie.spec find-requires mul-row element-set-from-row returns (λ c κs. search needs) returns-2 mul-row-2 element-set-from-row-2 add-after returns-3)

@@ -30,9 +30,6 @@ returns c =
     let x = leave-old (s .args .table) (full s) (s .pre) (s .args .address) (f .find .result) (f .find .ensures) (c .before .if1 .taken) (c .close-up .ensures) in
     (x .table, x .done)
 
-refused-requires : tie.Need-refused-requires
-refused-requires c κs = search needs
-
 returns-2 : tie.Need-returns-2
 returns-2 c =
     let f = c .before .before .before in
@@ -41,4 +38,4 @@ returns-2 c =
     (x .table, x .done)
 
 pub leave-spec : {M : Type 1} → statement M
-leave-spec = tie.close (tie.spec find-requires close-up-requires returns refused-requires returns-2)
+leave-spec = tie.close (tie.spec find-requires close-up-requires returns (λ c κs. search needs) returns-2)

@@ -1,5 +1,5 @@
 -- `neighbours::list::elect_rows` meets its contract: the rows looked at are the first n.
---     few, all     the rows looked at are at most 16, and they are the first.
+--     few, all     the rows looked at are no more than there are, and they are the first.
 -- Assumes nothing.
 use mathlib.Core.Path.{_≡_, refl, sym, ap, _∙_}
 use mathlib.Core.Bool.{Bool, true, false, cond}

@@ -7,9 +7,6 @@ use Rattle.neighbours.proofs.Tables.{ask-14, ask-7, ask-fine}
 use Rattle.neighbours.proofs.validity.ask.Statement.{statement}
 use Rattle.neighbours.proofs.validity.ask.Tie as tie
 
-is-valid-requires : tie.Need-is-valid-requires
-is-valid-requires c κs = search needs
-
 returns : tie.Need-returns
 unfolding askedBy
 returns c =
@@ -31,4 +28,4 @@ returns-3 c =
     sym (ask-14 (a .table) (a .address) (sym (c .before .is-valid .ensures) ∙ c .if1 .left))
 
 pub ask-spec : {M : Type 1} → statement M
-ask-spec = tie.close (tie.spec is-valid-requires returns returns-2 returns-3)
+ask-spec = tie.close (tie.spec (λ c κs. search needs) returns returns-2 returns-3)

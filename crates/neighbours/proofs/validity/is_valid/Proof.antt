@@ -9,12 +9,6 @@ use Rattle.neighbours.proofs.validity.is_valid.Tie as tie
 returns : tie.Need-returns
 returns c = valid-over (c .before .before .args .table) (c .if1 .taken)
 
-rows-hold-requires : tie.Need-rows-hold-requires
-rows-hold-requires c κs = search needs
-
-rest-is-zero-requires : tie.Need-rest-is-zero-requires
-rest-is-zero-requires c κs = search needs
-
 returns-2 : tie.Need-returns-2
 returns-2 c =
     let d = c .before .before in
@@ -26,4 +20,4 @@ returns-3 c =
     valid-not (d .before .before .before .args .table) (d .before .if1 .left) (sym (d .rows-hold .ensures) ∙ c .if2 .left)
 
 pub is-valid-spec : {M : Type 1} → statement M
-is-valid-spec = tie.close (tie.spec returns rows-hold-requires rest-is-zero-requires returns-2 returns-3)
+is-valid-spec = tie.close (tie.spec returns (λ c κs. search needs) (λ c κs. search needs) returns-2 returns-3)

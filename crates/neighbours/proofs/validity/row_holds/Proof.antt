@@ -17,21 +17,6 @@ within c =
     let full : length (c .args .t1 .rows) ≡ most = all-rows (c .args .t1 .rows) (c .good .0 .1 .1 .0 .1 .0 .1) in
     omega (arith, full, c .pre .1)
 
-mul-row : tie.Need-mul-row
-mul-row c = search needs
-
-element-copy-out-row : tie.Need-element-copy-out-row
-element-copy-out-row c = search needs
-
-is-allowed-requires : tie.Need-is-allowed-requires
-is-allowed-requires c κs = search needs
-
-add-find : tie.Need-add-find
-add-find c = search needs
-
-find-requires : tie.Need-find-requires
-find-requires c κs = search needs
-
 returns : tie.Need-returns
 returns c =
     let s = c .before .before .before .before in
@@ -46,12 +31,4 @@ returns-2 c =
 
 pub row-holds-spec : {M : Type 1} → statement M
 row-holds-spec =
-    tie.close
-    (tie.spec
-    mul-row
-    element-copy-out-row
-    is-allowed-requires
-    add-find
-    find-requires
-    returns
-    returns-2)
+    tie.close (tie.spec (λ c. search needs) (λ c. search needs) (λ c κs. search needs) (λ c. search needs) (λ c κs. search needs) returns returns-2)

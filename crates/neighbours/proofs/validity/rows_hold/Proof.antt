@@ -28,12 +28,6 @@ loop-holds c = (search needs, refl)
 row-holds-requires : tie.Need-row-holds-requires Inv-loop μ-loop
 row-holds-requires c κs = (c .loop-test .taken, c .before .before .pre)
 
-add-i : tie.Need-add-i Inv-loop μ-loop
-add-i c = search needs
-
-loop-less : tie.Need-loop-less Inv-loop μ-loop
-loop-less c = search needs
-
 loop-again : tie.Need-loop-again Inv-loop μ-loop
 unfolding sheetRows
 loop-again c =
@@ -59,14 +53,4 @@ returns-2 c =
 
 pub rows-hold-spec : {M : Type 1} → statement M
 rows-hold-spec =
-    tie.close
-    (tie.spec
-    Inv-loop
-    μ-loop
-    loop-holds
-    row-holds-requires
-    add-i
-    loop-less
-    loop-again
-    returns
-    returns-2)
+    tie.close (tie.spec Inv-loop μ-loop loop-holds row-holds-requires (λ c. search needs) (λ c. search needs) loop-again returns returns-2)
