@@ -217,7 +217,7 @@ module _ (L : Layout) (f : Family) (some : 0 < f .width) (few : L .rowLimit ≤ 
 -- ---- for code: the parts of a sheet that passes the check lie in it
 
 pub sizes : (o : List ℕ) (c : Counts) → checking base ipv4 o ≡ gives c
-    → (c .neighbours ≤ 16) × (12 + 16 * c .asserts + 8 * c .pairs + 12 * c .neighbours ≡ length o) × (countsAllowed base c ≡ true)
+    → (c .neighbours ≤ most) × (12 + 16 * c .asserts + 8 * c .pairs + 12 * c .neighbours ≡ length o) × (countsAllowed base c ≡ true)
 unfolding end rowsFrom pairsFrom
 sizes o c e =
     let h = header-parts base ipv4 o c (checked base ipv4 o c e .header) in

@@ -3,6 +3,7 @@
 use Prim.Native.Nat.{_≤_}
 use mathlib.Core.Path.{refl}
 use denote.Ref.{now}
+use Rattle.neighbours.specs.Rows.{most}
 use Rattle.sections.specs.Layout.{base, headerOctets, pairsFrom, rowsFrom}
 use Rattle.sections.proofs.Header.{counts-within}
 use Rattle.sheet.proofs.Copies.{written-fits, written-next}
@@ -10,7 +11,7 @@ use borrow.Author.Needs.{needs}
 use Rattle.sheet.proofs.put.put_header.Statement.{statement}
 use Rattle.sheet.proofs.put.put_header.Tie as tie
 
-limits : (s : tie.Start) → (s .args .c .asserts ≤ 1024) × (s .args .c .pairs ≤ 1024) × (s .args .c .neighbours ≤ 16)
+limits : (s : tie.Start) → (s .args .c .asserts ≤ base .assertLimit) × (s .args .c .pairs ≤ base .pairLimit) × (s .args .c .neighbours ≤ most)
 limits s = counts-within base (s .args .c) (s .pre .1)
 
 sections-of-requires : tie.Need-sections-of-requires

@@ -5,6 +5,7 @@ use mathlib.Core.Path.{_≡_, refl}
 use mathlib.Core.Bool.{true}
 use lib.ListN.{length}
 use denote.Ref.{now}
+use Rattle.neighbours.specs.Rows.{most}
 use Rattle.sections.specs.Layout.{base, pairsFrom, rowsFrom}
 use Rattle.sections.specs.Checking.{countsAllowed}
 use Rattle.sheet.specs.Calls.{foundBy}
@@ -15,7 +16,7 @@ use Rattle.sheet.proofs.read.deliver.Statement.{statement}
 use Rattle.sheet.proofs.read.deliver.Tie as tie
 
 -- the parts lie in the sheet
-parts : (s : tie.Start) → (s .args .c .neighbours ≤ 16)
+parts : (s : tie.Start) → (s .args .c .neighbours ≤ most)
     × (12 + 16 * s .args .c .asserts + 8 * s .args .c .pairs + 12 * s .args .c .neighbours ≡ length (now (s .args .o))) × (countsAllowed base (s .args .c) ≡ true)
 parts s = sizes (now (s .args .o)) (s .args .c) (s .pre)
 
