@@ -54,7 +54,7 @@ length-sheet ea ep t {n} e =
     simp (length-append, length-header, rows) (omega arith)
 
 -- the rows in use are rows of the array
-pub used-few : (t : Table) → length (t .rows) ≡ most → length (used t) ≤ 16
+pub used-few : (t : Table) → length (t .rows) ≡ most → length (used t) ≤ most
 used-few t e = simp length-take (omega arith)
 
 -- ---- 10 and 14
@@ -80,17 +80,17 @@ module _ (ea ep : List ℕ) where
     unfolding countsAllowed countsOf contentsOf count
     storable-pairs h g = rw (le-leb (length ea / 16) 1024 h, lt-leb (length ep / 8) 1024 g)
 
-    pub storable-rest : length ea / 16 ≤ 1024 → length ep / 8 ≤ 1024 → length (used t) ≤ 16 → valid t ≡ Storable
+    pub storable-rest : length ea / 16 ≤ 1024 → length ep / 8 ≤ 1024 → length (used t) ≤ most → valid t ≡ Storable
     unfolding countsAllowed countsOf contentsOf count
-    storable-rest h g r = rw (le-leb (length ea / 16) 1024 h, le-leb (length ep / 8) 1024 g, le-leb (length (used t)) 16 r)
+    storable-rest h g r = rw (le-leb (length ea / 16) 1024 h, le-leb (length ep / 8) 1024 g, le-leb (length (used t)) most r)
 
     pub storable-limits : Storable ≡ true
-        → (length ea / 16 ≤ 1024) × (length ep / 8 ≤ 1024) × (t .count ≤ 16) × (countsAllowed base (countsOf ipv4 (contentsOf ea ep t)) ≡ true)
+        → (length ea / 16 ≤ 1024) × (length ep / 8 ≤ 1024) × (t .count ≤ most) × (countsAllowed base (countsOf ipv4 (contentsOf ea ep t)) ≡ true)
     unfolding countsAllowed countsOf contentsOf count
     storable-limits e =
-        let p = and-true (leb (length ea / 16) 1024 && (leb (length ep / 8) 1024 && leb (length (used t)) 16)) (valid t) e in
-        let q = and-true (leb (length ea / 16) 1024) (leb (length ep / 8) 1024 && leb (length (used t)) 16) (p .0) in
-        let r = and-true (leb (length ep / 8) 1024) (leb (length (used t)) 16) (q .1) in
+        let p = and-true (leb (length ea / 16) 1024 && (leb (length ep / 8) 1024 && leb (length (used t)) most)) (valid t) e in
+        let q = and-true (leb (length ea / 16) 1024) (leb (length ep / 8) 1024 && leb (length (used t)) most) (p .0) in
+        let r = and-true (leb (length ep / 8) 1024) (leb (length (used t)) most) (q .1) in
         (leb-true _ _ (q .0), leb-true _ _ (r .0), valid-parts t (p .1) .within, p .0)
 
 -- ---- 7
@@ -188,7 +188,7 @@ pub record Filling (ea ep : List ℕ) (t : Table) (room : ℕ) : Type 0 where
   pub pairs : length ep % 8 ≡ 0
   pub few : length ea / 16 ≤ 1024
   pub fewPairs : length ep / 8 ≤ 1024
-  pub within : t .count ≤ 16
+  pub within : t .count ≤ most
   pub fits : 12 + length ea + length ep + 12 * t .count ≤ room
   pub counts : counted ea ep t ≡ countsOf ipv4 (contentsOf ea ep t)
   pub allowed : countsAllowed base (counted ea ep t) ≡ true
