@@ -1,14 +1,13 @@
 -- Bodies of messages as the counting calls take them.
 --     zero-cut .. start-some             Zero, Reserved, and that a record begins
---     tallied-skipped .. sum-more        records counted to the end, one by one or all at once
+--     tallied-skipped .. count-joined    records counted to the end, one by one or all at once
 --     plain-bad, plain-more, plain-end   a plain assert, by what its check found
---     simple-bad .. start-room           packed asserts of either sort, by what their start was found to be
---     null-count, stop-count             pairs
+--     packed-bad, packed-on, start-room  packed asserts of either form, by what their start was found to be
 --     records-none-left, records-left    whether a record begins
 -- Assumes nothing.
 use Prim.Native.Nat.{ℕ, zero, suc, _+_, _≤_, _<_}
 use native.Mathlib.Omega.{arith}
-use mathlib.Core.Path.{_≡_, refl, sym, ap, ap₂, fun-ext, _∙_}
+use mathlib.Core.Path.{_≡_, refl, sym, ap, ap₂, _∙_}
 use mathlib.Core.Bool.{Bool, true, false, cond}
 use mathlib.Core.List.{List, [], _∷_}
 use lib.ListN.{length, getD}
@@ -16,18 +15,17 @@ use lib.Dec.{leb}
 use borrow.Author.Tests.{le-leb, lt-leb, leb-false, eq-eqb, ne-eqb}
 use Rattle.octets.specs.Octets.{numberAt, value}
 use Rattle.format.specs.Reader.{Read, got, bad, Reader, continue, _>>=_, _>>_, give, octets, number, must, handUp, inRecord, toEnd, records, nothingMore}
-use Rattle.format.specs.Body.{zeroReserved, assertsBody, pairsBody}
+use Rattle.format.specs.Body.{zeroReserved, assertsBody}
 use Rattle.records.specs.Records.{AggregatedRecord, allEntries}
 use Rattle.format.specs.Family.{ipv4}
-use Rattle.format.specs.Record.{Single, anAssert, aPair, assertRecord, pairRecord, aggregatedRecord, recordAt}
+use Rattle.format.specs.Record.{assertRecord, pairRecord, aggregatedRecord}
 use Rattle.format.specs.declared.Refusal.{Refusal}
-use Rattle.format.specs.declared.Kind.{Kind}
-use Rattle.format.specs.declared.Kind.the-variants.{Hello, Assert, Simple, Aggregated, NullRegister, RegisterStop}
+use Rattle.format.specs.declared.Kind.the-variants.{Assert, Simple, Aggregated}
 use Rattle.fields.proofs.Skipped.{no-got, continue-back, checks-next}
 use Rattle.counting.proofs.Tallied.{tallies-bad, tallies-on, record-room, records-none, records-more}
-use Rattle.fields.proofs.Plain.{record-back}
-use Rattle.fields.specs.Answers.{checked, skipped, plainSize}
-use Rattle.counting.specs.Counts.{tallied, entryCount, sum, recordCount, recordsCount, someRecord, packedStart}
+use Rattle.fields.proofs.Plain.{assert-back, pair-back}
+use Rattle.fields.specs.Answers.{checked, skipped}
+use Rattle.counting.specs.Counts.{tallied, entryCount, sum, recordCount, recordsCount, someRecord, packedKind, packedStart}
 use Rattle.fields.specs.declared.field.Checked.{Checked}
 use Rattle.fields.specs.declared.field.Checked.the-variants.{Next, Bad}
 use Rattle.octets.proofs.Laws.{number-is, octets-there, number-there}
@@ -76,23 +74,15 @@ unfolding tallied
 tallied-back size (got a m) n next e on = on a (ap (got a) (cc)) (cc)
 tallied-back size (bad i p) n next e on = absurd (no-got e)
 
--- a record of one length has octets
-single-some : (kind : Kind) (o : List ℕ) (at : ℕ) (e : Single) (n : ℕ) → recordAt ipv4 kind o at ≡ got e n → (1 + at < n) × (n ≤ length o)
-unfolding recordAt plainSize
-single-some Hello o at e n h = absurd (no-got h)
-single-some Assert o at e n h = let b = record-back Assert o at h in omega (arith, b .1, b .2)
-single-some Simple o at e n h = let b = record-back Simple o at h in omega (arith, b .1, b .2)
-single-some Aggregated o at e n h = absurd (no-got h)
-single-some NullRegister o at e n h = let b = record-back NullRegister o at h in omega (arith, b .1, b .2)
-single-some RegisterStop o at e n h = let b = record-back RegisterStop o at h in omega (arith, b .1, b .2)
-
 -- a record's octets are more than its entries
-pub entry-room : (joined : Bool) (kind : Kind) (o : List ℕ) (at n next : ℕ) → at ≤ length o → entryCount joined kind o at ≡ got n next → (n + at < next) × (next ≤ length o)
+pub entry-room : (joined g z : Bool) (o : List ℕ) (at n next : ℕ) → at ≤ length o → entryCount joined g z o at ≡ got n next → (n + at < next) × (next ≤ length o)
 unfolding entryCount
-entry-room true kind o at n next h e =
+entry-room true g z o at n next h e =
     tallied-back recordCount (aggregatedRecord ipv4 o at) n next e (λ r p q. omega (arith, record-room o at h p))
-entry-room false kind o at n next h e =
-    tallied-back (λ x. 1) (recordAt ipv4 kind o at) n next e (λ x p q. omega (arith, single-some kind o at x next p))
+entry-room false true z o at n next h e =
+    tallied-back (λ x. 1) (assertRecord ipv4 o at) n next e (λ x p q. let b = assert-back o at p in omega (arith, b .1, b .2))
+entry-room false false z o at n next h e =
+    tallied-back (λ x. 1) (pairRecord ipv4 z o at) n next e (λ x p q. let b = pair-back z o at p in omega (arith, b .1, b .2))
 
 -- counting each record and adding up is counting what they all stand for
 module _ {A : Type 0} (one : A → ℕ) (all : List A → ℕ) (none : all [] ≡ 0) (more : (a : A) (l : List A) → all (a ∷ l) ≡ one a + all l) where
@@ -136,23 +126,17 @@ sum-more n ns = refl
 
 -- ---- bodies
 
--- counting records of one length is counting what any reader of them gives
-pub count-records : {A : Type 0} (kind : Kind) (r : Reader A) → ((o : List ℕ) (at : ℕ) → tallied (λ e. 1) (recordAt ipv4 kind o at) ≡ tallied (λ a. 1) (r o at))
-    → (o : List ℕ) (k at : ℕ) → tallied sum (toEnd k (entryCount false kind) o at) ≡ tallied length (toEnd k r o at)
+pub count-asserts : (o : List ℕ) (k at : ℕ) → tallied sum (toEnd k (entryCount false true false) o at) ≡ tallied length (toEnd k (assertRecord ipv4) o at)
 unfolding entryCount
-count-records kind r same o k at =
-    ap (λ (x : Reader ℕ). tallied sum (toEnd k x o at)) (fun-ext (λ o. fun-ext (λ at. same o at)))
-    ∙ count-all (λ a. 1) length refl (λ a l. omega arith) r o k at
+count-asserts o k at = count-all (λ a. 1) length refl (λ a l. omega arith) (assertRecord ipv4) o k at
 
-pub count-joined : (kind : Kind) (o : List ℕ) (k at : ℕ) → tallied sum (toEnd k (entryCount true kind) o at) ≡ tallied recordsCount (toEnd k (aggregatedRecord ipv4) o at)
+pub count-pairs : (z : Bool) (o : List ℕ) (k at : ℕ) → tallied sum (toEnd k (entryCount false false z) o at) ≡ tallied length (toEnd k (pairRecord ipv4 z) o at)
 unfolding entryCount
-count-joined kind o k at = count-all recordCount recordsCount records-none records-more (aggregatedRecord ipv4) o k at
+count-pairs z o k at = count-all (λ a. 1) length refl (λ a l. omega arith) (pairRecord ipv4 z) o k at
 
--- one entry each, whatever the value is made into
-pub one-each : {A B : Type 0} (g : A → B) (x : Read A) → tallied (λ b. 1) (continue x (λ a n. got (g a) n)) ≡ tallied (λ a. 1) x
-unfolding tallied continue
-one-each g (got a n) = refl
-one-each g (bad n p) = refl
+pub count-joined : (o : List ℕ) (k at : ℕ) → tallied sum (toEnd k (entryCount true true false) o at) ≡ tallied recordsCount (toEnd k (aggregatedRecord ipv4) o at)
+unfolding entryCount
+count-joined o k at = count-all recordCount recordsCount records-none records-more (aggregatedRecord ipv4) o k at
 
 -- Zero, Reserved and records to the end, one at least
 pub packed-body : {A : Type 0} (r : Reader A) (o : List ℕ) → continue (packedStart o 4) (λ u next. toEnd (length o) r o next) ≡ (zeroReserved >> records r) o 4
@@ -197,10 +181,6 @@ unfolding continue tallied
 joined-last (got a n) f = sym (joined-count (f n))
 joined-last (bad n p) f = refl
 
-assert-one : (o : List ℕ) (at : ℕ) → tallied (λ e. 1) (recordAt ipv4 Simple o at) ≡ tallied (λ a. 1) (assertRecord ipv4 o at)
-unfolding recordAt _>>=_ give
-assert-one o at = one-each anAssert (assertRecord ipv4 o at)
-
 module _ (o : List ℕ) where
   simple-is : tallied length (continue (packedStart o 4) (λ u next. toEnd (length o) (assertRecord ipv4) o next)) ≡ tallied length (assertsBody ipv4 Simple o 4)
   unfolding assertsBody
@@ -210,22 +190,15 @@ module _ (o : List ℕ) where
   unfolding assertsBody _>>_ _>>=_ give
   joined-is = ap (tallied recordsCount) (packed-body (aggregatedRecord ipv4) o) ∙ joined-last (zeroReserved o 4) (λ n. records (aggregatedRecord ipv4) o n)
 
-  pub simple-bad : {z : Checked} {x : Refusal} {y : Read ℕ} → z ≡ Bad x → checked z ≡ skipped (packedStart o 4) → y ≡ tallied (λ u. 0) (checked z)
-      → y ≡ tallied length (assertsBody ipv4 Simple o 4)
-  simple-bad p q t = tallies-bad length (packedStart o 4) _ p q t ∙ simple-is
+  pub packed-bad : (joined : Bool) {w : Checked} {x : Refusal} {y : Read ℕ} → w ≡ Bad x → checked w ≡ skipped (packedStart o 4) → y ≡ tallied (λ u. 0) (checked w)
+      → y ≡ tallied length (assertsBody ipv4 (packedKind joined) o 4)
+  packed-bad true p q t = tallies-bad recordsCount (packedStart o 4) _ p q t ∙ joined-is
+  packed-bad false p q t = tallies-bad length (packedStart o 4) _ p q t ∙ simple-is
 
-  pub joined-bad : {z : Checked} {x : Refusal} {y : Read ℕ} → z ≡ Bad x → checked z ≡ skipped (packedStart o 4) → y ≡ tallied (λ u. 0) (checked z)
-      → y ≡ tallied length (assertsBody ipv4 Aggregated o 4)
-  joined-bad p q t = tallies-bad recordsCount (packedStart o 4) _ p q t ∙ joined-is
-
-  pub simple-on : {z : Checked} {n : ℕ} {y : Read ℕ} → z ≡ Next n → checked z ≡ skipped (packedStart o 4)
-      → y ≡ tallied sum (toEnd (length o) (entryCount false Simple) o n) → y ≡ tallied length (assertsBody ipv4 Simple o 4)
-  simple-on {n = n} p q t =
-      tallies-on length (packedStart o 4) _ p q (λ u g. t ∙ count-records Simple (assertRecord ipv4) assert-one o (length o) n) ∙ simple-is
-
-  pub joined-on : {z : Checked} {n : ℕ} {y : Read ℕ} → z ≡ Next n → checked z ≡ skipped (packedStart o 4)
-      → y ≡ tallied sum (toEnd (length o) (entryCount true Aggregated) o n) → y ≡ tallied length (assertsBody ipv4 Aggregated o 4)
-  joined-on {n = n} p q t = tallies-on recordsCount (packedStart o 4) _ p q (λ u g. t ∙ count-joined Aggregated o (length o) n) ∙ joined-is
+  pub packed-on : (joined : Bool) {w : Checked} {n : ℕ} {y : Read ℕ} → w ≡ Next n → checked w ≡ skipped (packedStart o 4)
+      → y ≡ tallied sum (toEnd (length o) (entryCount joined true false) o n) → y ≡ tallied length (assertsBody ipv4 (packedKind joined) o 4)
+  packed-on true {n = n} p q t = tallies-on recordsCount (packedStart o 4) _ p q (λ u g. t ∙ count-joined o (length o) n) ∙ joined-is
+  packed-on false {n = n} p q t = tallies-on length (packedStart o 4) _ p q (λ u g. t ∙ count-asserts o (length o) n) ∙ simple-is
 
   -- a record begins within the message
   pub start-room : {z : Checked} {n : ℕ} → z ≡ Next n → checked z ≡ skipped (packedStart o 4) → n < length o
@@ -238,26 +211,6 @@ module _ (o : List ℕ) where
       go k false t e = let same : k ≡ n = cc in omega (arith, leb-false (length o) k t)
 
 -- ---- pairs
-
-pair-one : (z : Bool) (o : List ℕ) (at : ℕ) → tallied (λ e. 1) (continue (pairRecord ipv4 z o at) (λ a n. got (aPair a) n)) ≡ tallied (λ a. 1) (pairRecord ipv4 z o at)
-pair-one z o at = one-each aPair (pairRecord ipv4 z o at)
-
-records-count : {A : Type 0} (kind : Kind) (r : Reader A) → ((o : List ℕ) (at : ℕ) → tallied (λ e. 1) (recordAt ipv4 kind o at) ≡ tallied (λ a. 1) (r o at))
-    → (o : List ℕ) (at : ℕ) → tallied sum (records (entryCount false kind) o at) ≡ tallied length (records r o at)
-unfolding records tallied
-records-count {A} kind r same o at = go (leb (length o) at)
-  where
-    go : (b : Bool) → tallied sum (cond b (bad 5 at) (toEnd (length o) (entryCount false kind) o at)) ≡ tallied length (cond b (bad 5 at) (toEnd (length o) r o at))
-    go true = refl
-    go false = count-records kind r same o (length o) at
-
-pub null-count : (o : List ℕ) → tallied sum (records (entryCount false NullRegister) o 4) ≡ tallied length (pairsBody ipv4 NullRegister o 4)
-unfolding pairsBody recordAt _>>=_ give
-null-count o = records-count NullRegister (pairRecord ipv4 false) (pair-one false) o 4
-
-pub stop-count : (o : List ℕ) → tallied sum (records (entryCount false RegisterStop) o 4) ≡ tallied length (pairsBody ipv4 RegisterStop o 4)
-unfolding pairsBody recordAt _>>=_ give
-stop-count o = records-count RegisterStop (pairRecord ipv4 true) (pair-one true) o 4
 
 pub records-none-left : {A : Type 0} (r : Reader A) (o : List ℕ) (at : ℕ) → length o ≤ at → records r o at ≡ bad 5 at
 unfolding records

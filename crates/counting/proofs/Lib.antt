@@ -1,3 +1,4 @@
 pub mod Addresses
 pub mod Bodies
+pub mod Formed
 pub mod Tallied

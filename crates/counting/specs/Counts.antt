@@ -3,20 +3,25 @@
 --     groupCount .. recordsCount    entries of a group record, of group records, of an aggregated record, of several
 --     addressField .. addressForm   a group, or a source of a group record: how many octets it is, and whether they are allowed
 --     wholeAddresses                how many of them are there whole
---     entryCount, sum               entries of a record of either sort, and of several
---     someRecord, packedStart       "no record" is found where the first should be; what comes before the records of a packed message
+--     recordSize .. wholeRecords    the same of assert records and of pairs
+--     allowedRecords, passedRecords those at the start that are allowed, and are passed by their form alone
+--     entryCount, sum               entries of a record of any sort, and of several
+--     packedKind, packedStart       the two packed forms; what comes before their records
+--     someRecord                    "no record" is found where the first should be
 -- Assumes nothing: these are definitions.
-use Prim.Native.Nat.{ℕ, _+_, _-_, _/_, min}
-use mathlib.Core.Bool.{Bool, true, cond}
+use Prim.Native.Nat.{ℕ, zero, suc, _+_, _-_, _/_, min}
+use mathlib.Core.Bool.{Bool, true, _&&_, cond}
 use mathlib.Core.List.{List, [], _∷_}
-use lib.ListN.{length}
+use lib.ListN.{length, take, drop}
 use lib.Dec.{leb}
-use Rattle.records.specs.Records.{GroupRecord, AggregatedRecord, groupEntries, allGroupEntries, entries, allEntries}
+use Rattle.octets.specs.Octets.{numberAt}
+use Rattle.records.specs.Records.{rBit, GroupRecord, AggregatedRecord, groupEntries, allGroupEntries, entries, allEntries}
 use Rattle.format.specs.Reader.{Read, Reader, got, bad, _>>_}
 use Rattle.format.specs.Family.{ipv4}
 use Rattle.format.specs.Address.{groupForm, groupField, sourceForm, sourceField}
-use Rattle.format.specs.Record.{aggregatedRecord, recordAt}
+use Rattle.format.specs.Record.{assertRecord, pairRecord, aggregatedRecord}
 use Rattle.format.specs.declared.Kind.{Kind}
+use Rattle.format.specs.declared.Kind.the-variants.{Simple, Aggregated}
 use Rattle.format.specs.Body.{zeroReserved}
 use Rattle.counting.specs.declared.aggregated.Counted.{Counted}
 use Rattle.counting.specs.declared.aggregated.Counted.the-variants.{All, Bad}
@@ -54,13 +59,43 @@ addressForm isGroup = cond isGroup (groupForm ipv4) (sourceForm ipv4 true)
 unfoldable pub wholeAddresses : Bool → List ℕ → ℕ → ℕ → ℕ
 wholeAddresses isGroup o at n = min n ((length o - at) / addressSize isGroup)
 
--- the entries of the record at a place: of an aggregated one, or one of a kind whose records have one length
-unfoldable pub entryCount : Bool → Kind → Reader ℕ
-entryCount joined kind o at = cond joined (tallied recordCount (aggregatedRecord ipv4 o at)) (tallied (λ e. 1) (recordAt ipv4 kind o at))
+-- an assert record, or a pair, that is there whole: how many octets it is, and whether it is allowed, where R says whether an assert's
+-- source may be 0
+unfoldable pub recordSize : Bool → ℕ
+recordSize isAssert = cond isAssert 22 14
+
+unfoldable pub recordForm : Bool → Bool → List ℕ → ℕ → Bool
+recordForm isAssert zeroAllowed o at =
+    groupForm ipv4 (take 8 (drop at o))
+    && sourceForm ipv4 (cond isAssert (rBit (numberAt 4 o (at + 14))) zeroAllowed) (take 6 (drop (at + 8) o))
+
+unfoldable pub wholeRecords : Bool → List ℕ → ℕ → ℕ
+wholeRecords isAssert o at = (length o - at) / recordSize isAssert
+
+-- of n records from a place on, those before the first that is not allowed
+unfoldable pub allowedRecords : Bool → Bool → ℕ → List ℕ → ℕ → ℕ
+allowedRecords isAssert zeroAllowed zero o at = 0
+allowedRecords isAssert zeroAllowed (suc n) o at =
+    cond (recordForm isAssert zeroAllowed o at) (suc (allowedRecords isAssert zeroAllowed n o (at + recordSize isAssert))) 0
+
+-- those that are passed by their form alone: no aggregated one
+unfoldable pub passedRecords : Bool → Bool → Bool → List ℕ → ℕ → ℕ
+passedRecords joined isAssert zeroAllowed o at = cond joined 0 (allowedRecords isAssert zeroAllowed (wholeRecords isAssert o at) o at)
+
+-- the entries of the record at a place: of an aggregated one, or one of an assert record or a pair
+unfoldable pub entryCount : Bool → Bool → Bool → Reader ℕ
+entryCount joined isAssert zeroAllowed o at =
+    cond joined
+    (tallied recordCount (aggregatedRecord ipv4 o at))
+    (cond isAssert (tallied (λ e. 1) (assertRecord ipv4 o at)) (tallied (λ e. 1) (pairRecord ipv4 zeroAllowed o at)))
 
 unfoldable pub sum : List ℕ → ℕ
 sum [] = 0
 sum (n ∷ ns) = n + sum ns
+
+-- the two packed forms of asserts
+abbrev pub packedKind : Bool → Kind
+packedKind joined = cond joined Aggregated Simple
 
 unfoldable pub someRecord : Reader (Unit {0})
 someRecord o at = cond (leb (length o) at) (bad 5 at) (got tt at)

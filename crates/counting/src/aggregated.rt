@@ -5,6 +5,7 @@ use fields::group_check;
 use fields::in_record;
 use fields::is_source;
 use fields::octets_check;
+use fields::r_bit;
 use fields::source_check;
 use format::Refusal;
 use octets::number16;
@@ -212,10 +213,10 @@ fn aggregated_fields(m: &[u8], at: usize) -> Counted
     let Checked::Next(next) = x else {
         return with_count(0, x);
     };
-    if m[at] < 128 {
-        return source_aggregated(m, next);
+    if r_bit(&m[at..at + 4]) {
+        return rp_aggregated(m, next);
     }
-    rp_aggregated(m, next)
+    source_aggregated(m, next)
 }
 
 // An aggregated record: a fault is handed up with the record's first octet.

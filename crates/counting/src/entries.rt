@@ -2,42 +2,58 @@
 use crate::aggregated::Counted;
 use crate::aggregated::aggregated_record;
 use crate::aggregated::with_count;
+use crate::whole::allowed_records;
+use crate::whole::record_size;
 use fields::Checked;
 use fields::assert_check;
 use fields::bad;
 use fields::in_record;
 use fields::octets_check;
-use fields::record_check;
+use fields::pair_check;
 use format::Kind;
 ghost use mathlib.Core.Path.{_≡_};
-ghost use mathlib.Core.Bool.{false};
 ghost use Prim.Native.Nat.{_≤_};
 ghost use lib.ListN.{length};
 ghost use Rattle.format.specs.Reader.{toEnd, records};
 ghost use Rattle.format.specs.Family.{ipv4};
+ghost use Rattle.format.specs.Record.{pairRecord};
 ghost use Rattle.format.specs.Body.{assertsBody, pairsBody};
 ghost use Rattle.fields.specs.Answers.{checked, skipped};
-ghost use Rattle.counting.specs.Counts.{counted, tallied, entryCount, sum, packedStart};
+ghost use Rattle.counting.specs.Counts.{counted, tallied, passedRecords, entryCount, sum, packedKind, packedStart};
 
-// The entries of the record at a place.
-fn record_count(joined: bool, kind: Kind, m: &[u8], at: usize) -> Counted
-    ensures { λ r. ⌜ counted r ≡ entryCount joined kind (now (m .entry)) at ⌝ }
+// The entries of the record at a place: an aggregated one, an assert record or a pair.
+fn record_count(joined: bool, is_assert: bool, zero_allowed: bool, m: &[u8], at: usize) -> Counted
+    ensures { λ r. ⌜ counted r ≡ entryCount joined «is_assert» «zero_allowed» (now (m .entry)) at ⌝ }
 {
     if joined {
         return aggregated_record(m, at);
     }
-    with_count(1, record_check(kind, m, at))
+    if is_assert {
+        return with_count(1, assert_check(m, at));
+    }
+    with_count(1, pair_check(m, at, zero_allowed))
 }
 
-// The entries of the records up to the end of a message.
-fn count_to_end(joined: bool, kind: Kind, m: &[u8], from: usize) -> Counted
+// How many records are passed by their form alone; of aggregated ones none is.
+fn passed(joined: bool, is_assert: bool, zero_allowed: bool, m: &[u8], from: usize) -> usize
     requires { ⌜ from ≤ length (now m) ⌝ }
-    ensures { λ r. ⌜ counted r ≡ tallied sum (toEnd (length (now (m .entry))) (entryCount joined kind) (now (m .entry)) from) ⌝ }
+    ensures { λ r. ⌜ r ≡ passedRecords joined «is_assert» «zero_allowed» (now (m .entry)) from ⌝ }
 {
-    let mut at = from;
-    let mut total = 0;
+    if joined {
+        return 0;
+    }
+    allowed_records(m, from, is_assert, zero_allowed)
+}
+
+// The entries of the records up to the end of a message: past those that are passed by their form, field by field.
+fn count_to_end(joined: bool, is_assert: bool, zero_allowed: bool, m: &[u8], from: usize) -> Counted
+    requires { ⌜ from ≤ length (now m) ⌝ }
+    ensures { λ r. ⌜ counted r ≡ tallied sum (toEnd (length (now (m .entry))) (entryCount joined «is_assert» «zero_allowed») (now (m .entry)) from) ⌝ }
+{
+    let mut total = passed(joined, is_assert, zero_allowed, m, from);
+    let mut at = from + total * record_size(is_assert);
     while at < m.len() {
-        let c = record_count(joined, kind, m, at);
+        let c = record_count(joined, is_assert, zero_allowed, m, at);
         let Counted::All { entries, next } = c else {
             return c;
         };
@@ -85,24 +101,15 @@ fn count_plain(m: &[u8]) -> Counted
     Counted::All { entries: 1, next }
 }
 
-fn count_simple(m: &[u8]) -> Counted
-    ensures { λ r. ⌜ counted r ≡ tallied length (assertsBody ipv4 Kind.Simple (now (m .entry)) 4) ⌝ }
+// Packed asserts of either form.
+fn count_packed(joined: bool, m: &[u8]) -> Counted
+    ensures { λ r. ⌜ counted r ≡ tallied length (assertsBody ipv4 (packedKind joined) (now (m .entry)) 4) ⌝ }
 {
     let z = packed_check(m);
     let Checked::Next(first) = z else {
         return with_count(0, z);
     };
-    count_to_end(false, Kind::Simple, m, first)
-}
-
-fn count_joined(m: &[u8]) -> Counted
-    ensures { λ r. ⌜ counted r ≡ tallied length (assertsBody ipv4 Kind.Aggregated (now (m .entry)) 4) ⌝ }
-{
-    let z = packed_check(m);
-    let Checked::Next(first) = z else {
-        return with_count(0, z);
-    };
-    count_to_end(true, Kind::Aggregated, m, first)
+    count_to_end(joined, true, false, m, first)
 }
 
 // The entries of a message of asserts; 4 for the other kinds.
@@ -112,21 +119,21 @@ pub fn count_asserts(kind: Kind, m: &[u8]) -> Counted
     match kind {
         Kind::Hello => with_count(0, bad(4, 0)),
         Kind::Assert => count_plain(m),
-        Kind::Simple => count_simple(m),
-        Kind::Aggregated => count_joined(m),
+        Kind::Simple => count_packed(false, m),
+        Kind::Aggregated => count_packed(true, m),
         Kind::NullRegister => with_count(0, bad(4, 0)),
         Kind::RegisterStop => with_count(0, bad(4, 0)),
     }
 }
 
-// The pairs of a kind that has them.
-fn count_register(kind: Kind, m: &[u8]) -> Counted
-    ensures { λ r. ⌜ counted r ≡ tallied sum (records (entryCount false kind) (now (m .entry)) 4) ⌝ }
+// Pairs, one at least, whose source may be 0 or not.
+fn count_register(zero_allowed: bool, m: &[u8]) -> Counted
+    ensures { λ r. ⌜ counted r ≡ tallied length (records (pairRecord ipv4 «zero_allowed») (now (m .entry)) 4) ⌝ }
 {
     if m.len() <= 4 {
         return with_count(0, bad(5, 4));
     }
-    count_to_end(false, kind, m, 4)
+    count_to_end(false, false, zero_allowed, m, 4)
 }
 
 // The entries of a message of pairs; 4 for the other kinds.
@@ -138,7 +145,7 @@ pub fn count_pairs(kind: Kind, m: &[u8]) -> Counted
         Kind::Assert => with_count(0, bad(4, 0)),
         Kind::Simple => with_count(0, bad(4, 0)),
         Kind::Aggregated => with_count(0, bad(4, 0)),
-        Kind::NullRegister => count_register(Kind::NullRegister, m),
-        Kind::RegisterStop => count_register(Kind::RegisterStop, m),
+        Kind::NullRegister => count_register(false, m),
+        Kind::RegisterStop => count_register(true, m),
     }
 }

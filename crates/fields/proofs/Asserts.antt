@@ -10,9 +10,9 @@ use native.Mathlib.Omega.{arith}
 use mathlib.Core.Path.{_≡_, sym, _∙_}
 use mathlib.Core.Bool.{Bool, true, false, not, _&&_}
 use mathlib.Core.List.{List}
-use lib.Dec.{eqb, leb}
-use lib.ListN.{length, getD}
-use Rattle.octets.specs.Octets.{numberAt, Octets}
+use lib.Dec.{eqb}
+use lib.ListN.{length}
+use Rattle.octets.specs.Octets.{numberAt}
 use Rattle.octets.proofs.Laws.{number-back}
 use Rattle.records.specs.Records.{assert, rBit}
 use Rattle.format.specs.Reader.{Read, got, continue, _>>=_, _>>_, give, here, octets, number, refuse}
@@ -24,7 +24,7 @@ use Rattle.fields.specs.Answers.{checked, skipped}
 use Rattle.fields.specs.declared.field.Checked.{Checked}
 use Rattle.fields.specs.declared.field.Checked.the-variants.{Next, Bad}
 use Rattle.fields.proofs.Skipped.{checks-bad, checks-next, checks-on, skipped-last}
-use Rattle.fields.proofs.Fields.{number-skipped, group-back, source-back, rBit-is}
+use Rattle.fields.proofs.Fields.{number-skipped, group-back, source-back}
 
 module _ (o : List ℕ) (at : ℕ) where
   pub assert-no-group : {c : Checked} {x : Refusal} → c ≡ Bad x → checked c ≡ skipped (groupField ipv4 o at)
@@ -55,9 +55,9 @@ pub record Head (o : List ℕ) (at p q n : ℕ) : Type 0 where
   pub source : sourceField ipv4 true o p ≡ got s q
   pub word : number 4 o q ≡ got v n
 
--- R=0 with source 0, by the octets at the source's place and at the R word's
+-- R=0 with source 0, by the numbers at the source's place and at the R word's
 abbrev pub zeroSource : List ℕ → ℕ → ℕ → Bool
-zeroSource o p q = not (leb 128 (getD o q 0)) && eqb (numberAt 4 o (p + 2)) 0
+zeroSource o p q = not (rBit (numberAt 4 o q)) && eqb (numberAt 4 o (p + 2)) 0
 
 pub head : (o : List ℕ) (at : ℕ) {g s c : Checked} {p q n : ℕ} → g ≡ Next p → checked g ≡ skipped (groupField ipv4 o at)
     → s ≡ Next q → checked s ≡ skipped (sourceField ipv4 true o p) → c ≡ Next n → checked c ≡ skipped (octets 4 o q)
@@ -82,18 +82,15 @@ module _ {o : List ℕ} {at p q n : ℕ} (h : Head o at p q n) where
   unfolding assertFields _>>=_ _>>_ here continue
   head-rest = rw (h .group, h .source, h .word)
 
-  module _ (octet : Octets o) where
-    test-is : (not (rBit (h .v)) && eqb (h .s) 0) ≡ zeroSource o p q
-    test-is =
-        let d = number-back 4 o q (h .word) in
-        rw (source-back true o p (h .source) .0, d .0, rBit-is o q octet (omega arith))
+  test-is : (not (rBit (h .v)) && eqb (h .s) 0) ≡ zeroSource o p q
+  test-is = rw (source-back true o p (h .source) .0, number-back 4 o q (h .word) .0)
 
-    pub assert-zero : zeroSource o p q ≡ true → {c : Checked} → c ≡ Bad (record { number = 7; place = p })
-        → checked c ≡ skipped (assertFields ipv4 o at)
-    unfolding refuse continue checked skipped
-    assert-zero t e = rw (e, head-rest, test-is, t)
+  pub assert-zero : zeroSource o p q ≡ true → {c : Checked} → c ≡ Bad (record { number = 7; place = p })
+      → checked c ≡ skipped (assertFields ipv4 o at)
+  unfolding refuse continue checked skipped
+  assert-zero t e = rw (e, head-rest, test-is, t)
 
-    pub assert-last : zeroSource o p q ≡ false → {x : Read (Unit {0})} → x ≡ skipped (octets 4 o n)
-        → x ≡ skipped (assertFields ipv4 o at)
-    unfolding refuse continue _>>=_ give
-    assert-last t e = rw (head-rest, test-is, t) (e ∙ sym (number-skipped 4 o n) ∙ sym (skipped-last (number 4 o n) (λ m. assert (h .g) (h .s) (h .v) m)))
+  pub assert-last : zeroSource o p q ≡ false → {x : Read (Unit {0})} → x ≡ skipped (octets 4 o n)
+      → x ≡ skipped (assertFields ipv4 o at)
+  unfolding refuse continue _>>=_ give
+  assert-last t e = rw (head-rest, test-is, t) (e ∙ sym (number-skipped 4 o n) ∙ sym (skipped-last (number 4 o n) (λ m. assert (h .g) (h .s) (h .v) m)))

@@ -5,20 +5,18 @@
 --     Comes, form-no, form-yes                    a field by a test of its octets, and what a check that made the test answers
 --     groupTest, group-form .. group-back         a group: the address is tested by its first octet
 --     sourceTest, source-form .. source-back      a source
---     rBit-is                                     R is the highest bit of the word's first octet
 -- Assumes nothing.
 use Prim.Native.Nat.{ℕ, _+_, _-_, _*_, _/_, _≤_, _<_}
 use native.Mathlib.Omega.{arith}
 use mathlib.Core.Path.{_≡_, refl, sym, ap, _∙_}
 use mathlib.Core.Bool.{Bool, true, false, not, _&&_, _||_, cond}
 use mathlib.Core.List.{List}
-use borrow.Author.Tests.{le-leb, lt-leb, lt-ltb, le-ltb, leb-true, leb-false, eq-eqb, eqb-true, eqb-false}
+use borrow.Author.Tests.{le-leb, lt-ltb, le-ltb, leb-true, eq-eqb, eqb-true, eqb-false}
 use lib.Dec.{leb, ltb, eqb}
 use lib.ListN.{length, getD, take, drop, length-drop}
 use lib.Seq.{take-add, take-all, drop-drop, length-take-le, drop-at}
 use Rattle.octets.specs.Octets.{numberAt, Octets, value}
 use Rattle.octets.proofs.Laws.{number-is, number-short, octets-there, octets-back}
-use Rattle.records.specs.Records.{rBit}
 use Rattle.format.specs.Reader.{Read, Reader, got, bad, continue, _>>=_, give, octets, number, must}
 use Rattle.format.specs.Family.{ipv4, mayBeSource}
 use Rattle.format.specs.Address.{groupForm, groupField, sourceForm, sourceField}
@@ -61,7 +59,7 @@ last-four : (j : ℕ) (x : List ℕ) → length x ≡ j + 4 → value (drop j x)
 unfolding numberAt
 last-four j x e = ap value (sym (take-all 4 (drop j x) (simp length-drop (omega arith))))
 
-part-number : (j : ℕ) (o : List ℕ) (at : ℕ) → at + (j + 4) ≤ length o → value (drop j (take (j + 4) (drop at o))) ≡ numberAt 4 o (at + j)
+pub part-number : (j : ℕ) (o : List ℕ) (at : ℕ) → at + (j + 4) ≤ length o → value (drop j (take (j + 4) (drop at o))) ≡ numberAt 4 o (at + j)
 unfolding numberAt
 part-number j o at h =
     let small : j ≤ length (drop at o) = simp length-drop (omega arith) in
@@ -195,16 +193,3 @@ pub source-back : (z : Bool) (o : List ℕ) (at : ℕ) {s n : ℕ} → sourceFie
     → (s ≡ numberAt 4 o (at + 2)) × (n ≡ at + 6) × (n ≤ length o)
 unfolding sourceField
 source-back z o at e = formed-back 2 (sourceForm ipv4 z) o at e
-
--- ---- R
-
-pub rBit-is : (o : List ℕ) (at : ℕ) → Octets o → at + 4 ≤ length o → rBit (numberAt 4 o at) ≡ leb 128 (getD o at 0)
-rBit-is o at octet h = go (leb 128 (getD o at 0)) refl
-  where
-    go : (b : Bool) → leb 128 (getD o at 0) ≡ b → leb 2147483648 (numberAt 4 o at) ≡ b
-    go true t =
-        let l : 128 ≤ getD o at 0 = leb-true 128 (getD o at 0) t in
-        le-leb 2147483648 (numberAt 4 o at) (omega (arith, four o at h))
-    go false t =
-        let l : getD o at 0 < 128 = leb-false 128 (getD o at 0) t in
-        lt-leb 2147483648 (numberAt 4 o at) (omega (arith, four o at h, octet (at + 1), octet (at + 2), octet (at + 3)))

@@ -6,6 +6,8 @@ ghost use mathlib.Core.Path.{_≡_};
 ghost use mathlib.Core.Bool.{_&&_};
 ghost use lib.Dec.{eqb};
 ghost use lib.ListN.{length};
+ghost use Rattle.octets.specs.Octets.{numberAt};
+ghost use Rattle.records.specs.Records.{rBit};
 ghost use Rattle.format.specs.Reader.{octets, handUp};
 ghost use Rattle.format.specs.Family.{ipv4};
 ghost use Rattle.format.specs.Address.{groupForm, groupField, sourceForm, sourceField};
@@ -75,6 +77,13 @@ pub fn is_source(s: &[u8], zero_allowed: bool) -> bool
         return true;
     }
     number32(s, 2) != 0
+}
+
+// R, the highest bit of the word that it has with the metric preference. A caller lends the four octets.
+pub fn r_bit(word: &[u8]) -> bool
+    ensures { λ r. ⌜ r ≡ rBit (numberAt 4 (now (word .entry)) 0) ⌝ }
+{
+    0x8000_0000 <= number32(word, 0)
 }
 
 // A group is there and allowed.

@@ -4,6 +4,7 @@ use crate::field::bad;
 use crate::field::group_check;
 use crate::field::in_record;
 use crate::field::octets_check;
+use crate::field::r_bit;
 use crate::field::source_check;
 use format::AssertFields;
 use format::Kind;
@@ -33,10 +34,11 @@ fn assert_fields(m: &[u8], at: usize) -> Checked
         return v;
     };
     // R=0 with source 0 is found here.
-    if m[word_at] < 128 {
-        if number32(&m[source_at + 2..source_at + 6], 0) == 0 {
-            return bad(7, source_at);
-        }
+    if r_bit(&m[word_at..word_at + 4]) {
+        return octets_check(m, metric_at, 4);
+    }
+    if number32(&m[source_at + 2..source_at + 6], 0) == 0 {
+        return bad(7, source_at);
     }
     octets_check(m, metric_at, 4)
 }
@@ -59,14 +61,14 @@ pub fn assert_check(m: &[u8], at: usize) -> Checked
 }
 
 // A pair.
-pub(crate) fn pair_check(m: &[u8], at: usize, zero_allowed: bool) -> Checked
+pub fn pair_check(m: &[u8], at: usize, zero_allowed: bool) -> Checked
     ensures { λ r. ⌜ checked r ≡ skipped (pairRecord ipv4 «zero_allowed» (now (m .entry)) at) ⌝ }
 {
     in_record(at, pair_fields(m, at, zero_allowed))
 }
 
 // A record of a kind that has records of one length; 4 for the others.
-pub fn record_check(kind: Kind, m: &[u8], at: usize) -> Checked
+fn record_check(kind: Kind, m: &[u8], at: usize) -> Checked
     ensures { λ r. ⌜ checked r ≡ skipped (recordAt ipv4 kind (now (m .entry)) at) ⌝ }
 {
     match kind {

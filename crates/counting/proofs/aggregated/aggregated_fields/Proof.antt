@@ -1,20 +1,19 @@
--- `counting::aggregated::aggregated_fields` meets its contract: R is read from its octet, and the number of entries does not depend on preference and metric.
+-- `counting::aggregated::aggregated_fields` meets its contract: the number of entries does not depend on preference and metric.
 -- Assumes nothing.
 use Prim.Native.Nat.{ℕ, _+_, _≤_}
 use native.Mathlib.Omega.{arith}
-use mathlib.Core.Path.{_≡_, refl, _∙_}
+use mathlib.Core.Path.{_≡_, refl, sym, ap, _∙_}
 use mathlib.Core.Bool.{Bool, true, false, cond}
 use denote.Ref.{now}
-use lib.Dec.{leb}
-use lib.ListN.{length, getD}
-use borrow.Author.Tests.{le-leb, lt-leb}
+use lib.ListN.{length}
 use Rattle.records.specs.Records.{rBit}
 use Rattle.format.specs.Reader.{Read, _>>=_, number}
 use Rattle.format.specs.Family.{ipv4}
 use Rattle.format.specs.Record.{sourceAggregated, rpAggregated, aggregatedFields}
 use Rattle.octets.specs.Octets.{numberAt}
+use Rattle.octets.proofs.Laws.{number-cut}
 use Rattle.counting.specs.Counts.{tallied, recordCount}
-use Rattle.fields.proofs.Fields.{octets-room, rBit-is}
+use Rattle.fields.proofs.Fields.{octets-room}
 use Rattle.counting.proofs.Tallied.{tallies-bad, tallies-number, checks-number, either-alike}
 use borrow.Author.Needs.{needs}
 use Rattle.counting.proofs.aggregated.aggregated_fields.Statement.{statement}
@@ -85,36 +84,52 @@ found c =
     octets-room 4 (now (a .m)) (a .at) (c .before .v .given .1) (c .before .before .before .octets-check .ensures) .0
 
 -- past the metric, by R
-byR : (c : tie.After-shared-slice-known2) {y : Read ℕ} (r : Bool) → leb 128 (getD (now (start (c .before .before .before .before .before) .args .m)) (start (c .before .before .before .before .before) .args .at) 0) ≡ r
-    → y ≡ tallied recordCount (cond r (rpAggregated ipv4 0 0) (sourceAggregated ipv4 0 0) (now (start (c .before .before .before .before .before) .args .m)) (c .before .before .x .given .0 .0))
-    → y ≡ tallied recordCount (aggregatedFields ipv4 (now (start (c .before .before .before .before .before) .args .m)) (start (c .before .before .before .before .before) .args .at))
+byR : (c : tie.After-known-told2) {y : Read ℕ} (r : Bool) → rBit (numberAt 4 (now (start (c .before .before .before .before) .args .m)) (start (c .before .before .before .before) .args .at)) ≡ r
+    → y ≡ tallied recordCount (cond r (rpAggregated ipv4 0 0) (sourceAggregated ipv4 0 0) (now (start (c .before .before .before .before) .args .m)) (c .before .x .given .0 .0))
+    → y ≡ tallied recordCount (aggregatedFields ipv4 (now (start (c .before .before .before .before) .args .m)) (start (c .before .before .before .before) .args .at))
 unfolding _>>=_
 byR c r test next =
-    let d = c .before .before .before .before .before in
+    let d = c .before .before .before .before in
     let a = start d .args in
     let v = numberAt 4 (now (a .m)) (a .at) in
     let x = numberAt 4 (now (a .m)) (d .before .v .given .0 .0) in
     afterWord d
-    (tallies-number recordCount 4 (now (a .m)) (d .before .v .given .0 .0) _ (c .before .before .x .given .1) (c .before .before .before .before .octets-check2 .ensures) refl
-    (next ∙ either-alike r v x (now (a .m)) (c .before .before .x .given .0 .0)
-    ∙ rw (rBit-is (now (a .m)) (a .at) (λ i. c .shared-slice-known2 .given i .fits) (found d), test)))
+    (tallies-number recordCount 4 (now (a .m)) (d .before .v .given .0 .0) _ (c .before .x .given .1) (c .before .before .before .octets-check2 .ensures) refl
+    (next ∙ either-alike r v x (now (a .m)) (c .before .x .given .0 .0) ∙ rw (test)))
 
-shared-slice-read-if1 : tie.Need-shared-slice-read-if1
-shared-slice-read-if1 c =
-    let room = found (c .before .before .before .before .before) in
-    omega arith
+add-r-bit : tie.Need-add-r-bit
+add-r-bit c = omega (arith, found (c .before .before .before .before))
 
-source-aggregated-requires : tie.Need-source-aggregated-requires
-source-aggregated-requires c κs = search needs
+sub-r-bit : tie.Need-sub-r-bit
+sub-r-bit c = search needs
 
-returns-3 : tie.Need-returns-3
-returns-3 c = byR (c .before .before) false (lt-leb _ _ (c .before .if1 .taken)) (c .source-aggregated .ensures)
+part-r-bit-start : tie.Need-part-r-bit-start
+part-r-bit-start c = search needs
+
+part-r-bit-end : tie.Need-part-r-bit-end
+part-r-bit-end c = found (c .before .before .before .before)
+
+r-bit-requires : tie.Need-r-bit-requires
+r-bit-requires c κs = search needs
+
+-- R as code has read it is that of the word
+bit-is : (c : tie.After-r-bit) → rBit (numberAt 4 (now (start (c .before .before .before .before .before .before) .args .m)) (start (c .before .before .before .before .before .before) .args .at)) ≡ c .r-bit .result
+bit-is c =
+    let d = c .before .before .before .before .before .before in
+    let a = start d .args in
+    sym (c .r-bit .ensures ∙ ap rBit (number-cut 4 (now (a .m)) (a .at) (a .at + 4) refl (found d)))
 
 rp-aggregated-requires : tie.Need-rp-aggregated-requires
 rp-aggregated-requires c κs = search needs
 
+returns-3 : tie.Need-returns-3
+returns-3 c = byR (c .before .before .before .before) true (bit-is (c .before .before) ∙ c .before .if1 .taken) (c .rp-aggregated .ensures)
+
+source-aggregated-requires : tie.Need-source-aggregated-requires
+source-aggregated-requires c κs = search needs
+
 returns-4 : tie.Need-returns-4
-returns-4 c = byR (c .before .before) true (le-leb _ _ (c .before .if1 .left)) (c .rp-aggregated .ensures)
+returns-4 c = byR (c .before .before .before .before) false (bit-is (c .before .before) ∙ c .before .if1 .left) (c .source-aggregated .ensures)
 
 pub aggregated-fields-spec : {M : Type 1} → statement M
 aggregated-fields-spec =
@@ -130,8 +145,12 @@ aggregated-fields-spec =
     enum-told-2
     with-count-requires-2
     returns-2
-    shared-slice-read-if1
-    source-aggregated-requires
-    returns-3
+    add-r-bit
+    sub-r-bit
+    part-r-bit-start
+    part-r-bit-end
+    r-bit-requires
     rp-aggregated-requires
+    returns-3
+    source-aggregated-requires
     returns-4)

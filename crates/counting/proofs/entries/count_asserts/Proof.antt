@@ -26,14 +26,14 @@ count-plain-requires c κs = search needs
 enum-told-3 : tie.Need-enum-told-3
 enum-told-3 c = search needs
 
-count-simple-requires : tie.Need-count-simple-requires
-count-simple-requires c κs = search needs
+count-packed-requires : tie.Need-count-packed-requires
+count-packed-requires c κs = search needs
 
 enum-told-4 : tie.Need-enum-told-4
 enum-told-4 c = search needs
 
-count-joined-requires : tie.Need-count-joined-requires
-count-joined-requires c κs = search needs
+count-packed-requires-2 : tie.Need-count-packed-requires-2
+count-packed-requires-2 c κs = search needs
 
 enum-told-5 : tie.Need-enum-told-5
 enum-told-5 c = search needs
@@ -61,10 +61,10 @@ returns-2 : tie.Need-returns-2
 returns-2 c = rw (c .before .enum-told2 .given .1) (c .count-plain .ensures)
 
 returns-3 : tie.Need-returns-3
-returns-3 c = rw (c .before .enum-told3 .given .1) (c .count-simple .ensures)
+returns-3 c = rw (c .before .enum-told3 .given .1) (c .count-packed .ensures)
 
 returns-4 : tie.Need-returns-4
-returns-4 c = rw (c .before .enum-told4 .given .1) (c .count-joined .ensures)
+returns-4 c = rw (c .before .enum-told4 .given .1) (c .count-packed2 .ensures)
 
 returns-5 : tie.Need-returns-5
 unfolding assertsBody checked tallied
@@ -84,9 +84,9 @@ count-asserts-spec =
     enum-told-2
     count-plain-requires
     enum-told-3
-    count-simple-requires
+    count-packed-requires
     enum-told-4
-    count-joined-requires
+    count-packed-requires-2
     enum-told-5
     bad-requires-2
     with-count-requires-2

@@ -1,12 +1,10 @@
 -- `counting::entries::count_pairs` meets its contract, kind by kind.
 -- Assumes nothing.
 use mathlib.Core.Path.{ap, _∙_}
-use denote.Ref.{now}
 use borrow.Author.Needs.{needs}
 use Rattle.format.specs.Body.{pairsBody}
 use Rattle.fields.specs.Answers.{checked}
 use Rattle.counting.specs.Counts.{tallied}
-use Rattle.counting.proofs.Bodies.{null-count, stop-count}
 use Rattle.counting.proofs.entries.count_pairs.Statement.{statement}
 use Rattle.counting.proofs.entries.count_pairs.Tie as tie
 
@@ -75,10 +73,12 @@ unfolding pairsBody checked tallied
 returns-4 c = rw (c .before .before .enum-told4 .given .1) (c .with-count4 .ensures ∙ ap (λ x. tallied (λ u. 0) (checked x)) (c .before .bad4 .ensures))
 
 returns-5 : tie.Need-returns-5
-returns-5 c = rw (c .before .enum-told5 .given .1) (c .count-register .ensures ∙ null-count (now (c .before .before .before .before .args .m)))
+unfolding pairsBody
+returns-5 c = rw (c .before .enum-told5 .given .1) (c .count-register .ensures)
 
 returns-6 : tie.Need-returns-6
-returns-6 c = rw (c .before .enum-told6 .given .1) (c .count-register2 .ensures ∙ stop-count (now (c .before .before .before .before .args .m)))
+unfolding pairsBody
+returns-6 c = rw (c .before .enum-told6 .given .1) (c .count-register2 .ensures)
 
 pub count-pairs-spec : {M : Type 1} → statement M
 count-pairs-spec =

@@ -4,10 +4,12 @@ use native.Mathlib.Omega.{arith}
 use denote.Ref.{now}
 use borrow.Author.Needs.{needs}
 use mathlib.Core.Path.{sym, ap, _∙_}
-use mathlib.Core.Bool.{false}
+use lib.ListN.{length}
+use Rattle.format.specs.Family.{ipv4}
+use Rattle.format.specs.Record.{pairRecord}
 use Rattle.fields.specs.Answers.{checked}
-use Rattle.counting.specs.Counts.{tallied, entryCount, sum}
-use Rattle.counting.proofs.Bodies.{records-none-left, records-left}
+use Rattle.counting.specs.Counts.{tallied}
+use Rattle.counting.proofs.Bodies.{count-pairs, records-none-left, records-left}
 use Rattle.counting.proofs.entries.count_register.Statement.{statement}
 use Rattle.counting.proofs.entries.count_register.Tie as tie
 
@@ -23,7 +25,7 @@ returns c =
     let a = c .before .before .before .before .args in
     c .with-count .ensures
     ∙ ap (λ x. tallied (λ u. 0) (checked x)) (c .before .bad .ensures)
-    ∙ sym (ap (tallied sum) (records-none-left (entryCount false (a .kind)) (now (a .m)) 4 (omega arith)))
+    ∙ sym (ap (tallied length) (records-none-left (pairRecord ipv4 (a .zero-allowed)) (now (a .m)) 4 (omega arith)))
 
 count-to-end-requires : tie.Need-count-to-end-requires
 count-to-end-requires c κs = search needs
@@ -31,7 +33,9 @@ count-to-end-requires c κs = search needs
 returns-2 : tie.Need-returns-2
 returns-2 c =
     let a = c .before .before .before .args in
-    c .count-to-end .ensures ∙ sym (ap (tallied sum) (records-left (entryCount false (a .kind)) (now (a .m)) 4 (omega arith)))
+    c .count-to-end .ensures
+    ∙ count-pairs (a .zero-allowed) (now (a .m)) (length (now (a .m))) 4
+    ∙ sym (ap (tallied length) (records-left (pairRecord ipv4 (a .zero-allowed)) (now (a .m)) 4 (omega arith)))
 
 pub count-register-spec : {M : Type 1} → statement M
 count-register-spec =

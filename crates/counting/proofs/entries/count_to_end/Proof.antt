@@ -1,7 +1,7 @@
 -- `counting::entries::count_to_end` meets its contract. The loop's invariant: the entries so far, with those of the records from here on, are those
--- of all of them, where enough of the bound on the recursion is left; and there are no more of them than octets. The measure is how many octets are left.
+-- of all of them (`Reached`); and there are no more of them than octets. The measure is how many octets are left.
 -- Assumes nothing.
-use Prim.Native.Nat.{ℕ, _+_, _-_, _≤_, _<_}
+use Prim.Native.Nat.{_+_, _-_, _*_, _≤_, _<_}
 use native.Mathlib.Omega.{arith}
 use mathlib.Core.Path.{_≡_, sym, _∙_}
 use lib.ListN.{length}
@@ -11,23 +11,44 @@ use Rattle.format.specs.Reader.{toEnd}
 use Rattle.counting.specs.Counts.{counted, tallied, entryCount, sum}
 use Rattle.counting.proofs.Tallied.{counts-next, tally-start, end-bad, end-on, end-end}
 use Rattle.counting.proofs.Bodies.{tallied-id, sum-none, sum-more, entry-room}
+use Rattle.counting.proofs.Formed.{Reached, passed-start, passed-few}
 use Rattle.counting.proofs.entries.count_to_end.Statement.{statement}
 use Rattle.counting.proofs.entries.count_to_end.Tie as tie
 
 abbrev Inv-loop : tie.InvT-loop
-Inv-loop joined kind m from at₀ total₀ at total =
-    (total ≤ at)
-    × ((k : ℕ)
-    × ((length m ≤ at + k)
-    × (tallied (λ l. total + sum l) (toEnd k (entryCount joined kind) m at) ≡ tallied sum (toEnd (length m) (entryCount joined kind) m from))))
+Inv-loop joined is-assert zero-allowed m from total₀ at₀ total at = (total ≤ at) × Reached joined is-assert zero-allowed m total at 0 (length m) from
 
 abbrev μ-loop : tie.MeasureT-loop
-μ-loop joined kind m from at₀ total₀ at total = length m - at
+μ-loop joined is-assert zero-allowed m from total₀ at₀ total at = length m - at
+
+abbrev start : tie.At-loop Inv-loop μ-loop → tie.Start Inv-loop μ-loop
+start l = l .before .before .before .before
+
+passed-requires : tie.Need-passed-requires Inv-loop μ-loop
+passed-requires c κs = search needs
+
+record-size-requires : tie.Need-record-size-requires Inv-loop μ-loop
+record-size-requires c κs = search needs
+
+-- past the records that are passed by their form
+first : (c : tie.After-record-size Inv-loop μ-loop)
+    → Reached (c .before .before .before .args .joined) (c .before .before .before .args .is-assert) (c .before .before .before .args .zero-allowed) (now (c .before .before .before .args .m))
+    (c .before .passed .result) (c .before .before .before .args .from + c .before .passed .result * c .record-size .result) 0 (length (now (c .before .before .before .args .m))) (c .before .before .before .args .from)
+first c =
+    let s = c .before .before .before in
+    let a = s .args in
+    passed-start (a .joined) (a .is-assert) (a .zero-allowed) (now (a .m)) (a .from) (s .pre) (c .before .passed .ensures) (c .record-size .ensures)
+
+mul-at : tie.Need-mul-at Inv-loop μ-loop
+mul-at c = omega (arith, first c .within)
+
+add-at : tie.Need-add-at Inv-loop μ-loop
+add-at c = omega (arith, first c .within)
 
 loop-holds : tie.Need-loop-holds Inv-loop μ-loop
 loop-holds c =
-    let a = c .before .args in
-    (omega arith, (length (now (a .m)), (omega arith, tally-start sum (toEnd (length (now (a .m))) (entryCount (a .joined) (a .kind)) (now (a .m)) (a .from)))))
+    let a = c .before .before .before .args in
+    (passed-few (a .is-assert) (a .from) (c .before .passed .result) (c .record-size .ensures), first c)
 
 record-count-requires : tie.Need-record-count-requires Inv-loop μ-loop
 record-count-requires c κs = search needs
@@ -38,25 +59,35 @@ enum-known-c c = search needs
 enum-told : tie.Need-enum-told Inv-loop μ-loop
 enum-told c = search needs
 
+-- what is left to count gives the whole
+whole : (l : tie.At-loop Inv-loop μ-loop)
+    → tallied (λ ns. l .loop .total + sum ns) (toEnd (l .loop .inv .1 .left) (entryCount (start l .args .joined) (start l .args .is-assert) (start l .args .zero-allowed)) (now (start l .args .m)) (l .loop .at))
+    ≡ tallied sum (toEnd (length (now (start l .args .m))) (entryCount (start l .args .joined) (start l .args .is-assert) (start l .args .zero-allowed)) (now (start l .args .m)) (start l .args .from))
+whole l =
+    let a = start l .args in
+    l .loop .inv .1 .gives ∙ tally-start sum (toEnd (length (now (a .m))) (entryCount (a .joined) (a .is-assert) (a .zero-allowed)) (now (a .m)) (a .from))
+
 returns : tie.Need-returns Inv-loop μ-loop
 returns c =
     let l = c .before .before .before .before in
-    let a = l .before .before .args in
-    end-bad (λ n. n) sum sum-none sum-more (entryCount (a .joined) (a .kind)) (now (a .m)) (l .loop .at) (l .loop .total) (l .loop .inv .1 .0)
+    let a = start l .args in
+    end-bad (λ n. n) sum sum-none sum-more (entryCount (a .joined) (a .is-assert) (a .zero-allowed)) (now (a .m)) (l .loop .at) (l .loop .total) (l .loop .inv .1 .left)
     (c .before .before .before .loop-test .taken)
-    (l .loop .inv .1 .1 .0)
+    (l .loop .inv .1 .enough)
     (c .enum-told .given .1)
     (c .before .before .record-count .ensures ∙ sym (tallied-id _))
-    ∙ l .loop .inv .1 .1 .1
+    ∙ whole l
 
 -- the record's octets are more than its entries
-room : (c : tie.After-known-told Inv-loop μ-loop) → c .before .c .given .0 .0 + c .before .before .before .before .before .loop .at < c .before .c .given .0 .1 .0
+room : (c : tie.After-known-told Inv-loop μ-loop)
+    → (c .before .c .given .0 .0 + c .before .before .before .before .before .loop .at < c .before .c .given .0 .1 .0)
+    × (c .before .c .given .0 .1 .0 ≤ length (now (start (c .before .before .before .before .before) .args .m)))
 room c =
     let l = c .before .before .before .before .before in
-    let a = l .before .before .args in
-    let here : l .loop .at ≤ length (now (a .m)) = omega (arith, c .before .before .before .before .loop-test .taken) in
-    counts-next (λ n. n) (entryCount (a .joined) (a .kind) (now (a .m)) (l .loop .at)) (c .before .c .given .1) (c .before .before .before .record-count .ensures ∙ sym (tallied-id _)) (λ n e s.
-    omega (arith, entry-room (a .joined) (a .kind) (now (a .m)) (l .loop .at) n _ here e))
+    let a = start l .args in
+    counts-next (λ n. n) (entryCount (a .joined) (a .is-assert) (a .zero-allowed) (now (a .m)) (l .loop .at)) (c .before .c .given .1) (c .before .before .before .record-count .ensures ∙ sym (tallied-id _)) (λ n e s.
+    let r = entry-room (a .joined) (a .is-assert) (a .zero-allowed) (now (a .m)) (l .loop .at) n _ (l .loop .inv .1 .within) e in
+    (omega (arith, r .0, s), r .1))
 
 add-total : tie.Need-add-total Inv-loop μ-loop
 add-total c = omega (arith, room c)
@@ -67,23 +98,23 @@ loop-less c = omega (arith, room c)
 loop-again : tie.Need-loop-again Inv-loop μ-loop
 loop-again c =
     let l = c .before .before .before .before .before in
-    let a = l .before .before .args in
+    let a = start l .args in
     let on =
-    end-on (λ n. n) sum sum-none sum-more (entryCount (a .joined) (a .kind)) (now (a .m)) (l .loop .at) (l .loop .total) (l .loop .inv .1 .0)
+    end-on (λ n. n) sum sum-none sum-more (entryCount (a .joined) (a .is-assert) (a .zero-allowed)) (now (a .m)) (l .loop .at) (l .loop .total) (l .loop .inv .1 .left)
     (c .before .before .before .before .loop-test .taken)
-    (l .loop .inv .1 .1 .0)
+    (l .loop .inv .1 .enough)
     (omega (arith, room c))
     (c .before .c .given .1)
     (c .before .before .before .record-count .ensures ∙ sym (tallied-id _)) in
-    (omega (arith, room c), (on .0, (on .1 .0, on .1 .1 ∙ l .loop .inv .1 .1 .1)))
+    (omega (arith, room c), record { within = room c .1; left = on .0; enough = on .1 .0; gives = on .1 .1 ∙ l .loop .inv .1 .gives })
 
 returns-2 : tie.Need-returns-2 Inv-loop μ-loop
 unfolding counted
 returns-2 c =
     let l = c .before in
-    let a = l .before .before .args in
-    end-end (λ n. n) sum sum-none sum-more (entryCount (a .joined) (a .kind)) (now (a .m)) (l .loop .at) (l .loop .total) (l .loop .inv .1 .0) (c .loop-test .left)
-    ∙ l .loop .inv .1 .1 .1
+    let a = start l .args in
+    end-end (λ n. n) sum sum-none sum-more (entryCount (a .joined) (a .is-assert) (a .zero-allowed)) (now (a .m)) (l .loop .at) (l .loop .total) (l .loop .inv .1 .left) (c .loop-test .left)
+    ∙ whole l
 
 pub count-to-end-spec : {M : Type 1} → statement M
 count-to-end-spec =
@@ -91,6 +122,10 @@ count-to-end-spec =
     (tie.spec
     Inv-loop
     μ-loop
+    passed-requires
+    record-size-requires
+    mul-at
+    add-at
     loop-holds
     record-count-requires
     enum-known-c

@@ -1,15 +1,14 @@
--- `fields::record::assert_fields` meets its contract: each field by its own check, and the R word by its first octet.
+-- `fields::record::assert_fields` meets its contract: each field by its own check.
 -- Assumes nothing.
-use Prim.Native.Nat.{ℕ, _+_, _-_}
-use mathlib.Core.Path.{_≡_, _∙_}
+use Prim.Native.Nat.{_+_}
+use mathlib.Core.Path.{_≡_, ap, _∙_}
 use native.Mathlib.Omega.{arith}
-use lib.ListN.{take, drop}
-use mathlib.Core.Logic.{⊎-elim}
-use borrow.Author.Tests.{eq-eqb, ne-eqb, le-leb, lt-leb}
+use borrow.Author.Tests.{eq-eqb, ne-eqb}
 use borrow.Author.Needs.{needs}
 use denote.Ref.{now}
-use Rattle.octets.specs.Octets.{Octets, numberAt}
+use Rattle.octets.specs.Octets.{numberAt}
 use Rattle.octets.proofs.Laws.{number-cut}
+use Rattle.records.specs.Records.{rBit}
 use Rattle.fields.proofs.Asserts.{assert-no-group, assert-no-source, assert-no-word, Head, head, head-room, assert-zero, assert-last}
 use Rattle.fields.proofs.record.assert_fields.Statement.{statement}
 use Rattle.fields.proofs.record.assert_fields.Tie as tie
@@ -74,9 +73,6 @@ returns-3 c =
     (s .before .s .given .1) (s .before .before .before .source-check .ensures)
     (c .enum-told3 .given .1) (c .before .before .octets-check .ensures)
 
-octet : (c : tie.After-known-told3) → Octets (now (start (grouped (sourced c)) .args .m))
-octet c i = grouped (sourced c) .before .before .before .before .shared-slice-known .given i .fits
-
 -- the fields up to the R word are there
 found : (c : tie.After-known-told3)
     → Head (now (start (grouped (sourced c)) .args .m)) (start (grouped (sourced c)) .args .at)
@@ -90,14 +86,41 @@ found c =
     (s .before .s .given .1) (s .before .before .before .source-check .ensures)
     (c .before .v .given .1) (c .before .before .before .octets-check .ensures)
 
-shared-slice-read-if1 : tie.Need-shared-slice-read-if1
-shared-slice-read-if1 c = omega (arith, head-room (found (c .before)))
+add-r-bit : tie.Need-add-r-bit
+add-r-bit c = omega (arith, head-room (found c))
+
+sub-r-bit : tie.Need-sub-r-bit
+sub-r-bit c = search needs
+
+part-r-bit-start : tie.Need-part-r-bit-start
+part-r-bit-start c = search needs
+
+part-r-bit-end : tie.Need-part-r-bit-end
+part-r-bit-end c = omega (arith, head-room (found c))
+
+r-bit-requires : tie.Need-r-bit-requires
+r-bit-requires c κs = search needs
+
+-- R as code has read it is that of the word
+bit-is : (c : tie.After-r-bit) → c .r-bit .result ≡ rBit (numberAt 4 (now (start (grouped (sourced (c .before .before))) .args .m)) (sourced (c .before .before) .before .s .given .0 .0))
+bit-is c =
+    let d = c .before .before in
+    let at = sourced d .before .s .given .0 .0 in
+    c .r-bit .ensures ∙ ap rBit (number-cut 4 (now (start (grouped (sourced d)) .args .m)) at (at + 4) (omega arith) (omega (arith, head-room (found d))))
+
+octets-check-requires-2 : tie.Need-octets-check-requires-2
+octets-check-requires-2 c κs = search needs
+
+returns-4 : tie.Need-returns-4
+returns-4 c =
+    let b = c .before .before in
+    assert-last (found (b .before .before)) (rw (← bit-is b, c .before .if1 .taken)) (c .octets-check2 .ensures)
 
 add-number32 : tie.Need-add-number32
-add-number32 c = omega (arith, head-room (found (c .before .before)))
+add-number32 c = omega (arith, head-room (found (c .before .before .before)))
 
 add-number32-2 : tie.Need-add-number32-2
-add-number32-2 c = omega (arith, head-room (found (c .before .before)))
+add-number32-2 c = omega (arith, head-room (found (c .before .before .before)))
 
 sub-number32 : tie.Need-sub-number32
 sub-number32 c = search needs
@@ -106,39 +129,36 @@ part-number32-start : tie.Need-part-number32-start
 part-number32-start c = search needs
 
 part-number32-end : tie.Need-part-number32-end
-part-number32-end c = omega (arith, head-room (found (c .before .before)))
-
--- the source that code has read is the one that is tested
-address-is : (c : tie.After-known-told3) {r : ℕ}
-    → r ≡ numberAt 4 (take (grouped (sourced c) .before .g .given .0 .0 + 6 - (grouped (sourced c) .before .g .given .0 .0 + 2)) (drop (grouped (sourced c) .before .g .given .0 .0 + 2) (now (start (grouped (sourced c)) .args .m)))) 0
-    → r ≡ numberAt 4 (now (start (grouped (sourced c)) .args .m)) (grouped (sourced c) .before .g .given .0 .0 + 2)
-address-is c e =
-    let at = grouped (sourced c) .before .g .given .0 .0 in
-    e ∙ number-cut 4 (now (start (grouped (sourced c)) .args .m)) (at + 2) (at + 6) (omega arith) (omega (arith, head-room (found c)))
+part-number32-end c = omega (arith, head-room (found (c .before .before .before)))
 
 number32-requires : tie.Need-number32-requires
 number32-requires c κs = search needs
 
+-- the source as code has read it is the one that is tested
+source-is : (c : tie.After-number32)
+    → c .number32 .result ≡ numberAt 4 (now (start (grouped (sourced (c .before .before .before .before .before))) .args .m)) (grouped (sourced (c .before .before .before .before .before)) .before .g .given .0 .0 + 2)
+source-is c =
+    let d = c .before .before .before .before .before in
+    let at = grouped (sourced d) .before .g .given .0 .0 in
+    c .number32 .ensures ∙ number-cut 4 (now (start (grouped (sourced d)) .args .m)) (at + 2) (at + 6) (omega arith) (omega (arith, head-room (found d)))
+
 bad-requires : tie.Need-bad-requires
 bad-requires c κs = search needs
 
-returns-4 : tie.Need-returns-4
-returns-4 c =
-    let d = c .before .before .before .before .before .before in
-    assert-zero (found d) (octet d)
-    (rw (lt-leb _ _ (c .before .before .before .before .if1 .taken), ← address-is d (c .before .before .number32 .ensures), eq-eqb _ _ (c .before .if2 .taken)))
-    (c .bad .ensures)
-
-octets-check-requires-2 : tie.Need-octets-check-requires-2
-octets-check-requires-2 c κs = search needs
-
 returns-5 : tie.Need-returns-5
 returns-5 c =
-    let d = c .before .before .before in
-    ⊎-elim
-    (λ w. assert-last (found d) (octet d) (rw (lt-leb _ _ (w .0 .taken), ← address-is d (w .2 .ensures), ne-eqb _ _ (w .3 .left))) (c .octets-check2 .ensures))
-    (λ w. assert-last (found d) (octet d) (rw (le-leb _ _ (w .left))) (c .octets-check2 .ensures))
-    (c .before .if1 .came)
+    let n = c .before .before in
+    let e = n .before .before in
+    assert-zero (found (e .before .before .before)) (rw (← bit-is (e .before), e .if1 .left, ← source-is n, eq-eqb _ _ (c .before .if2 .taken))) (c .bad .ensures)
+
+octets-check-requires-3 : tie.Need-octets-check-requires-3
+octets-check-requires-3 c κs = search needs
+
+returns-6 : tie.Need-returns-6
+returns-6 c =
+    let n = c .before .before in
+    let e = n .before .before in
+    assert-last (found (e .before .before .before)) (rw (← bit-is (e .before), e .if1 .left, ← source-is n, ne-eqb _ _ (c .before .if2 .left))) (c .octets-check3 .ensures)
 
 pub assert-fields-spec : {M : Type 1} → statement M
 assert-fields-spec =
@@ -156,7 +176,13 @@ assert-fields-spec =
     enum-known-v
     enum-told-3
     returns-3
-    shared-slice-read-if1
+    add-r-bit
+    sub-r-bit
+    part-r-bit-start
+    part-r-bit-end
+    r-bit-requires
+    octets-check-requires-2
+    returns-4
     add-number32
     add-number32-2
     sub-number32
@@ -164,6 +190,6 @@ assert-fields-spec =
     part-number32-end
     number32-requires
     bad-requires
-    returns-4
-    octets-check-requires-2
-    returns-5)
+    returns-5
+    octets-check-requires-3
+    returns-6)
