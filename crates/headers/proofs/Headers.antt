@@ -13,7 +13,7 @@ use lib.Dec.{ltb}
 use lib.ListN.{length, take, drop, length-drop}
 use lib.Seq.{take-all}
 use Rattle.format.specs.Outcome.{gives}
-use Rattle.format.specs.Header.{header, body, bodyOf}
+use Rattle.format.specs.Header.{shortest, longest, header, body, bodyOf}
 use Rattle.format.specs.declared.Kind.{Kind}
 use Rattle.format.specs.declared.Refusal.{Refusal}
 use Rattle.format.proofs.Outcomes.{unless-gives}
@@ -25,12 +25,12 @@ neither : (a b : Bool) → (a || b) ≡ false → (a ≡ false) × (b ≡ false)
 neither true b e = absurd (let z : _≡_ {A = ℕ} 0 1 = cc in omega arith)
 neither false b e = (refl, e)
 
-pub header-room : (o : List ℕ) (k : Kind) → header o ≡ gives k → (4 ≤ length o) × (length o ≤ 65515)
+pub header-room : (o : List ℕ) (k : Kind) → header o ≡ gives k → (shortest ≤ length o) × (length o ≤ longest)
 unfolding header
 header-room o k e =
-    unless-gives (ltb (length o) 4 || ltb 65515 (length o)) 1 0 _ k e (λ t rest.
-    let b = neither (ltb (length o) 4) (ltb 65515 (length o)) t in
-    (ltb-false (length o) 4 (b .0), ltb-false 65515 (length o) (b .1)))
+    unless-gives (ltb (length o) shortest || ltb longest (length o)) 1 0 _ k e (λ t rest.
+    let b = neither (ltb (length o) shortest) (ltb longest (length o)) t in
+    (ltb-false (length o) shortest (b .0), ltb-false longest (length o) (b .1)))
 
 module _ (o : List ℕ) {h : Headed} where
   pub headed-room : {k : Kind} → h ≡ Is k → headed h ≡ header o → 4 ≤ length o

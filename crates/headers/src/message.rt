@@ -1,4 +1,5 @@
 // The checks of every message, 1 to 4 in that order, and the body past them.
+use format::GREATEST_LIMIT;
 use format::Kind;
 use format::Refusal;
 ghost use mathlib.Core.Path.{_≡_};
@@ -58,14 +59,14 @@ fn kind_of(t: u8, x: u8) -> Headed
     refused(4)
 }
 
-// The kind of a message, or the first of 1, 2, 3 and 4 that applies.
+// The kind of a message, or the first of 1, 2, 3 and 4 that applies. No message is longer than the greatest limit.
 pub fn header(m: &[u8]) -> Headed
     ensures { λ r. ⌜ headed r ≡ headerOf (now (m .entry)) ⌝ }
 {
     if m.len() < 4 {
         return refused(1);
     }
-    if 65515 < m.len() {
+    if GREATEST_LIMIT < m.len() {
         return refused(1);
     }
     if m[0] / 16 != 2 {
