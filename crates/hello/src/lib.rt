@@ -13,8 +13,8 @@ ghost use Rattle.hello.specs.Hello.{holdtimeOf, helloOf, helloOptions, r
 ghost use Rattle.hello.specs.Answers.{ifGiven, saidBy, stepped, heard, helloBy, zeroPriority, told, unannounced, fourAt};
 use format::Kind;
 use format::Refusal;
+use headers::Headed;
 use octets::Field;
-use reading::Headed;
 
 // What a Hello says so far: each option with whether it was there.
 struct Heard {
@@ -265,7 +265,7 @@ pub fn read_hello(m: &[u8]) -> HelloRead
     ensures says { λ r. ⌜ told r ≡ readHello (now (m .entry)) ⌝ }
     ensures zero { λ r. ⌜ unannounced r ⌝ }
 {
-    let k = reading::header(m);
+    let k = headers::header(m);
     match k {
         Headed::Refused(r) => HelloRead::Refused(r),
         Headed::Is(kind) => match kind {
