@@ -15,12 +15,13 @@ use Prim.Native.Nat.{ℕ, zero, suc, _+_, _-_, _*_, _≤_, _<_}
 use native.Mathlib.Nat.{mul-add, mul-suc, mul-zero}
 use native.Mathlib.Omega.{arith}
 use mathlib.Core.Path.{_≡_, refl, sym, ap, _∙_}
+use mathlib.Core.Bool.{true, false}
 use mathlib.Core.List.{List, [], _∷_, _++_, map, append-nil}
-use lib.ListN.{length, getD, length-append, length-map}
+use lib.ListN.{length, length-append, length-map}
 use borrow.Author.Tests.{le-leb, lt-leb}
-use Rattle.octets.specs.Octets.{Octets, value, numberAt, put, be}
-use Rattle.octets.proofs.Laws.{number-is, put-nil, put-put, put-next, length-put, length-be}
-use Rattle.records.specs.Records.{AssertRecord, assert, PairRecord, ofGroup, AggregatedRecord, ofSource, ofRp, groupEntries, allGroupEntries, entries, allEntries}
+use Rattle.octets.specs.Octets.{numberAt, put, be}
+use Rattle.octets.proofs.Laws.{put-nil, put-put, put-next, length-put, length-be}
+use Rattle.records.specs.Records.{rBit, AssertRecord, assert, PairRecord, ofGroup, AggregatedRecord, ofSource, ofRp, groupEntries, allGroupEntries, entries, allEntries}
 use Rattle.records.specs.Sizes.{groupRecordSize, groupRecordsSize, aggregatedSize, allSize}
 use Rattle.format.specs.Family.{ipv4}
 use Rattle.format.specs.Entry.{assertEntryOctets, pairEntryOctets}
@@ -213,27 +214,19 @@ module _ (o : List ℕ) (at v m : ℕ) {p : ℕ} (sources : p ≡ numberAt 2 o (
 pub length-like : (skip : ℕ) (o : List ℕ) (f : ℕ → AssertRecord) (at n : ℕ) → length (map f (plainAddresses skip o at n)) ≡ n
 length-like skip o f at n = rw (length-map, length-addresses)
 
--- an aggregated record, by the first octet of its word: its octets, and its entries
-module _ (o : List ℕ) (at : ℕ) (there : at + 4 ≤ length o) where
-  word-is : numberAt 4 o at ≡ getD o at 0 * 16777216 + getD o (at + 1) 0 * 65536 + getD o (at + 2) 0 * 256 + getD o (at + 3) 0
-  unfolding value
-  word-is = number-is 4 o at there ∙ omega arith
-
-  pub source-record-is : Octets o → getD o at 0 < 128 → {n : ℕ} → n ≡ numberAt 2 o (at + 14)
+-- an aggregated record, by R: its octets, and its entries
+module _ (o : List ℕ) (at : ℕ) where
+  pub source-record-is : rBit (numberAt 4 o at) ≡ false → {n : ℕ} → n ≡ numberAt 2 o (at + 14)
       → (aggregatedSize 4 (plainAggregated o at) ≡ 18 + 8 * n)
       × (entries (plainAggregated o at) ≡ map (λ g. assert g (numberAt 4 o (at + 10)) (numberAt 4 o at) (numberAt 4 o (at + 4))) (plainAddresses 4 o (at + 18) n))
   unfolding plainAggregated aggregatedSize entries
-  source-record-is octet h groups =
-      let r : numberAt 4 o at < 2147483648 = omega (arith, word-is, octet (at + 1), octet (at + 2), octet (at + 3)) in
-      rw (← groups, lt-leb 2147483648 (numberAt 4 o at) r, length-addresses) (refl, refl)
+  source-record-is r groups = rw (← groups, r, length-addresses) (refl, refl)
 
-  pub rp-record-is : 128 ≤ getD o at 0 → {n : ℕ} → n ≡ numberAt 2 o (at + 8)
+  pub rp-record-is : rBit (numberAt 4 o at) ≡ true → {n : ℕ} → n ≡ numberAt 2 o (at + 8)
       → (aggregatedSize 4 (plainAggregated o at) ≡ 12 + groupRecordsSize 4 (plainGroupRecords o (at + 12) n))
       × (entries (plainAggregated o at) ≡ allGroupEntries (numberAt 4 o at) (numberAt 4 o (at + 4)) (plainGroupRecords o (at + 12) n))
   unfolding plainAggregated aggregatedSize entries
-  rp-record-is h records =
-      let r : 2147483648 ≤ numberAt 4 o at = omega (arith, word-is) in
-      rw (← records, le-leb 2147483648 (numberAt 4 o at) r) (refl, refl)
+  rp-record-is r records = rw (← records, r) (refl, refl)
 
 pub size-least : (r : AggregatedRecord) → 12 ≤ aggregatedSize 4 r
 unfolding aggregatedSize

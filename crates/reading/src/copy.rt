@@ -1,6 +1,7 @@
 // The second pass of a reading call: the entries of octets that were checked, written one after another.
 // Octets are copied as they stand; no number is read but the counts.
 // Nothing is refused here: each function knows that its octets are there and that the entries fit.
+use fields::r_bit;
 use octets::number16;
 ghost use mathlib.Core.Path.{_≡_};
 ghost use mathlib.Core.List.{map};
@@ -31,36 +32,22 @@ fn copy4(m: &[u8], at: usize, d: &mut [u8], out: usize)
     d[out + 3] = e;
 }
 
-// Four octets 0.
-fn zero4(d: &mut [u8], out: usize)
-    requires { ⌜ out + 4 ≤ length (now d) ⌝ }
-    ensures { λ r. ⌜ now (d .exit) ≡ put (now (d .entry)) out (be 4 0) ⌝ }
-{
-    d[out] = 0;
-    d[out + 1] = 0;
-    d[out + 2] = 0;
-    d[out + 3] = 0;
-}
-
-// An assert entry, from the places of its group, its source and its word R with preference; the metric stands after
-// the word.
-fn copy_entry(m: &[u8], group: usize, source: usize, word: usize, d: &mut [u8], out: usize)
-    requires { ⌜ (group + 4 ≤ length (now m)) × (source + 4 ≤ length (now m)) × (word + 8 ≤ length (now m)) × (out + 16 ≤ length (now d)) ⌝ }
-    ensures { λ r. ⌜ now (d .exit) ≡ put (now (d .entry)) out (assertEntryOctets ipv4 (assert (numberAt 4 (now (m .entry)) group) (numberAt 4 (now (m .entry)) source) (numberAt 4 (now (m .entry)) word) (numberAt 4 (now (m .entry)) (word + 4)))) ⌝ }
+// An assert entry, from the places of its group and of its word R with preference, after which the metric stands. The
+// source is lent apart: a group record without sources has none in the message.
+fn copy_entry(
+    m: &[u8],
+    group: usize,
+    s: &[u8],
+    source: usize,
+    word: usize,
+    d: &mut [u8],
+    out: usize,
+)
+    requires { ⌜ (group + 4 ≤ length (now m)) × (source + 4 ≤ length (now s)) × (word + 8 ≤ length (now m)) × (out + 16 ≤ length (now d)) ⌝ }
+    ensures { λ r. ⌜ now (d .exit) ≡ put (now (d .entry)) out (assertEntryOctets ipv4 (assert (numberAt 4 (now (m .entry)) group) (numberAt 4 (now (s .entry)) source) (numberAt 4 (now (m .entry)) word) (numberAt 4 (now (m .entry)) (word + 4)))) ⌝ }
 {
     copy4(m, group, d, out);
-    copy4(m, source, d, out + 4);
-    copy4(m, word, d, out + 8);
-    copy4(m, word + 4, d, out + 12);
-}
-
-// The same with source 0.
-fn copy_entry_no_source(m: &[u8], group: usize, word: usize, d: &mut [u8], out: usize)
-    requires { ⌜ (group + 4 ≤ length (now m)) × (word + 8 ≤ length (now m)) × (out + 16 ≤ length (now d)) ⌝ }
-    ensures { λ r. ⌜ now (d .exit) ≡ put (now (d .entry)) out (assertEntryOctets ipv4 (assert (numberAt 4 (now (m .entry)) group) 0 (numberAt 4 (now (m .entry)) word) (numberAt 4 (now (m .entry)) (word + 4)))) ⌝ }
-{
-    copy4(m, group, d, out);
-    zero4(d, out + 4);
+    copy4(s, source, d, out + 4);
     copy4(m, word, d, out + 8);
     copy4(m, word + 4, d, out + 12);
 }
@@ -74,7 +61,7 @@ pub(crate) fn copy_asserts(m: &[u8], from: usize, n: usize, d: &mut [u8])
     let mut at = from;
     let mut out = 0;
     while i < n {
-        copy_entry(m, at + 4, at + 10, at + 14, d, out);
+        copy_entry(m, at + 4, m, at + 10, at + 14, d, out);
         at += 22;
         out += 16;
         i += 1;
@@ -115,7 +102,7 @@ fn copy_groups(
     let mut at = from;
     let mut out = start;
     while i < n {
-        copy_entry(m, at + 4, source, word, d, out);
+        copy_entry(m, at + 4, m, source, word, d, out);
         at += 8;
         out += 16;
         i += 1;
@@ -139,7 +126,7 @@ fn copy_sources(
     let mut at = from;
     let mut out = start;
     while i < n {
-        copy_entry(m, group, at + 2, word, d, out);
+        copy_entry(m, group, m, at + 2, word, d, out);
         at += 6;
         out += 16;
         i += 1;
@@ -159,7 +146,7 @@ fn copy_group_record(m: &[u8], at: usize, d: &mut [u8], out: usize, word: usize)
 {
     let p = number16(&m[at + 8..at + 10], 0);
     if p == 0 {
-        copy_entry_no_source(m, at + 4, word, d, out);
+        copy_entry(m, at + 4, b"\x00\x00\x00\x00", 0, word, d, out);
         return Places {
             at: at + 12,
             out: out + 16,
@@ -196,21 +183,21 @@ fn copy_group_records(
     Places { at, out }
 }
 
-// The entries of an aggregated record. R, the top bit of its first octet, tells the two forms apart.
+// The entries of an aggregated record, of which R tells the two forms apart.
 fn copy_record(m: &[u8], at: usize, d: &mut [u8], out: usize) -> Places
     requires { ⌜ Fit (now m) at (aggregatedSize 4 (plainAggregated (now m) at)) (now d) out (entries (plainAggregated (now m) at)) ⌝ }
     ensures { λ r. ⌜ Copied at (aggregatedSize 4 (plainAggregated (now (m .entry)) at)) (now (d .entry)) out (entries (plainAggregated (now (m .entry)) at)) (now (d .exit)) r ⌝ }
 {
-    if m[at] < 128 {
-        let n = number16(&m[at + 14..at + 16], 0);
-        copy_groups(m, at + 18, n, at + 10, at, d, out);
-        return Places {
-            at: at + 18 + 8 * n,
-            out: out + 16 * n,
-        };
+    if r_bit(&m[at..at + 4]) {
+        let n = number16(&m[at + 8..at + 10], 0);
+        return copy_group_records(m, at + 12, n, d, out, at);
     }
-    let n = number16(&m[at + 8..at + 10], 0);
-    copy_group_records(m, at + 12, n, d, out, at)
+    let n = number16(&m[at + 14..at + 16], 0);
+    copy_groups(m, at + 18, n, at + 10, at, d, out);
+    Places {
+        at: at + 18 + 8 * n,
+        out: out + 16 * n,
+    }
 }
 
 // The entries of the aggregated records up to the end of a message.

@@ -44,10 +44,10 @@ returns c =
     let c3 = c4 .before .before .before .before in
     let c2 = c3 .before .before .before .before in
     let c1 = c2 .before .before .before .before in
-    let a = c1 .before .before .before .before .args in
+    let a = c1 .before .before .before .before .before .args in
     let o = now (a .m) in
     put-number-next 4 (now (a .d)) (a .out) (numberAt 4 o (a .group)) _ (c1 .copy4 .ensures)
-    (put-number-next 4 _ (a .out + 4) (numberAt 4 o (a .source)) _ (c2 .copy42 .ensures)
+    (put-number-next 4 _ (a .out + 4) (numberAt 4 (now (a .s)) (a .source)) _ (c2 .copy42 .ensures)
     (put-number-next 4 _ (a .out + 8) (numberAt 4 o (a .word)) _ (c3 .copy43 .ensures) (c4 .copy44 .ensures) (omega arith))
     (omega arith))
     (omega arith)

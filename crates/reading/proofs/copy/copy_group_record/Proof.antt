@@ -7,7 +7,7 @@ use mathlib.Core.List.{List, [], _∷_, map}
 use mathlib.Core.Path.{_≡_, refl, _∙_}
 use lib.ListN.{length}
 use denote.Ref.{now}
-use Rattle.octets.specs.Octets.{numberAt}
+use Rattle.octets.specs.Octets.{numberAt, value}
 use Rattle.records.specs.Records.{AssertRecord, assert, groupEntries}
 use Rattle.format.specs.Entry.{assertEntryOctets}
 use Rattle.format.specs.Family.{ipv4}
@@ -78,25 +78,29 @@ part-number16-end c = search needs
 number16-requires : tie.Need-number16-requires
 number16-requires c κs = search needs
 
-add-copy-entry-no-source : tie.Need-add-copy-entry-no-source
-add-copy-entry-no-source c = search needs
+add-copy-entry : tie.Need-add-copy-entry
+add-copy-entry c = search needs
 
-copy-entry-no-source-requires : tie.Need-copy-entry-no-source-requires
-copy-entry-no-source-requires c κs = let e = none (c .before) in (omega arith, omega arith, omega (arith, rw e at (start (c .before .before) .pre .1 .room)))
+slice-aggregate-copy-entry : tie.Need-slice-aggregate-copy-entry
+slice-aggregate-copy-entry c = search needs
 
-add-t15 : tie.Need-add-t15
-add-t15 c = search needs
+copy-entry-requires : tie.Need-copy-entry-requires
+copy-entry-requires c κs = let e = none (c .before .before) in (omega arith, omega arith, omega arith, omega (arith, rw e at (start (c .before .before .before) .pre .1 .room)))
 
-add-t18 : tie.Need-add-t18
-add-t18 c = search needs
+add-t16 : tie.Need-add-t16
+add-t16 c = search needs
+
+add-t21 : tie.Need-add-t21
+add-t21 c = search needs
 
 same-length : tie.Need-same-length
 same-length c = search needs
 
 returns : tie.Need-returns
+unfolding numberAt value
 returns c =
     let b = c .before .before in
-    let t = b .before .before in
+    let t = b .before .before .before in
     let s = start (t .before) in
     let n = count (t .before) in
     let e = none t in
@@ -104,7 +108,7 @@ returns c =
     (record {
       read = omega arith;
       written = omega arith;
-      buffer = put-one (assertEntryOctets ipv4) (now (s .args .d)) (s .args .out) (b .copy-entry-no-source .ensures) refl;
+      buffer = put-one (assertEntryOctets ipv4) (now (s .args .d)) (s .args .out) (b .copy-entry .ensures) refl;
     })
 
 add-copy-sources : tie.Need-add-copy-sources
@@ -116,20 +120,20 @@ add-copy-sources-2 c = search needs
 copy-sources-requires : tie.Need-copy-sources-requires
 copy-sources-requires c κs = let n = count (c .before .before) in (omega arith, omega arith, omega arith, room (c .before))
 
-add-t10 : tie.Need-add-t10
-add-t10 c = search needs
+add-t11 : tie.Need-add-t11
+add-t11 c = search needs
 
-mul-t8 : tie.Need-mul-t8
-mul-t8 c = let n = count (c .before .before .before .before .before) in omega arith
+mul-t9 : tie.Need-mul-t9
+mul-t9 c = let n = count (c .before .before .before .before .before) in omega arith
 
-add-t7 : tie.Need-add-t7
-add-t7 c = let n = count (c .before .before .before .before .before) in omega arith
+add-t8 : tie.Need-add-t8
+add-t8 c = let n = count (c .before .before .before .before .before) in omega arith
 
-mul-t22 : tie.Need-mul-t22
-mul-t22 c = let h = room (c .before .before .before .before) in omega arith
+mul-t25 : tie.Need-mul-t25
+mul-t25 c = let h = room (c .before .before .before .before) in omega arith
 
-add-t23 : tie.Need-add-t23
-add-t23 c = let h = room (c .before .before .before .before) in omega arith
+add-t26 : tie.Need-add-t26
+add-t26 c = let h = room (c .before .before .before .before) in omega arith
 
 same-length-2 : tie.Need-same-length-2
 same-length-2 c = search needs
@@ -155,19 +159,20 @@ copy-group-record-spec =
     part-number16-start
     part-number16-end
     number16-requires
-    add-copy-entry-no-source
-    copy-entry-no-source-requires
-    add-t15
-    add-t18
+    add-copy-entry
+    slice-aggregate-copy-entry
+    copy-entry-requires
+    add-t16
+    add-t21
     same-length
     returns
     add-copy-sources
     add-copy-sources-2
     copy-sources-requires
-    add-t10
-    mul-t8
-    add-t7
-    mul-t22
-    add-t23
+    add-t11
+    mul-t9
+    add-t8
+    mul-t25
+    add-t26
     same-length-2
     returns-2)

@@ -4,11 +4,11 @@
 use Prim.Native.Nat.{ℕ, _+_, _*_, _≤_}
 use native.Mathlib.Omega.{arith}
 use mathlib.Core.List.{List, map}
-use mathlib.Core.Path.{_≡_, refl, _∙_}
+use mathlib.Core.Path.{_≡_, refl, sym, ap, _∙_}
 use lib.ListN.{length}
 use denote.Ref.{now}
 use Rattle.octets.specs.Octets.{numberAt}
-use Rattle.records.specs.Records.{AggregatedRecord, assert, entries, allGroupEntries}
+use Rattle.records.specs.Records.{rBit, AggregatedRecord, assert, entries, allGroupEntries}
 use Rattle.records.specs.Sizes.{aggregatedSize, groupRecordsSize}
 use Rattle.reading.specs.Plain.{plainAggregated, plainAddresses, plainGroupRecords}
 use Rattle.octets.proofs.Laws.{number-cut}
@@ -17,8 +17,8 @@ use borrow.Author.Needs.{needs}
 use Rattle.reading.proofs.copy.copy_record.Statement.{statement}
 use Rattle.reading.proofs.copy.copy_record.Tie as tie
 
-abbrev start : tie.After-shared-slice-known2 → tie.Start
-start c = c .before .before .before
+abbrev start : tie.After-r-bit → tie.Start
+start c = c .before .before .before .before
 
 abbrev message : tie.Start → List ℕ
 message s = now (s .args .m)
@@ -33,41 +33,60 @@ it s = plainAggregated (message s) (s .args .at)
 least : (s : tie.Start) → s .args .at + 12 ≤ length (message s)
 least s = omega (arith, s .pre .there, size-least (it s))
 
+-- R as code has read it is that of the word
+bit : (c : tie.After-r-bit) → rBit (numberAt 4 (message (start c)) (start c .args .at)) ≡ c .r-bit .result
+bit c =
+    let s = start c in
+    sym (c .r-bit .ensures ∙ ap rBit (number-cut 4 (message s) (s .args .at) (s .args .at + 4) refl (omega (arith, least s))))
+
+-- R is 1: n group records
+records : (c : tie.After-number16) → let s = start (c .before .before .before) in c .number16 .result ≡ numberAt 2 (message s) (s .args .at + 8)
+records c =
+    let s = start (c .before .before .before) in
+    c .number16 .ensures ∙ number-cut 2 (message s) (s .args .at + 8) (s .args .at + 10) (omega arith) (omega (arith, least s))
+
+rp : (c : tie.After-number16)
+    → let s = start (c .before .before .before) in
+    let groups = plainGroupRecords (message s) (s .args .at + 12) (c .number16 .result) in
+    (aggregatedSize 4 (it s) ≡ 12 + groupRecordsSize 4 groups) × (entries (it s) ≡ allGroupEntries (numberAt 4 (message s) (s .args .at)) (number s 4) groups)
+rp c =
+    let t = c .before .before in
+    let s = start (t .before) in
+    rp-record-is (message s) (s .args .at) (bit (t .before) ∙ t .if1 .taken) (records c)
+
 -- R is 0: one entry for each of n groups
-source : (c : tie.Then1) {n : ℕ}
+source : (c : tie.Else1) {n : ℕ}
     → let s = start (c .before) in
     n ≡ numberAt 2 (message s) (s .args .at + 14)
     → (aggregatedSize 4 (it s) ≡ 18 + 8 * n)
     × (entries (it s) ≡ map (λ g. assert g (number s 10) (numberAt 4 (message s) (s .args .at)) (number s 4)) (plainAddresses 4 (message s) (s .args .at + 18) n))
 source c e =
     let s = start (c .before) in
-    source-record-is (message s) (s .args .at) (omega (arith, least s)) (λ i. c .before .shared-slice-known2 .given i .fits) (c .if1 .taken) e
+    source-record-is (message s) (s .args .at) (bit (c .before) ∙ c .if1 .left) e
 
-groups : (c : tie.After-number16) → let s = start (c .before .before .before) in c .number16 .result ≡ numberAt 2 (message s) (s .args .at + 14)
+groups : (c : tie.After-number162) → let s = start (c .before .before .before) in c .number162 .result ≡ numberAt 2 (message s) (s .args .at + 14)
 groups c =
     let s = start (c .before .before .before) in
     let z = source (c .before .before) refl .0 in
-    c .number16 .ensures ∙ number-cut 2 (message s) (s .args .at + 14) (s .args .at + 16) (omega arith) (omega (arith, s .pre .there))
+    c .number162 .ensures ∙ number-cut 2 (message s) (s .args .at + 14) (s .args .at + 16) (omega arith) (omega (arith, s .pre .there))
 
-source-room : (c : tie.After-number16) → let s = start (c .before .before .before) in s .args .out + 16 * c .number16 .result ≤ length (now (s .args .d))
+source-room : (c : tie.After-number162) → let s = start (c .before .before .before) in s .args .out + 16 * c .number162 .result ≤ length (now (s .args .d))
 source-room c = let e = source (c .before .before) (groups c) .1 in rw (e, length-like) at (start (c .before .before .before) .pre .room)
 
--- R is 1: n group records
-records : (c : tie.After-number162) → let s = start (c .before .before .before) in c .number162 .result ≡ numberAt 2 (message s) (s .args .at + 8)
-records c =
-    let s = start (c .before .before .before) in
-    c .number162 .ensures ∙ number-cut 2 (message s) (s .args .at + 8) (s .args .at + 10) (omega arith) (omega (arith, least s))
+add-r-bit : tie.Need-add-r-bit
+add-r-bit c = omega (arith, least (c .before .before))
 
-rp : (c : tie.After-number162)
-    → let s = start (c .before .before .before) in
-    let groups = plainGroupRecords (message s) (s .args .at + 12) (c .number162 .result) in
-    (aggregatedSize 4 (it s) ≡ 12 + groupRecordsSize 4 groups) × (entries (it s) ≡ allGroupEntries (numberAt 4 (message s) (s .args .at)) (number s 4) groups)
-rp c =
-    let s = start (c .before .before .before) in
-    rp-record-is (message s) (s .args .at) (omega (arith, least s)) (c .before .before .if1 .left) (records c)
+sub-r-bit : tie.Need-sub-r-bit
+sub-r-bit c = search needs
 
-shared-slice-read-if1 : tie.Need-shared-slice-read-if1
-shared-slice-read-if1 c = omega (arith, least (start c))
+part-r-bit-start : tie.Need-part-r-bit-start
+part-r-bit-start c = search needs
+
+part-r-bit-end : tie.Need-part-r-bit-end
+part-r-bit-end c = omega (arith, least (c .before .before))
+
+r-bit-requires : tie.Need-r-bit-requires
+r-bit-requires c κs = search needs
 
 add-number16 : tie.Need-add-number16
 add-number16 c = search needs
@@ -82,36 +101,19 @@ part-number16-start : tie.Need-part-number16-start
 part-number16-start c = search needs
 
 part-number16-end : tie.Need-part-number16-end
-part-number16-end c = let z = source c refl .0 in omega arith
+part-number16-end c = omega (arith, least (start (c .before)))
 
 number16-requires : tie.Need-number16-requires
 number16-requires c κs = search needs
 
-add-copy-groups : tie.Need-add-copy-groups
-add-copy-groups c = search needs
+add-copy-group-records : tie.Need-add-copy-group-records
+add-copy-group-records c = search needs
 
-add-copy-groups-2 : tie.Need-add-copy-groups-2
-add-copy-groups-2 c = search needs
-
-copy-groups-requires : tie.Need-copy-groups-requires
-copy-groups-requires c κs =
-    let z = source (c .before .before .before) (groups (c .before)) .0 in
-    (omega arith, omega arith, omega arith, source-room (c .before))
-
-add-t11 : tie.Need-add-t11
-add-t11 c = search needs
-
-mul-t13 : tie.Need-mul-t13
-mul-t13 c = let z = source (c .before .before .before .before .before .before) (groups (c .before .before .before .before)) .0 in omega arith
-
-add-t10 : tie.Need-add-t10
-add-t10 c = let z = source (c .before .before .before .before .before .before) (groups (c .before .before .before .before)) .0 in omega arith
-
-mul-t19 : tie.Need-mul-t19
-mul-t19 c = let h = source-room (c .before .before .before .before) in omega arith
-
-add-t20 : tie.Need-add-t20
-add-t20 c = let h = source-room (c .before .before .before .before) in omega arith
+copy-group-records-requires : tie.Need-copy-group-records-requires
+copy-group-records-requires c κs =
+    let e = rp (c .before) in
+    let s = start (c .before .before .before .before) in
+    (omega (arith, least s), record { there = omega arith; room = rw (e .1) at (s .pre .room) })
 
 same-length : tie.Need-same-length
 same-length c = search needs
@@ -119,12 +121,12 @@ same-length c = search needs
 returns : tie.Need-returns
 returns c =
     let b = c .before .before in
-    let g = b .before .before in
-    let z = source (g .before .before) (groups g) in
+    let e = rp (b .before .before) in
+    let r = b .copy-group-records .ensures in
     record {
       read = omega arith;
-      written = rw (z .1, length-like);
-      buffer = rw (z .1) (b .copy-groups .ensures);
+      written = rw (e .1) (r .written);
+      buffer = rw (e .1) (r .buffer);
     }
 
 add-number16-3 : tie.Need-add-number16-3
@@ -140,19 +142,36 @@ part-number16-start-2 : tie.Need-part-number16-start-2
 part-number16-start-2 c = search needs
 
 part-number16-end-2 : tie.Need-part-number16-end-2
-part-number16-end-2 c = omega (arith, least (start (c .before)))
+part-number16-end-2 c = let z = source c refl .0 in omega arith
 
 number16-requires-2 : tie.Need-number16-requires-2
 number16-requires-2 c κs = search needs
 
-add-copy-group-records : tie.Need-add-copy-group-records
-add-copy-group-records c = search needs
+add-copy-groups : tie.Need-add-copy-groups
+add-copy-groups c = search needs
 
-copy-group-records-requires : tie.Need-copy-group-records-requires
-copy-group-records-requires c κs =
-    let e = rp (c .before) in
-    let s = start (c .before .before .before .before) in
-    (omega (arith, least s), record { there = omega arith; room = rw (e .1) at (s .pre .room) })
+add-copy-groups-2 : tie.Need-add-copy-groups-2
+add-copy-groups-2 c = search needs
+
+copy-groups-requires : tie.Need-copy-groups-requires
+copy-groups-requires c κs =
+    let z = source (c .before .before .before) (groups (c .before)) .0 in
+    (omega arith, omega arith, omega arith, source-room (c .before))
+
+add-t10 : tie.Need-add-t10
+add-t10 c = search needs
+
+mul-t22 : tie.Need-mul-t22
+mul-t22 c = let z = source (c .before .before .before .before .before .before) (groups (c .before .before .before .before)) .0 in omega arith
+
+add-t8 : tie.Need-add-t8
+add-t8 c = let z = source (c .before .before .before .before .before .before) (groups (c .before .before .before .before)) .0 in omega arith
+
+mul-t28 : tie.Need-mul-t28
+mul-t28 c = let h = source-room (c .before .before .before .before) in omega arith
+
+add-t29 : tie.Need-add-t29
+add-t29 c = let h = source-room (c .before .before .before .before) in omega arith
 
 same-length-2 : tie.Need-same-length-2
 same-length-2 c = search needs
@@ -160,33 +179,31 @@ same-length-2 c = search needs
 returns-2 : tie.Need-returns-2
 returns-2 c =
     let b = c .before .before in
-    let e = rp (b .before .before) in
-    let r = b .copy-group-records .ensures in
+    let g = b .before .before in
+    let z = source (g .before .before) (groups g) in
     record {
       read = omega arith;
-      written = rw (e .1) (r .written);
-      buffer = rw (e .1) (r .buffer);
+      written = rw (z .1, length-like);
+      buffer = rw (z .1) (b .copy-groups .ensures);
     }
 
 pub copy-record-spec : {M : Type 1} → statement M
 copy-record-spec =
     tie.close
     (tie.spec
-    shared-slice-read-if1
+    add-r-bit
+    sub-r-bit
+    part-r-bit-start
+    part-r-bit-end
+    r-bit-requires
     add-number16
     add-number16-2
     sub-number16
     part-number16-start
     part-number16-end
     number16-requires
-    add-copy-groups
-    add-copy-groups-2
-    copy-groups-requires
-    add-t11
-    mul-t13
-    add-t10
-    mul-t19
-    add-t20
+    add-copy-group-records
+    copy-group-records-requires
     same-length
     returns
     add-number16-3
@@ -195,7 +212,13 @@ copy-record-spec =
     part-number16-start-2
     part-number16-end-2
     number16-requires-2
-    add-copy-group-records
-    copy-group-records-requires
+    add-copy-groups
+    add-copy-groups-2
+    copy-groups-requires
+    add-t10
+    mul-t22
+    add-t8
+    mul-t28
+    add-t29
     same-length-2
     returns-2)
