@@ -6,7 +6,7 @@
 // words.rt     what the number of a refusal means
 // line.rt      the lines
 //
-// Programs that name what they list, or list what no message holds, call `show`, `title`, `record`, `refused` and `number`.
+// Programs that name what they list, or list what no message holds, call `show`, `show_all`, `record` and `refused`.
 mod line;
 mod value;
 mod words;
@@ -15,14 +15,15 @@ use format::Kind;
 use format::Record;
 use format::Refusal;
 use hello::HelloRead;
-use libc::STDERR_FILENO;
 use line::assert_lines;
 use line::heading;
 use line::hello_lines;
 use line::pair_lines;
 use line::record_line;
 use line::refused_line;
-use line::text;
+use printing::case_at;
+use printing::front;
+use printing::title;
 use reading::Headed;
 use reading::Reading;
 ghost use mathlib.Core.Path.{_≡_};
@@ -88,12 +89,7 @@ fn list_message(m: &[u8]) -> bool {
 
 // Where standard output takes no more, standard error says so.
 fn told(written: bool) {
-    if !written {
-        io::write_all(
-            STDERR_FILENO,
-            b"the listing was cut: standard output failed\n",
-        );
-    }
+    printing::told(written, b"the listing was");
 }
 
 // Lists a message.
@@ -101,15 +97,20 @@ pub fn list(m: &[u8]) {
     told(list_message(m));
 }
 
-// A line with a name.
-pub fn title(name: &[u8]) {
-    told(text(name) && text(b"\n"));
-}
-
 // A message with its name.
 pub fn show(name: &[u8], m: &[u8]) {
-    title(name);
-    list(m);
+    told(title(name) && list_message(m));
+}
+
+// Every message of a table with its name, each of at most 1,480 octets.
+pub fn show_all(table: &[u8]) {
+    let mut m = [0; 1480];
+    let mut at = 0;
+    while at < table.len() {
+        let c = case_at(table, at, &mut m);
+        show(front(&table[at..], c.name), front(&m, c.length));
+        at = c.next;
+    }
 }
 
 // A record that was read singly, with its number.
@@ -120,9 +121,4 @@ pub fn record(n: usize, r: Record) {
 // What a call refused.
 pub fn refused(r: Refusal) {
     told(refused_line(r));
-}
-
-// A text and a number, within a line.
-pub fn number(before: &[u8], n: u64) {
-    told(text(before) && line::number(n));
 }

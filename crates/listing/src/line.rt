@@ -4,7 +4,6 @@ use crate::value::assert_at;
 use crate::value::pair_at;
 use crate::value::preference;
 use crate::value::r_bit;
-use crate::value::wide;
 use crate::words::words;
 use format::AssertFields;
 use format::Kind;
@@ -12,22 +11,14 @@ use format::PairFields;
 use format::Record;
 use format::Refusal;
 use hello::Hello;
-use libc::STDOUT_FILENO;
+use printing::address;
+use printing::decimal;
+use printing::named;
+use printing::number;
+use printing::refused;
+use printing::text;
 ghost use Prim.Native.Nat.{_*_, _≤_};
 ghost use lib.ListN.{length};
-
-pub(crate) fn text(s: &[u8]) -> bool {
-    io::write_all(STDOUT_FILENO, s)
-}
-
-pub(crate) fn number(n: u64) -> bool {
-    io::print_decimal(STDOUT_FILENO, n)
-}
-
-// A name, a number, and the line's end.
-fn named(name: &[u8], n: u64) -> bool {
-    text(name) && number(n) && text(b"\n")
-}
 
 // The kind and the number of records.
 pub(crate) fn heading(kind: Kind, n: usize) -> bool {
@@ -44,13 +35,7 @@ pub(crate) fn heading(kind: Kind, n: usize) -> bool {
 
 // The number, the place, and what the number means.
 pub(crate) fn refused_line(r: Refusal) -> bool {
-    text(b"refused ")
-        && number(wide(r.number))
-        && text(b" at ")
-        && number(r.place as u64)
-        && text(b": ")
-        && words(r.number)
-        && text(b"\n")
+    refused(r, b": ") && words(r.number) && text(b"\n")
 }
 
 fn priority_line(h: Hello) -> bool {
@@ -75,20 +60,9 @@ pub(crate) fn hello_lines(h: Hello) -> bool {
         && packing_line(h.packing)
 }
 
-// An address, octet by octet.
-fn address(a: u32) -> bool {
-    number((a / 0x1_000000) as u64)
-        && text(b".")
-        && number((a / 0x1_0000 % 256) as u64)
-        && text(b".")
-        && number((a / 0x1_00 % 256) as u64)
-        && text(b".")
-        && number((a % 256) as u64)
-}
-
 // A record's number, its source and its group.
 fn flow(n: usize, source: u32, group: u32) -> bool {
-    number(n as u64) && text(b" S ") && address(source) && text(b" G ") && address(group)
+    decimal(n as u64) && text(b" S ") && address(source) && text(b" G ") && address(group)
 }
 
 fn pair_line(n: usize, x: PairFields) -> bool {
@@ -98,10 +72,8 @@ fn pair_line(n: usize, x: PairFields) -> bool {
 fn assert_line(n: usize, x: AssertFields) -> bool {
     let w = x.r_preference;
     flow(n, x.source, x.group)
-        && text(b" R ")
-        && number(r_bit(w))
-        && text(b" pref ")
-        && number(preference(w))
+        && number(b" R ", r_bit(w))
+        && number(b" pref ", preference(w))
         && named(b" metric ", x.metric as u64)
 }
 

@@ -11,13 +11,6 @@ ghost use Rattle.format.specs.Family.{ipv4};
 ghost use Rattle.format.specs.Entry.{assertAt, pairAt};
 ghost use Rattle.format.specs.Values.{assertOf, pairOf};
 
-// An octet as a wider number.
-pub(crate) fn wide(x: u8) -> u64
-    ensures { λ r. ⌜ r ≡ x ⌝ }
-{
-    x as u64
-}
-
 // The assert of the entry at a place.
 pub(crate) fn assert_at(e: &[u8], at: usize) -> AssertFields
     requires { ⌜ at + 16 ≤ length (now e) ⌝ }

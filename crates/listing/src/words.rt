@@ -1,5 +1,5 @@
 // What each number of a refusal means, in a few words: the table of docs/FORMAT.md, to the letter.
-use crate::line::text;
+use printing::text;
 
 pub(crate) fn words(number: u8) -> bool {
     match number {

@@ -10,41 +10,47 @@ mod kinds;
 mod packs;
 mod refusals;
 
+use printing::case_at;
+use printing::front;
+use printing::number;
+use printing::text;
+
 fn line(name: &[u8], m: &[u8]) {
-    io::write_all(1, name);
-    io::write_all(1, b": ");
-    io::print_decimal(1, m.len() as u64);
+    text(name);
+    number(b": ", m.len() as u64);
     if checksum::holds(m) {
-        io::write_all(1, b" octets, checksum holds\n");
+        text(b" octets, checksum holds\n");
     } else {
-        io::write_all(1, b" octets, checksum wrong\n");
+        text(b" octets, checksum wrong\n");
+    }
+}
+
+fn lines(table: &[u8]) {
+    let mut m = [0; 1480];
+    let mut at = 0;
+    while at < table.len() {
+        let c = case_at(table, at, &mut m);
+        line(front(&table[at..], c.name), front(&m, c.length));
+        at = c.next;
     }
 }
 
 fn checksums() {
-    line(
-        b"example 1, simple",
-        b"\x25\x01\xe5\x58\x00\x00\x00\x00\x01\x00\x00\x20\xe8\x01\x01\x01\x01\x00\x0a\x00\x00\x01\x00\x00\x00\x6e\x00\x00\x00\x14",
-    );
-    line(
-        b"example 2, its last octet changed",
-        b"\x25\x01\xe5\x58\x00\x00\x00\x00\x01\x00\x00\x20\xe8\x01\x01\x01\x01\x00\x0a\x00\x00\x01\x00\x00\x00\x6e\x00\x00\x00\x15",
-    );
-    line(
-        b"plain assert",
-        b"\x25\x00\x55\x51\x01\x00\x00\x20\xe3\xa1\xa2\xa3\x01\x00\x0a\xb1\xb2\xb3\x8c\x1d\x2e\x3f\xc1\xc2\xc3\xc4",
-    );
-    line(
-        b"aggregated",
-        b"\x25\x03\x31\x66\x00\x00\x00\x00\x0a\x0b\x0c\x0d\x11\x12\x13\x14\x01\x00\x0a\x15\x16\x17\x00\x02\x00\x00\x01\x00\x00\x20\xe8\x31\x32\x33\x01\x00\x00\x20\xef\x41\x42\x43",
-    );
-    line(
-        b"null-register",
-        b"\x2d\x00\x3e\x61\x01\x00\x00\x20\xe6\x21\x22\x23\x01\x00\x0a\x24\x25\x26\x01\x00\x00\x20\xe7\x31\x32\x33\x01\x00\x0a\x34\x35\x36",
-    );
-    line(
-        b"register-stop",
-        b"\x2d\x10\x16\xfb\x01\x00\x00\x20\xe9\x41\x42\x43\x01\x00\x0a\x44\x45\x46\x01\x00\x00\x20\xea\x51\x52\x53\x01\x00\x00\x00\x00\x00",
+    lines(
+        b"\
+example 1, simple
+2501e5580000000001000020e801010101000a0000010000006e00000014
+example 2, its last octet changed
+2501e5580000000001000020e801010101000a0000010000006e00000015
+plain assert
+2500555101000020e3a1a2a301000ab1b2b38c1d2e3fc1c2c3c4
+aggregated
+25033166000000000a0b0c0d1112131401000a1516170002000001000020e831323301000020ef414243
+null-register
+2d003e6101000020e621222301000a24252601000020e731323301000a343536
+register-stop
+2d1016fb01000020e941424301000a44454601000020ea515253010000000000
+",
     );
 }
 

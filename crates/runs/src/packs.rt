@@ -1,26 +1,19 @@
 // Entries packed: what the call answers, then the listing of the message it wrote. The entries are those of
 // the packed messages of kinds.rt, so the listings are the same.
-use libc::STDOUT_FILENO;
-use listing::number;
 use packing::Packing;
+use printing::front;
+use printing::packed;
+use printing::title;
 
 // The message stands at the front of what was lent.
-fn list_front(d: &[u8], n: usize) {
-    if n <= d.len() {
-        listing::list(&d[..n]);
-    }
-}
-
 fn show_packed(name: &[u8], answer: Packing, d: &[u8]) {
-    listing::title(name);
+    title(name);
     match answer {
         Packing::Refused(r) => listing::refused(r),
         Packing::Wrote { length, taken } => {
-            number(b"octets ", length as u64);
-            number(b", taken ", taken as u64);
-            io::write_all(STDOUT_FILENO, b"\n");
+            packed(length, taken);
             if 0 < length {
-                list_front(d, length);
+                listing::list(front(d, length));
             }
         }
     }

@@ -1,107 +1,91 @@
 // Damaged messages of crates/cases/specs/Faults.antt, with their octets as there: a refusal of each number from 1 to 7.
-use listing::show;
+use listing::show_all;
 
 // 1 to 4: the header.
 fn header() {
-    show(b"no octet", b"");
-    show(b"three octets", b"\x25\x01\xe5");
-    show(
-        b"version 1, and a wrong checksum",
-        b"\x15\x00\x00\x00\x01\x00\x00\x20\xe8\x01\x01\x01\x01\x00\x0a\x00\x00\x01\x00\x00\x00\x6e\x00\x00\x00\x14",
-    );
-    show(
-        b"example 2, the last octet changed",
-        b"\x25\x01\xe5\x58\x00\x00\x00\x00\x01\x00\x00\x20\xe8\x01\x01\x01\x01\x00\x0a\x00\x00\x01\x00\x00\x00\x6e\x00\x00\x00\x15",
-    );
-    show(
-        b"type 15, and a wrong checksum",
-        b"\x2f\x00\x00\x00\x01\x00\x00\x20\xe8\x01\x01\x01",
-    );
-    show(b"type 1, a Register", b"\x21\x00\xde\xff\x00\x00\x00\x00");
-    show(
-        b"type 13, subtype 2",
-        b"\x2d\x20\xdd\xbb\x01\x00\x00\x20\xe8\x01\x01\x01\x01\x00\x0a\x00\x00\x01",
+    show_all(
+        b"\
+no octet
+
+three octets
+2501e5
+version 1, and a wrong checksum
+1500000001000020e801010101000a0000010000006e00000014
+example 2, the last octet changed
+2501e5580000000001000020e801010101000a0000010000006e00000015
+type 15, and a wrong checksum
+2f00000001000020e8010101
+type 1, a Register
+2100deff00000000
+type 13, subtype 2
+2d20ddbb01000020e801010101000a000001
+",
     );
 }
 
 // 5: Zero not 0, or no record; 6 where the message ends before.
 fn start() {
-    show(
-        b"Zero not 0",
-        b"\x25\x01\xe4\x58\x01\x00\x00\x00\x01\x00\x00\x20\xe8\x01\x01\x01\x01\x00\x0a\x00\x00\x01\x00\x00\x00\x6e\x00\x00\x00\x14",
+    show_all(
+        b"\
+Zero not 0
+2501e4580100000001000020e801010101000a0000010000006e00000014
+Zero not 0, cut in Reserved
+2501d9fe01
+cut in Reserved
+2501dafe000000
+a simple message with no record
+2501dafe00000000
+an aggregated message with no record
+2503dafc00000000
+a Null-Register message with no pair
+2d00d2ff
+a Register-Stop message with no pair
+2d10d2ef
+",
     );
-    show(b"Zero not 0, cut in Reserved", b"\x25\x01\xd9\xfe\x01");
-    show(b"cut in Reserved", b"\x25\x01\xda\xfe\x00\x00\x00");
-    show(
-        b"a simple message with no record",
-        b"\x25\x01\xda\xfe\x00\x00\x00\x00",
-    );
-    show(
-        b"an aggregated message with no record",
-        b"\x25\x03\xda\xfc\x00\x00\x00\x00",
-    );
-    show(b"a Null-Register message with no pair", b"\x2d\x00\xd2\xff");
-    show(b"a Register-Stop message with no pair", b"\x2d\x10\xd2\xef");
 }
 
 // 6: cut, a count of 0, or octets after a plain assert.
 fn cut() {
-    show(b"a plain assert, before the group", b"\x25\x00\xda\xff");
-    show(
-        b"a plain assert, an octet follows",
-        b"\x25\x00\xe5\x59\x01\x00\x00\x20\xe8\x01\x01\x01\x01\x00\x0a\x00\x00\x01\x00\x00\x00\x6e\x00\x00\x00\x14\x00",
-    );
-    show(
-        b"the second simple record, cut in its metric",
-        b"\x25\x01\xef\xc5\x00\x00\x00\x00\x01\x00\x00\x20\xe8\x01\x01\x01\x01\x00\x0a\x00\x00\x01\x00\x00\x00\x6e\x00\x00\x00\x14\x01\x00\x00\x20\xe8\x01\x01\x02\x01\x00\x0a\x00\x00\x01\x00\x00\x00\x6e\x00\x00\x00",
-    );
-    show(
-        b"number of groups 0",
-        b"\x25\x03\xe5\x56\x00\x00\x00\x00\x00\x00\x00\x6e\x00\x00\x00\x14\x01\x00\x0a\x00\x00\x01\x00\x00\x00\x00\x01\x00\x00\x20\xe8\x01\x01\x01",
-    );
-    show(
-        b"number of group records 0",
-        b"\x25\x03\x5a\x7a\x00\x00\x00\x00\x80\x00\x00\x6e\x00\x00\x00\x14\x00\x00\x00\x00",
-    );
-    show(
-        b"two sources asked for and one there",
-        b"\x25\x03\x65\x53\x00\x00\x00\x00\x80\x00\x00\x6e\x00\x00\x00\x14\x00\x01\x00\x00\x01\x00\x00\x20\xe8\x01\x01\x01\x00\x02\x00\x00\x01\x00\x0a\x00\x00\x01",
-    );
-    show(
-        b"the second pair cut",
-        b"\x2d\x00\xf3\xb7\x01\x00\x00\x20\xe8\x01\x01\x01\x01\x00\x0a\x00\x00\x01\x01\x00\x00\x20\xe8\x01\x01\x02",
+    show_all(
+        b"\
+a plain assert, before the group
+2500daff
+a plain assert, an octet follows
+2500e55901000020e801010101000a0000010000006e0000001400
+the second simple record, cut in its metric
+2501efc50000000001000020e801010101000a0000010000006e0000001401000020e801010201000a0000010000006e000000
+number of groups 0
+2503e556000000000000006e0000001401000a0000010000000001000020e8010101
+number of group records 0
+25035a7a000000008000006e0000001400000000
+two sources asked for and one there
+25036553000000008000006e000000140001000001000020e80101010002000001000a000001
+the second pair cut
+2d00f3b701000020e801010101000a00000101000020e8010102
+",
     );
 }
 
 // 7: an address form or an address that is not allowed.
 fn address() {
-    show(
-        b"mask length 31",
-        b"\x25\x00\xe5\x5a\x01\x00\x00\x1f\xe8\x01\x01\x01\x01\x00\x0a\x00\x00\x01\x00\x00\x00\x6e\x00\x00\x00\x14",
-    );
-    show(
-        b"group 223.255.255.255",
-        b"\x25\x00\xee\x5c\x01\x00\x00\x20\xdf\xff\xff\xff\x01\x00\x0a\x00\x00\x01\x00\x00\x00\x6e\x00\x00\x00\x14",
-    );
-    show(
-        b"R=0 with source 0, cut in the metric",
-        b"\x25\x00\xef\x6e\x01\x00\x00\x20\xe8\x01\x01\x01\x01\x00\x00\x00\x00\x00\x00\x00\x00\x6e\x00\x00",
-    );
-    show(
-        b"the second simple record, R=0 with source 0",
-        b"\x25\x01\xf9\xb2\x00\x00\x00\x00\x01\x00\x00\x20\xe8\x01\x01\x01\x01\x00\x0a\x00\x00\x01\x00\x00\x00\x6e\x00\x00\x00\x14\x01\x00\x00\x20\xe8\x01\x01\x02\x01\x00\x00\x00\x00\x00\x00\x00\x00\x6e\x00\x00\x00\x14",
-    );
-    show(
-        b"the second aggregated record, source 0",
-        b"\x25\x03\xf9\xaf\x00\x00\x00\x00\x00\x00\x00\x6e\x00\x00\x00\x14\x01\x00\x0a\x00\x00\x01\x00\x01\x00\x00\x01\x00\x00\x20\xe8\x01\x01\x01\x00\x00\x00\x6e\x00\x00\x00\x14\x01\x00\x00\x00\x00\x00\x00\x01\x00\x00\x01\x00\x00\x20\xe8\x01\x01\x01",
-    );
-    show(
-        b"a Null-Register source 0",
-        b"\x2d\x00\xe7\xdc\x01\x00\x00\x20\xe8\x01\x01\x01\x01\x00\x00\x00\x00\x00",
-    );
-    show(
-        b"the second pair with a unicast group",
-        b"\x2d\x10\xcf\xa8\x01\x00\x00\x20\xe8\x01\x01\x01\x01\x00\x0a\x00\x00\x01\x01\x00\x00\x20\x01\x01\x01\x01\x01\x00\x0a\x00\x00\x01",
+    show_all(
+        b"\
+mask length 31
+2500e55a0100001fe801010101000a0000010000006e00000014
+group 223.255.255.255
+2500ee5c01000020dfffffff01000a0000010000006e00000014
+R=0 with source 0, cut in the metric
+2500ef6e01000020e80101010100000000000000006e0000
+the second simple record, R=0 with source 0
+2501f9b20000000001000020e801010101000a0000010000006e0000001401000020e80101020100000000000000006e00000014
+the second aggregated record, source 0
+2503f9af000000000000006e0000001401000a0000010001000001000020e80101010000006e000000140100000000000001000001000020e8010101
+a Null-Register source 0
+2d00e7dc01000020e8010101010000000000
+the second pair with a unicast group
+2d10cfa801000020e801010101000a000001010000200101010101000a000001
+",
     );
 }
 

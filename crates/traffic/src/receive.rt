@@ -6,8 +6,10 @@ use counters::Direction;
 use format::Kind;
 use format::Refusal;
 use hello::HelloRead;
-use libc::STDOUT_FILENO;
-use listing::number;
+use printing::named;
+use printing::number;
+use printing::text;
+use printing::title;
 use reading::Headed;
 use reading::Reading;
 use reading::Single;
@@ -94,8 +96,7 @@ fn unpacked(c: Counters, kind: Kind, m: &[u8], body: &[u8]) -> Counters {
             c
         }
         Found::Records(n) => {
-            number(b"records ", n as u64);
-            io::write_all(STDOUT_FILENO, b"\n");
+            named(b"records ", n as u64);
             counted(
                 c,
                 Direction::Received,
@@ -108,10 +109,10 @@ fn unpacked(c: Counters, kind: Kind, m: &[u8], body: &[u8]) -> Counters {
 
 // A named message: what it holds is listed, and it is counted unless it is refused. Where the header refuses, the body is an empty part.
 pub(crate) fn receive(c: Counters, name: &[u8], m: &[u8]) -> Counters {
-    listing::title(name);
+    title(name);
     let body = reading::body(m);
     number(b"body of ", body.len() as u64);
-    io::write_all(STDOUT_FILENO, b" octets\n");
+    text(b" octets\n");
     let h = reading::header(m);
     match h {
         Headed::Refused(r) => {

@@ -2,66 +2,62 @@
 // ones, of Faults.antt.
 use crate::receive::receive;
 use counters::Counters;
+use printing::case_at;
+use printing::front;
 
-fn asserts(start: Counters) -> Counters {
-    let c = receive(
-        start,
-        b"example 1",
-        b"\x25\x01\xe5\x58\x00\x00\x00\x00\x01\x00\x00\x20\xe8\x01\x01\x01\x01\x00\x0a\x00\x00\x01\x00\x00\x00\x6e\x00\x00\x00\x14",
-    );
-    let d = receive(
-        c,
-        b"simple",
-        b"\x25\x01\xd9\xf1\x00\x00\x00\x00\x01\x00\x00\x20\xe4\x01\x02\x03\x01\x00\x0a\x04\x05\x06\x07\x08\x09\x0a\x0b\x0c\x0d\x0e\x01\x00\x00\x20\xe5\x11\x12\x13\x01\x00\x00\x00\x00\x00\x97\x18\x19\x1a\x1b\x1c\x1d\x1e",
-    );
-    let e = receive(
-        d,
-        b"assert",
-        b"\x25\x00\x55\x51\x01\x00\x00\x20\xe3\xa1\xa2\xa3\x01\x00\x0a\xb1\xb2\xb3\x8c\x1d\x2e\x3f\xc1\xc2\xc3\xc4",
-    );
-    receive(
-        e,
-        b"aggregated",
-        b"\x25\x03\x31\x66\x00\x00\x00\x00\x0a\x0b\x0c\x0d\x11\x12\x13\x14\x01\x00\x0a\x15\x16\x17\x00\x02\x00\x00\x01\x00\x00\x20\xe8\x31\x32\x33\x01\x00\x00\x20\xef\x41\x42\x43",
-    )
+// Every message of a table.
+fn receive_all(start: Counters, table: &[u8]) -> Counters {
+    let mut c = start;
+    let mut m = [0; 1480];
+    let mut at = 0;
+    while at < table.len() {
+        let x = case_at(table, at, &mut m);
+        c = receive(c, front(&table[at..], x.name), front(&m, x.length));
+        at = x.next;
+    }
+    c
 }
 
-fn others(start: Counters) -> Counters {
-    let c = receive(
+fn valid(start: Counters) -> Counters {
+    receive_all(
         start,
-        b"null-register",
-        b"\x2d\x00\x3e\x61\x01\x00\x00\x20\xe6\x21\x22\x23\x01\x00\x0a\x24\x25\x26\x01\x00\x00\x20\xe7\x31\x32\x33\x01\x00\x0a\x34\x35\x36",
-    );
-    let d = receive(
-        c,
-        b"register-stop",
-        b"\x2d\x10\x16\xfb\x01\x00\x00\x20\xe9\x41\x42\x43\x01\x00\x0a\x44\x45\x46\x01\x00\x00\x20\xea\x51\x52\x53\x01\x00\x00\x00\x00\x00",
-    );
-    receive(d, b"hello", b"\x20\x00\xdf\xde\x00\x01\x00\x02\x00\x1e")
+        b"\
+example 1
+2501e5580000000001000020e801010101000a0000010000006e00000014
+simple
+2501d9f10000000001000020e401020301000a0405060708090a0b0c0d0e01000020e51112130100000000009718191a1b1c1d1e
+assert
+2500555101000020e3a1a2a301000ab1b2b38c1d2e3fc1c2c3c4
+aggregated
+25033166000000000a0b0c0d1112131401000a1516170002000001000020e831323301000020ef414243
+null-register
+2d003e6101000020e621222301000a24252601000020e731323301000a343536
+register-stop
+2d1016fb01000020e941424301000a44454601000020ea515253010000000000
+hello
+2000dfde00010002001e
+",
+    )
 }
 
 // Each is refused, so none is counted: 01's example 2 by its header, two by their second record, and one that has no record.
 fn damaged(start: Counters) -> Counters {
-    let c = receive(
+    receive_all(
         start,
-        b"example 2",
-        b"\x25\x01\xe5\x58\x00\x00\x00\x00\x01\x00\x00\x20\xe8\x01\x01\x01\x01\x00\x0a\x00\x00\x01\x00\x00\x00\x6e\x00\x00\x00\x15",
-    );
-    let d = receive(
-        c,
-        b"simple, source 0",
-        b"\x25\x01\xf9\xb2\x00\x00\x00\x00\x01\x00\x00\x20\xe8\x01\x01\x01\x01\x00\x0a\x00\x00\x01\x00\x00\x00\x6e\x00\x00\x00\x14\x01\x00\x00\x20\xe8\x01\x01\x02\x01\x00\x00\x00\x00\x00\x00\x00\x00\x6e\x00\x00\x00\x14",
-    );
-    let e = receive(
-        d,
-        b"null-register, cut",
-        b"\x2d\x00\xf3\xb7\x01\x00\x00\x20\xe8\x01\x01\x01\x01\x00\x0a\x00\x00\x01\x01\x00\x00\x20\xe8\x01\x01\x02",
-    );
-    receive(e, b"null-register, no record", b"\x2d\x00\xd2\xff")
+        b"\
+example 2
+2501e5580000000001000020e801010101000a0000010000006e00000015
+simple, source 0
+2501f9b20000000001000020e801010101000a0000010000006e0000001401000020e80101020100000000000000006e00000014
+null-register, cut
+2d00f3b701000020e801010101000a00000101000020e8010102
+null-register, no record
+2d00d2ff
+",
+    )
 }
 
 pub(crate) fn run(start: Counters) -> Counters {
-    let c = asserts(start);
-    let d = others(c);
-    damaged(d)
+    let c = valid(start);
+    damaged(c)
 }

@@ -4,22 +4,20 @@ use crate::lend::counted;
 use counters::Counters;
 use counters::Direction;
 use format::Kind;
-use libc::STDOUT_FILENO;
-use listing::number;
 use packing::Packing;
+use printing::packed;
+use printing::title;
 
 // What a packing call answered: a message is counted.
 fn send(c: Counters, name: &[u8], kind: Kind, answer: Packing) -> Counters {
-    listing::title(name);
+    title(name);
     match answer {
         Packing::Refused(r) => {
             listing::refused(r);
             c
         }
         Packing::Wrote { length, taken } => {
-            number(b"octets ", length as u64);
-            number(b", taken ", taken as u64);
-            io::write_all(STDOUT_FILENO, b"\n");
+            packed(length, taken);
             if length == 0 {
                 return c;
             }
@@ -61,9 +59,9 @@ fn pairs(start: Counters) -> Counters {
 // A kind that is none of the six; then so many records that the next one would pass the 64-bit maximum.
 fn counts(start: Counters) -> Counters {
     let kind = counters::kind_number(Kind::Assert);
-    listing::title(b"count kind 6");
+    title(b"count kind 6");
     let c = counted(start, Direction::Sent, 6, 1);
-    listing::title(b"count past the maximum");
+    title(b"count past the maximum");
     let most = counted(c, Direction::Sent, kind, 0xffff_ffff_ffff_ffff);
     counted(most, Direction::Sent, kind, 1)
 }

@@ -2,19 +2,20 @@
 use counters::ByKind;
 use counters::Counters;
 use counters::Totals;
-use libc::STDOUT_FILENO;
-use listing::number;
+use printing::named;
+use printing::number;
+use printing::text;
+use printing::title;
 
 // A kind, its messages and their records.
 fn line(kind: &[u8], t: Totals) {
-    io::write_all(STDOUT_FILENO, kind);
+    text(kind);
     number(b" messages ", t.messages);
-    number(b" records ", t.records);
-    io::write_all(STDOUT_FILENO, b"\n");
+    named(b" records ", t.records);
 }
 
 fn lines(direction: &[u8], t: ByKind) {
-    listing::title(direction);
+    title(direction);
     line(b"hello", t.hello);
     line(b"assert", t.assert);
     line(b"simple", t.simple);

@@ -1,64 +1,46 @@
 // Plain Asserts that PIM daemons sent on test LANs, FRR pimd 8.4.4 (Debian 8.4.4-1.1~deb12u2) and pimd 2.3.2 (Debian
 // 2.3.2-3+b2), and packed Null-Register and Register-Stop messages made by hand and read by tshark 4.4.18.
-use listing::show;
+use listing::show_all;
 
 // Captures ff-lan.pcap, ff2-lan.pcap (an AssertCancel) and tt-lan.pcap. A name has the values that were read.
 fn asserts() {
-    show(
-        b"vector assert 1, FRR pimd 8.4.4 at 10.7.0.12",
-        b"\x25\x00\xe4\xe3\x01\x00\x00\x20\xe8\x01\x01\x01\x01\x00\x0a\x09\x00\x64\x00\x00\x00\x6e\x00\x00\x00\x1e",
-    );
-    show(
-        b"vector assert 2, FRR pimd 8.4.4 at 10.7.0.11",
-        b"\x25\x00\xe4\xec\x01\x00\x00\x20\xe8\x01\x01\x02\x01\x00\x0a\x09\x00\x64\x00\x00\x00\x6e\x00\x00\x00\x14",
-    );
-    show(
-        b"vector assert 3, FRR pimd 8.4.4 at 10.7.0.12",
-        b"\x25\x00\xe4\xe4\x01\x00\x00\x20\xe8\xff\xff\xff\x01\x00\x0a\x09\x00\x66\x00\x00\x00\x6e\x00\x00\x00\x1e",
-    );
-    show(
-        b"vector assert 4, FRR pimd 8.4.4 at 10.7.0.11",
-        b"\x25\x00\xe5\x6f\x01\x00\x00\x20\xe8\x01\x01\x01\x01\x00\x0a\x09\x00\x64\xff\xff\xff\xff\xff\xff\xff\xff",
-    );
-    show(
-        b"vector assert 5, pimd 2.3.2 at 10.7.0.12",
-        b"\x25\x00\xdf\x02\x01\x00\x00\x20\xef\x00\x00\x01\x01\x00\x0a\x09\x00\x65\x00\x00\x00\x66\x00\x00\x00\x07",
-    );
-    show(
-        b"vector assert 6, pimd 2.3.2 at 10.7.0.12",
-        b"\x25\x00\xdb\xfe\x01\x00\x00\x20\xef\x03\x03\x03\x01\x00\x0a\x09\x00\x64\x00\x00\x00\x66\x00\x00\x00\x07",
+    show_all(
+        b"\
+vector assert 1, FRR pimd 8.4.4 at 10.7.0.12
+2500e4e301000020e801010101000a0900640000006e0000001e
+vector assert 2, FRR pimd 8.4.4 at 10.7.0.11
+2500e4ec01000020e801010201000a0900640000006e00000014
+vector assert 3, FRR pimd 8.4.4 at 10.7.0.12
+2500e4e401000020e8ffffff01000a0900660000006e0000001e
+vector assert 4, FRR pimd 8.4.4 at 10.7.0.11
+2500e56f01000020e801010101000a090064ffffffffffffffff
+vector assert 5, pimd 2.3.2 at 10.7.0.12
+2500df0201000020ef00000101000a0900650000006600000007
+vector assert 6, pimd 2.3.2 at 10.7.0.12
+2500dbfe01000020ef03030301000a0900640000006600000007
+",
     );
 }
 
 // What tshark reads no pair of, 01 refuses: subtype 2, the Count word of draft 11, and a cut source.
 fn registers() {
-    show(
-        b"vector register 1, nr 2 pairs",
-        b"\x2d\x00\xda\xb5\x01\x00\x00\x20\xef\x01\x01\x01\x01\x00\x0a\x00\x00\x01\x01\x00\x00\x20\xef\x01\x01\x02\x01\x00\x0a\x00\x00\x02",
-    );
-    show(
-        b"vector register 2, nr 1 pair",
-        b"\x2d\x00\xd6\xdb\x01\x00\x00\x20\xef\x01\x01\x01\x01\x00\x0a\x00\x00\x01",
-    );
-    show(
-        b"vector register 3, nr low half of octet 1 set (0x0f)",
-        b"\x2d\x0f\xd6\xcc\x01\x00\x00\x20\xef\x01\x01\x01\x01\x00\x0a\x00\x00\x01",
-    );
-    show(
-        b"vector register 4, subtype 2",
-        b"\x2d\x20\xd6\xbb\x01\x00\x00\x20\xef\x01\x01\x01\x01\x00\x0a\x00\x00\x01",
-    );
-    show(
-        b"vector register 5, nr draft-11 form with Count word 00000001",
-        b"\x2d\x00\xd6\xda\x00\x00\x00\x01\x01\x00\x00\x20\xef\x01\x01\x01\x01\x00\x0a\x00\x00\x01",
-    );
-    show(
-        b"vector register 6, nr cut inside source",
-        b"\x2d\x00\xd6\xdc\x01\x00\x00\x20\xef\x01\x01\x01\x01\x00\x0a\x00\x00",
-    );
-    show(
-        b"vector register 7, rs 3 pairs, source 0 in the middle",
-        b"\x2d\x10\x02\x87\x01\x00\x00\x20\xef\x01\x01\x01\x01\x00\x0a\x00\x00\x01\x01\x00\x00\x20\xef\x01\x01\x02\x01\x00\x00\x00\x00\x00\x01\x00\x00\x20\xe0\x00\x00\x00\x01\x00\xff\xff\xff\xff",
+    show_all(
+        b"\
+vector register 1, nr 2 pairs
+2d00dab501000020ef01010101000a00000101000020ef01010201000a000002
+vector register 2, nr 1 pair
+2d00d6db01000020ef01010101000a000001
+vector register 3, nr low half of octet 1 set (0x0f)
+2d0fd6cc01000020ef01010101000a000001
+vector register 4, subtype 2
+2d20d6bb01000020ef01010101000a000001
+vector register 5, nr draft-11 form with Count word 00000001
+2d00d6da0000000101000020ef01010101000a000001
+vector register 6, nr cut inside source
+2d00d6dc01000020ef01010101000a0000
+vector register 7, rs 3 pairs, source 0 in the middle
+2d10028701000020ef01010101000a00000101000020ef01010201000000000001000020e00000000100ffffffff
+",
     );
 }
 

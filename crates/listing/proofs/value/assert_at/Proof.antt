@@ -9,27 +9,6 @@ use Rattle.format.specs.Values.{assertOf}
 use Rattle.listing.proofs.value.assert_at.Statement.{statement}
 use Rattle.listing.proofs.value.assert_at.Tie as tie
 
-number32-requires : tie.Need-number32-requires
-number32-requires c κs = search needs
-
-add-number32 : tie.Need-add-number32
-add-number32 c = search needs
-
-number32-requires-2 : tie.Need-number32-requires-2
-number32-requires-2 c κs = search needs
-
-add-number32-2 : tie.Need-add-number32-2
-add-number32-2 c = search needs
-
-number32-requires-3 : tie.Need-number32-requires-3
-number32-requires-3 c κs = search needs
-
-add-number32-3 : tie.Need-add-number32-3
-add-number32-3 c = search needs
-
-number32-requires-4 : tie.Need-number32-requires-4
-number32-requires-4 c κs = search needs
-
 returns : tie.Need-returns
 unfolding assertOf assertAt
 returns c =
@@ -40,12 +19,5 @@ returns c =
 pub assert-at-spec : {M : Type 1} → statement M
 assert-at-spec =
     tie.close
-    (tie.spec
-    number32-requires
-    add-number32
-    number32-requires-2
-    add-number32-2
-    number32-requires-3
-    add-number32-3
-    number32-requires-4
-    returns)
+    (tie.spec (λ c κs. search needs) (λ c. search needs) (λ c κs. search needs) (λ c. search needs) (λ c κs. search needs) (λ c. search needs)
+    (λ c κs. search needs) returns)

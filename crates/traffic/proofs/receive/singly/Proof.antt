@@ -43,27 +43,6 @@ Inv-loop kind body from at₀ n₀ at n = n ≤ at
 abbrev μ-loop : tie.MeasureT-loop
 μ-loop kind body from at₀ n₀ at n = length body - at
 
-loop-holds : tie.Need-loop-holds Inv-loop μ-loop
-loop-holds c = search needs
-
-read-record-requires : tie.Need-read-record-requires Inv-loop μ-loop
-read-record-requires c κs = search needs
-
-enum-known-s : tie.Need-enum-known-s Inv-loop μ-loop
-enum-known-s c = search needs
-
-returns : tie.Need-returns Inv-loop μ-loop
-returns c = search needs
-
-enum-known-s-2 : tie.Need-enum-known-s-2 Inv-loop μ-loop
-enum-known-s-2 c = search needs
-
-add-n : tie.Need-add-n Inv-loop μ-loop
-add-n c = search needs
-
-record-requires : tie.Need-record-requires Inv-loop μ-loop
-record-requires c κs = search needs
-
 -- the next record stands past the one that was read
 goes-on : (c : tie.After-record Inv-loop μ-loop) → c .before .before .before .before .before .before .loop .at < c .before .before .s2 .given .0 .1 .0
 goes-on c =
@@ -77,22 +56,8 @@ loop-less c = let past = goes-on c in omega arith
 loop-again : tie.Need-loop-again Inv-loop μ-loop
 loop-again c = let past = goes-on c in omega arith
 
-returns-2 : tie.Need-returns-2 Inv-loop μ-loop
-returns-2 c = search needs
-
 pub singly-spec : {M : Type 1} → statement M
 singly-spec =
     tie.close
-    (tie.spec
-    Inv-loop
-    μ-loop
-    loop-holds
-    read-record-requires
-    enum-known-s
-    returns
-    enum-known-s-2
-    add-n
-    record-requires
-    loop-less
-    loop-again
-    returns-2)
+    (tie.spec Inv-loop μ-loop (λ c. search needs) (λ c κs. search needs) (λ c. search needs) (λ c. search needs) (λ c. search needs)
+    (λ c. search needs) (λ c κs. search needs) loop-less loop-again (λ c. search needs))
