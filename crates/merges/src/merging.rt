@@ -1,11 +1,13 @@
 // Attributes merged, and what was written read back. Our own values are an MTU of 1,500, flags S and P, 3 transit and 2 stub links,
 // 100 Gbit/s as 1 times 10 to the 8 and 500 kbit/s as 500. Other contributors have equal speeds in other encodings.
-use crate::output::number;
 use crate::output::read;
-use crate::output::refused;
-use crate::output::text;
 use popcount::Merged;
 use popcount::Own;
+use printing::case_at;
+use printing::front;
+use printing::number;
+use printing::refused;
+use printing::text;
 ghost use mathlib.Core.Path.{_≡_};
 ghost use lib.ListN.{length};
 
@@ -29,7 +31,9 @@ fn line(e: bool, contributors: &[u8], d: &mut [u8]) {
             text(b": ");
             read(d, 0);
         }
-        Merged::Refused(r) => refused(r),
+        Merged::Refused(r) => {
+            refused(r, b"\n");
+        }
     }
 }
 
@@ -66,16 +70,25 @@ fn contributors(name: &[u8], n: usize, last: &[u8]) {
     text(name);
     number(b", ", n as u64);
     text(b" others: ");
-    if end <= 480 {
-        let mut d = [0xee; 24];
-        line(false, &o[..end], &mut d);
-    }
+    let mut d = [0xee; 24];
+    line(false, front(&o, end), &mut d);
 }
 
 fn each(name: &[u8], last: &[u8]) {
     contributors(name, 0, last);
     contributors(name, 1, last);
     contributors(name, 19, last);
+}
+
+// Every contributor of a table, alone and after others.
+fn each_of(table: &[u8]) {
+    let mut o = [0; 64];
+    let mut at = 0;
+    while at < table.len() {
+        let c = case_at(table, at, &mut o);
+        each(front(&table[at..], c.name), front(&o, c.length));
+        at = c.next;
+    }
 }
 
 fn none() {
@@ -88,52 +101,38 @@ fn none() {
 
 // With all options, at the maxima, and with equal speeds in other encodings.
 fn whole() {
-    each(
-        b"all options",
-        b"\x03\x16\x05\x78\x00\x19\xff\x00\x00\x00\x00\x64\x00\x00\x00\xc8\x08\x05\x18\x64\x03\x07\x04\x02",
-    );
-    each(
-        b"the maxima",
-        b"\x43\x16\xff\xff\xff\xff\xff\x00\xff\xff\xff\xff\xff\xff\xff\xff\xff\xff\xff\xff\xff\xff\xff\xff",
-    );
-    each(
-        b"other encodings",
-        b"\x03\x16\x23\x28\x00\x13\xff\x00\x00\x00\x00\x01\x00\x00\x00\x01\x18\x64\x08\x05\x01\x01\x09\x01",
+    each_of(
+        b"\
+all options
+031605780019ff0000000064000000c80805186403070402
+the maxima
+4316ffffffffff00ffffffffffffffffffffffffffffffff
+other encodings
+031623280013ff0000000001000000011864080501010901
+",
     );
 }
 
 fn lacking() {
-    each(
-        b"without transit",
-        b"\x03\x12\x05\x14\x00\x06\x7f\x00\x00\x00\x00\xc8\x08\x05\x18\x64\x03\x07\x04\x02",
-    );
-    each(
-        b"without stub",
-        b"\x03\x12\x05\x14\x00\x06\xbf\x00\x00\x00\x00\x64\x08\x05\x18\x64\x03\x07\x04\x02",
-    );
-    each(
-        b"without least speed",
-        b"\x03\x14\x05\x14\x00\x06\xdf\x00\x00\x00\x00\x64\x00\x00\x00\xc8\x18\x64\x03\x07\x04\x02",
-    );
-    each(
-        b"without greatest speed",
-        b"\x03\x14\x05\x14\x00\x06\xef\x00\x00\x00\x00\x64\x00\x00\x00\xc8\x08\x05\x03\x07\x04\x02",
-    );
-    each(
-        b"without domain",
-        b"\x03\x15\x05\x14\x00\x06\xf7\x00\x00\x00\x00\x64\x00\x00\x00\xc8\x08\x05\x18\x64\x07\x04\x02",
-    );
-    each(
-        b"without node",
-        b"\x03\x15\x05\x14\x00\x06\xfb\x00\x00\x00\x00\x64\x00\x00\x00\xc8\x08\x05\x18\x64\x03\x04\x02",
-    );
-    each(
-        b"without diameter",
-        b"\x03\x15\x05\x14\x00\x06\xfd\x00\x00\x00\x00\x64\x00\x00\x00\xc8\x08\x05\x18\x64\x03\x07\x02",
-    );
-    each(
-        b"without time zone",
-        b"\x03\x15\x05\x14\x00\x06\xfe\x00\x00\x00\x00\x64\x00\x00\x00\xc8\x08\x05\x18\x64\x03\x07\x04",
+    each_of(
+        b"\
+without transit
+0312051400067f00000000c80805186403070402
+without stub
+031205140006bf00000000640805186403070402
+without least speed
+031405140006df0000000064000000c8186403070402
+without greatest speed
+031405140006ef0000000064000000c8080503070402
+without domain
+031505140006f70000000064000000c808051864070402
+without node
+031505140006fb0000000064000000c808051864030402
+without diameter
+031505140006fd0000000064000000c808051864030702
+without time zone
+031505140006fe0000000064000000c808051864030704
+",
     );
 }
 

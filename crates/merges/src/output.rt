@@ -1,35 +1,15 @@
-// Lines of text on standard output.
-use format::Refusal;
-use libc::STDOUT_FILENO;
+// The line of an attribute.
 use popcount::Attribute;
 use popcount::AttributeRead;
-
-pub(crate) fn text(s: &[u8]) {
-    io::write_all(STDOUT_FILENO, s);
-}
-
-// What stands before a number, and the number.
-pub(crate) fn number(before: &[u8], n: u64) {
-    text(before);
-    io::print_decimal(STDOUT_FILENO, n);
-}
-
-pub(crate) fn refused(r: Refusal) {
-    number(b"refused ", r.number as u64);
-    number(b" at ", r.place as u64);
-    text(b"\n");
-}
-
-fn flag(before: &[u8], b: bool) {
-    text(before);
-    if b {
-        return text(b"1");
-    }
-    text(b"0");
-}
+use printing::flag;
+use printing::named;
+use printing::number;
+use printing::refused;
+use printing::text;
 
 fn attribute(a: Attribute) {
-    flag(b"E ", a.e);
+    text(b"E ");
+    flag(a.e);
     number(b" mtu ", a.mtu as u64);
     number(b" flags ", a.flags as u64);
     number(b" options ", a.options as u64);
@@ -50,9 +30,10 @@ pub(crate) fn read(o: &[u8], at: usize) {
     match r {
         AttributeRead::Is(a, next) => {
             attribute(a);
-            number(b" next ", next as u64);
-            text(b"\n");
+            named(b" next ", next as u64);
         }
-        AttributeRead::Refused(r) => refused(r),
+        AttributeRead::Refused(r) => {
+            refused(r, b"\n");
+        }
     }
 }

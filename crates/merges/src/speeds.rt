@@ -1,7 +1,7 @@
 // Link speeds compared: a line for each, with how it stands to every one of them, < = or >.
-use crate::output::number;
-use crate::output::text;
 use popcount::Order;
+use printing::number;
+use printing::text;
 
 // The six rows of RFC 6807, 3.1.1 (500 kbit/s twice, 155 Mbit/s, 40 Gbit/s, 100 Gbit/s twice), then 0 as two encodings, 1 kbit/s,
 // the largest significand with exponents 0, 3 and 63, and 1 with exponent 63.
@@ -21,7 +21,7 @@ const SPEEDS: [u16; 13] = [
     64513,
 ];
 
-fn compared(a: u16, b: u16) {
+fn compared(a: u16, b: u16) -> bool {
     let o = popcount::compare_speeds(a, b);
     match o {
         Order::Less => text(b" <"),
