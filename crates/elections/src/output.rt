@@ -5,54 +5,30 @@ use crate::election::address;
 use crate::election::elected;
 use crate::election::elected_among;
 use crate::election::has_priority;
-use format::Refusal;
-use libc::STDERR_FILENO;
-use libc::STDOUT_FILENO;
 use neighbours::Elected;
+use printing::case_at;
+use printing::front;
+use printing::refused;
+use printing::text;
+use printing::told;
 ghost use Prim.Native.Nat.{_<_};
 ghost use lib.ListN.{length};
-
-fn text(s: &[u8]) -> bool {
-    io::write_all(STDOUT_FILENO, s)
-}
-
-// One octet of an address, counted by its weight.
-fn octet(a: u32, weight: u32) -> bool
-    requires { ⌜ 0 < weight ⌝ }
-{
-    io::print_decimal(STDOUT_FILENO, (a / weight % 256) as u64)
-}
-
-fn dotted(a: u32) -> bool {
-    octet(a, 16777216)
-        && text(b".")
-        && octet(a, 65536)
-        && text(b".")
-        && octet(a, 256)
-        && text(b".")
-        && octet(a, 1)
-}
-
-fn refused(r: Refusal) -> bool {
-    text(b"refused ")
-        && io::print_decimal(STDOUT_FILENO, r.number as u64)
-        && text(b" at ")
-        && io::print_decimal(STDOUT_FILENO, r.place as u64)
-        && text(b"\n")
-}
 
 // The address elected, beside the one observed.
 fn compared(a: u32, observed: u32) -> bool {
     if a == observed {
-        return dotted(a) && text(b", agrees\n");
+        return printing::address(a) && text(b", agrees\n");
     }
-    dotted(a) && text(b", differs, observed ") && dotted(observed) && text(b"\n")
+    printing::address(a)
+        && text(b", differs, observed ")
+        && printing::address(observed)
+        && text(b"\n")
 }
 
 fn answer(e: Elected, observed: u32) -> bool {
     match e {
         Elected::Is(a) => compared(a, observed),
-        Elected::Refused(r) => refused(r),
+        Elected::Refused(r) => refused(r, b"\n"),
     }
 }
 
@@ -63,7 +39,7 @@ fn line(name: &[u8], m: &[u8], own: usize, observed: u32) -> bool
     if has_priority(m, own) {
         return text(name)
             && text(b", our own ")
-            && dotted(address(m, own))
+            && printing::address(address(m, own))
             && text(b": ")
             && answer(elected(m, own), observed);
     }
@@ -79,21 +55,25 @@ fn lines(name: &[u8], m: &[u8], observed: u32) -> bool {
     if m.len() <= ROUTER {
         return text(name) && text(b": fewer than two routers\n");
     }
-    if m.len() % ROUTER != 0 {
-        return text(name) && text(b": a router is not whole\n");
-    }
     line(name, m, m.len() - ROUTER, observed)
         && line(name, m, 0, observed)
         && rows_line(name, m, observed)
 }
 
-// A scenario: its name, its routers, and the router that was observed to be elected. Where standard output takes no
-// more, standard error says so.
-pub(crate) fn show(name: &[u8], m: &[u8], observed: u32) {
-    if !lines(name, m, observed) {
-        io::write_all(
-            STDERR_FILENO,
-            b"the elections were cut: standard output failed\n",
-        );
+// A scenario: its name, then its routers and the address that was observed to be elected. Where standard output takes no more,
+// standard error says so.
+fn show(name: &[u8], o: &[u8]) {
+    let routers = o.len() / ROUTER * ROUTER;
+    let written = lines(name, front(o, routers), address(o, routers));
+    told(written, b"the elections were");
+}
+
+pub(crate) fn show_all(table: &[u8]) {
+    let mut o = [0; 256];
+    let mut at = 0;
+    while at < table.len() {
+        let c = case_at(table, at, &mut o);
+        show(front(&table[at..], c.name), front(&o, c.length));
+        at = c.next;
     }
 }

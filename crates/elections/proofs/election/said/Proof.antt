@@ -9,34 +9,11 @@ use borrow.Author.Needs.{needs}
 use Rattle.elections.proofs.election.said.Statement.{statement}
 use Rattle.elections.proofs.election.said.Tie as tie
 
-add-number16 : tie.Need-add-number16
-add-number16 c = search needs
-
-number16-requires : tie.Need-number16-requires
-number16-requires c κs = search needs
-
 cast-t5 : tie.Need-cast-t5
 cast-t5 c =
     let a = c .before .before .args in
     let small : numberAt 2 (now (a .m)) (a .at + 10) < 65536 = numberAt-lt 2 (now (a .m)) (a .at + 10) (λ i. c .before .shared-slice-known .given i .fits) in
     record { fits = subst (λ n. n < 65536) (sym (c .number16 .ensures)) small }
 
-has-priority-requires : tie.Need-has-priority-requires
-has-priority-requires c κs = search needs
-
-priority-requires : tie.Need-priority-requires
-priority-requires c κs = search needs
-
-returns : tie.Need-returns
-returns c = search needs
-
 pub said-spec : {M : Type 1} → statement M
-said-spec =
-    tie.close
-    (tie.spec
-    add-number16
-    number16-requires
-    cast-t5
-    has-priority-requires
-    priority-requires
-    returns)
+said-spec = tie.close (tie.spec (λ c. search needs) (λ c κs. search needs) cast-t5 (λ c κs. search needs) (λ c κs. search needs) (λ c. search needs))
