@@ -1,42 +1,42 @@
 // The choice between the two packed assert forms. Every case is put to both calls, each with buffers of its own: what
 // `pack_both` answers, then the part that `pack_chosen` hands back.
-use crate::output::number;
-use crate::output::refused;
-use crate::output::text;
-use crate::output::wide;
 use crate::output::wrote;
 use packing::Choice;
+use printing::named;
+use printing::number;
+use printing::refused;
+use printing::text;
 ghost use Prim.Native.Nat.{_≤_};
 
-fn form(aggregated: bool) {
+fn form(aggregated: bool) -> bool {
     if aggregated {
         return text(b"aggregated, ");
     }
-    text(b"simple, ");
+    text(b"simple, ")
 }
 
-fn answer(c: Choice) {
+fn answer(c: Choice) -> bool {
     match c {
         Choice::Refused(r) => refused(r, b"; "),
         Choice::Wrote {
             aggregated,
             length,
             taken,
-        } => {
-            form(aggregated);
-            wrote(length, taken, b"; ");
-        }
+        } => form(aggregated) && wrote(length, taken, b"; "),
     }
 }
 
+fn octet_1(x: u8) -> bool {
+    named(b" octets, octet 1 is ", x as u64)
+}
+
 // The part that was handed back. Octet 1 is 1 in a simple message and 3 in an aggregated one.
-fn part(m: &[u8]) {
-    text(b"part of ");
+fn part(m: &[u8]) -> bool {
+    number(b"part of ", m.len() as u64);
     if m.len() < 2 {
-        return number(m.len(), b" octets\n");
+        return text(b" octets\n");
     }
-    number(m.len(), b" octets, octet 1 is ");
-    number(wide(m[1]), b"\n");
+    octet_1(m[1])
 }
 
 // What `pack_both` answers, with s octets lent for the simple message and a for the aggregated one.

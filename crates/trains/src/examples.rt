@@ -1,10 +1,11 @@
 // The examples that 01 marks for the packing calls, by their numbers there.
 use crate::call::pack;
 use crate::output::answer;
-use crate::output::number;
-use crate::output::text;
-use octets::Field;
+use octets::number16;
 use packing::Packing;
+use printing::named;
+use printing::number;
+use printing::text;
 
 fn show(name: &[u8], p: Packing) {
     text(name);
@@ -53,15 +54,6 @@ fn example_5() {
     show(b"example 5, limit 37: ", low);
 }
 
-// The number in two octets of a message.
-fn number16(d: &[u8], at: usize) -> usize {
-    let f = octets::read16(d, at);
-    let Field::Got { value, next: _ } = f else {
-        return 0;
-    };
-    value as usize
-}
-
 // "Two R=1 entries, one group, both source 0: one group record, p=2, 44 octets." In that message the number of group
 // records is at octet 16 and p at octet 28.
 fn example_6() {
@@ -70,9 +62,8 @@ fn example_6() {
     let mut d = [0; 1480];
     let p = pack(e, 0, 1480, &mut d);
     show(b"example 6: ", p);
-    text(b"example 6: group records ");
-    number(number16(&d, 16), b", p=");
-    number(number16(&d, 28), b"\n");
+    number(b"example 6: group records ", number16(&d, 16) as u64);
+    named(b", p=", number16(&d, 28) as u64);
 }
 
 // "Empty list, any allowed limit: no message."

@@ -3,15 +3,13 @@
 // for each limit. What is expected, in the file stdout, was worked out from 01 by a second program.
 //
 // call.rt         the aggregated packing call, named in one place
-// output.rt       lines of text
+// output.rt       what a packing call answered
 // examples.rt     01's examples 3, 4, 5, 6 and 8
 // choice.rt       both packed assert forms, and the one that is chosen
 // rule.rt         the rule that makes the list of entries
-// train.rt        the list packed until nothing is left, and each message read back
-// compare.rt      the list packed against the list read
+// train.rt        the list packed until nothing is left, each message read back, and the two lists compared
 mod call;
 mod choice;
-mod compare;
 mod examples;
 mod output;
 mod rule;

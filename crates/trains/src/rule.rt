@@ -1,8 +1,9 @@
 // The rule that makes the list: 16 blocks of 64 entries, each by a row that says how many neighbours share a value. So
 // runs of every kind and of many lengths stand beside one another, and some go on from block to block.
 use format::AssertFields;
+use printing::put_assert;
 ghost use mathlib.Core.Path.{_≡_};
-ghost use Prim.Native.Nat.{_+_, _≤_, _<_};
+ghost use Prim.Native.Nat.{_≤_, _<_};
 ghost use lib.ListN.{length};
 
 pub(crate) const COUNT: usize = 1024;
@@ -102,22 +103,12 @@ fn entry(block: u32, j: u32) -> AssertFields
     }
 }
 
-// The 16 octets of an entry.
-fn put_entry(e: &mut [u8], at: usize, x: AssertFields)
-    requires { ⌜ at + 16 ≤ length (now e) ⌝ }
-{
-    octets::write32(e, at, x.group);
-    octets::write32(e, at + 4, x.source);
-    octets::write32(e, at + 8, x.r_preference);
-    octets::write32(e, at + 12, x.metric);
-}
-
 fn fill(e: &mut [u8])
     requires { ⌜ length (now e) ≡ 16384 ⌝ }
 {
     let mut i = 0;
     while i < COUNT {
-        put_entry(e, 16 * i, entry((i / 64) as u32, (i % 64) as u32));
+        put_assert(e, 16 * i, entry((i / 64) as u32, (i % 64) as u32));
         i += 1;
     }
 }

@@ -1,14 +1,17 @@
 // A train: what packing calls give from the first entry of the list until nothing is left. Each message is read into a
 // second list, one after another, and the two lists are compared at the end. What is wrong is said where it is found.
 use crate::call::pack;
-use crate::compare::compare_lists;
 use crate::output::answer;
-use crate::output::number;
-use crate::output::refused;
-use crate::output::text;
 use crate::rule::COUNT;
 use crate::rule::room;
 use packing::Packing;
+use printing::decimal;
+use printing::front;
+use printing::in_common;
+use printing::named;
+use printing::number;
+use printing::refused;
+use printing::text;
 use reading::Reading;
 ghost use mathlib.Core.Path.{_≡_};
 ghost use Prim.Native.Nat.{_+_, _*_, _≤_, _<_};
@@ -29,31 +32,32 @@ fn nothing() -> Sent
     }
 }
 
+// How far the train came, where something is wrong.
+fn came(start: usize) {
+    decimal(start as u64);
+    text(b" entries taken, then ");
+}
+
 // An answer that ends the train before its time.
 fn stopped(start: usize, p: Packing) -> Sent
     ensures { λ s. ⌜ (s .length ≡ 0) × (s .taken ≡ 0) ⌝ }
 {
-    number(start, b" entries taken, then packing: ");
+    came(start);
+    text(b"packing: ");
     answer(p);
     nothing()
-}
-
-// Reads the message at the front of a buffer.
-fn read_front(d: &[u8], n: usize, back: &mut [u8]) -> Reading
-    requires { ⌜ n ≤ length (now d) ⌝ }
-{
-    reading::read_asserts(&d[..n], back)
 }
 
 // Reads a message into the second list, at the place of the first entry that it took. Whether it has as many entries
 // as were taken.
 fn read_back(d: &[u8], s: Sent, start: usize, back: &mut [u8]) -> bool
-    requires { ⌜ (s .length ≤ length (now d)) × (16 * start ≤ length (now back)) ⌝ }
+    requires { ⌜ 16 * start ≤ length (now back) ⌝ }
 {
-    let x = read_front(d, s.length, &mut back[16 * start..]);
+    let x = reading::read_asserts(front(d, s.length), &mut back[16 * start..]);
     match x {
         Reading::Refused(r) => {
-            number(start, b" entries taken, then reading: ");
+            came(start);
+            text(b"reading: ");
             refused(r, b"\n");
             false
         }
@@ -61,9 +65,10 @@ fn read_back(d: &[u8], s: Sent, start: usize, back: &mut [u8]) -> bool
             if count == s.taken {
                 return true;
             }
-            number(start, b" entries taken, then ");
-            number(s.taken, b" more, but of these ");
-            number(count, b" read\n");
+            came(start);
+            decimal(s.taken as u64);
+            number(b" more, but of these ", count as u64);
+            text(b" read\n");
             false
         }
     }
@@ -123,6 +128,15 @@ fn pack_all(e: &[u8], limit: usize, d: &mut [u8], back: &mut [u8]) -> Total
     }
 }
 
+// The entries that were read, held to the list that was packed.
+fn compare(packed: &[u8], read: &[u8]) -> bool {
+    let at = in_common(packed, read);
+    if at == packed.len() {
+        return text(b", read back: the list\n");
+    }
+    number(b", read back: another list, from entry ", (at / 16) as u64) && text(b" on\n")
+}
+
 // The train at a limit, with buffers of its own, so that nothing of another train can be read. A train that is not
 // whole has said why.
 fn run_at(list: &[u8], limit: usize)
@@ -130,23 +144,21 @@ fn run_at(list: &[u8], limit: usize)
 {
     let mut d = io::large_buffer();
     let mut back = room();
-    text(b"limit ");
-    number(limit, b": ");
+    number(b"limit ", limit as u64);
+    text(b": ");
     let t = pack_all(list, limit, &mut d, &mut back);
     if t.taken == COUNT {
-        text(b"messages ");
-        number(t.messages, b", octets ");
-        number(t.octets, b", ");
-        compare_lists(list, &back);
+        number(b"messages ", t.messages as u64);
+        number(b", octets ", t.octets as u64);
+        compare(list, &back);
     }
 }
 
 pub(crate) fn run(list: &[u8])
     requires { ⌜ length (now list) ≡ 16384 ⌝ }
 {
-    text(b"the list: ");
-    number(COUNT, b" entries, sum ");
-    number(checksum::sum(list) as usize, b"\n");
+    number(b"the list: ", COUNT as u64);
+    named(b" entries, sum ", checksum::sum(list) as u64);
     run_at(list, 38);
     run_at(list, 49);
     run_at(list, 50);
