@@ -1,7 +1,7 @@
 // Runs of the stored sheet: a small one checked, damaged and cut, an empty one and a full one written, read and written again, and
 // what reading and writing refuse. What is expected, in the file stdout, was worked out from 01 by a second program.
 //
-// output.rt        lines of text
+// output.rt        what the calls answered, a line each
 // small.rt         a sheet of two asserts, two pairs and two neighbours: each fault once, and cut at every octet
 // whole.rt         an empty sheet and a full one, written, checked, read and written again
 // refusals.rt      what reading and writing refuse

@@ -1,59 +1,35 @@
-// Lines of text on standard output.
-use format::Refusal;
-use libc::STDOUT_FILENO;
+// What the calls of a sheet answered, a line each.
+use printing::named;
+use printing::number;
+use printing::refused;
 use sheet::Checked;
 use sheet::Counts;
 use sheet::Found;
 use sheet::Stored;
 
-pub(crate) fn text(s: &[u8]) {
-    io::write_all(STDOUT_FILENO, s);
+fn counts(c: Counts) -> bool {
+    number(b"asserts ", c.asserts as u64)
+        && number(b" pairs ", c.pairs as u64)
+        && named(b" neighbours ", c.neighbours as u64)
 }
 
-// What stands before a number, and the number.
-pub(crate) fn number(before: &[u8], n: usize) {
-    text(before);
-    io::print_decimal(STDOUT_FILENO, n as u64);
-}
-
-// An octet as a wider number.
-pub(crate) fn wide(x: u8) -> usize {
-    x as usize
-}
-
-fn refused(r: Refusal) {
-    number(b"refused ", wide(r.number));
-    number(b" at ", r.place);
-    text(b"\n");
-}
-
-fn counts(c: Counts) {
-    number(b"asserts ", c.asserts);
-    number(b" pairs ", c.pairs);
-    number(b" neighbours ", c.neighbours);
-    text(b"\n");
-}
-
-pub(crate) fn checked(c: Checked) {
+pub(crate) fn checked(c: Checked) -> bool {
     match c {
         Checked::Valid(n) => counts(n),
-        Checked::Refused(r) => refused(r),
+        Checked::Refused(r) => refused(r, b"\n"),
     }
 }
 
-pub(crate) fn found(f: Found) {
+pub(crate) fn found(f: Found) -> bool {
     match f {
         Found::Entries(n) => counts(n),
-        Found::Refused(r) => refused(r),
+        Found::Refused(r) => refused(r, b"\n"),
     }
 }
 
-pub(crate) fn stored(s: Stored) {
+pub(crate) fn stored(s: Stored) -> bool {
     match s {
-        Stored::Wrote(n) => {
-            number(b"octets ", n);
-            text(b"\n");
-        }
-        Stored::Refused(r) => refused(r),
+        Stored::Wrote(n) => named(b"octets ", n as u64),
+        Stored::Refused(r) => refused(r, b"\n"),
     }
 }

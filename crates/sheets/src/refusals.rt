@@ -1,10 +1,10 @@
 // What writing and reading a sheet refuse.
 use crate::output::found;
-use crate::output::number;
 use crate::output::stored;
-use crate::output::text;
 use crate::small::changed;
 use neighbours::Table;
+use printing::number;
+use printing::text;
 
 // Writing into so many octets, 28 at most.
 fn write(name: &[u8], asserts: &[u8], table: Table, room: usize) {
@@ -50,7 +50,7 @@ fn read(name: &[u8], at: usize, x: u8, asserts: usize, pairs: usize) {
             let r = sheet::read_sheet(&o, &mut ea[..asserts], &mut ep[..pairs]);
             let answer = r.found;
             let table = r.table;
-            number(b"neighbours ", table.count);
+            number(b"neighbours ", table.count as u64);
             text(b", ");
             found(answer);
         }

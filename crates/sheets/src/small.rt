@@ -1,13 +1,28 @@
 // A sheet of two asserts, two pairs and two neighbours. Each fault is one octet changed; then the sheet is cut at every octet.
 use crate::output::checked;
-use crate::output::number;
-use crate::output::text;
-use crate::output::wide;
+use printing::front;
+use printing::hexadecimal;
+use printing::named;
+use printing::number;
+use printing::text;
 use sheet::Checked;
 ghost use Prim.Native.Nat.{_≤_};
 
 // How many octets the sheet has.
 const SIZE: usize = 84;
+
+// The sheet: its header, the asserts, the pairs, the neighbours.
+fn small() -> [u8; SIZE] {
+    let mut o = [0; SIZE];
+    hexadecimal(
+        b"\
+0002000c0002002c0002003c \
+e80101010a0000000000006e00000014 e8010102000000008000006e00000014 e80101030a000000 e801010400000000 \
+0a0000000000000503000069 0b000000000000000200001e",
+        &mut o,
+    );
+    o
+}
 
 // How many changes there are.
 const CHANGES: usize = 26;
@@ -15,152 +30,15 @@ const CHANGES: usize = 26;
 // Each change: a place, and the octet there. Ten of the header (counts over the limit and against the end, offsets before and past their
 // section), then of the entries: groups, source 0 with R=0, the R bit, source 0 of a pair and priority 0 (both allowed), address 0, flags,
 // a priority without its flag, the zero octet, an address twice, holdtime 0.
-const PLACES: [usize; CHANGES] = [
-    1,
-    0,
-    3,
-    5,
-    4,
-    7,
-    9,
-    9,
-    11,
-    11,
-    12,
-    16,
-    28,
-    36,
-    44,
-    48,
-    52,
-    60,
-    67,
-    68,
-    68,
-    69,
-    72,
-    76,
-    81,
-    83,
-];
-
-const OCTETS: [u8; CHANGES] = [
-    3,
-    4,
-    13,
-    3,
-    4,
-    45,
-    1,
-    17,
-    61,
-    59,
-    223,
-    0,
-    240,
-    0,
-    200,
-    0,
-    255,
-    0,
-    0,
-    4,
-    2,
-    1,
-    10,
-    1,
-    1,
-    0,
-];
-
-// The sheet.
-fn small() -> [u8; SIZE] {
-    [
-        0x00,
-        0x02,
-        0x00,
-        0x0c,
-        0x00,
-        0x02,
-        0x00,
-        0x2c,
-        0x00,
-        0x02,
-        0x00,
-        0x3c,
-        0xe8,
-        0x01,
-        0x01,
-        0x01,
-        0x0a,
-        0x00,
-        0x00,
-        0x00,
-        0x00,
-        0x00,
-        0x00,
-        0x6e,
-        0x00,
-        0x00,
-        0x00,
-        0x14,
-        0xe8,
-        0x01,
-        0x01,
-        0x02,
-        0x00,
-        0x00,
-        0x00,
-        0x00,
-        0x80,
-        0x00,
-        0x00,
-        0x6e,
-        0x00,
-        0x00,
-        0x00,
-        0x14,
-        0xe8,
-        0x01,
-        0x01,
-        0x03,
-        0x0a,
-        0x00,
-        0x00,
-        0x00,
-        0xe8,
-        0x01,
-        0x01,
-        0x04,
-        0x00,
-        0x00,
-        0x00,
-        0x00,
-        0x0a,
-        0x00,
-        0x00,
-        0x00,
-        0x00,
-        0x00,
-        0x00,
-        0x05,
-        0x03,
-        0x00,
-        0x00,
-        0x69,
-        0x0b,
-        0x00,
-        0x00,
-        0x00,
-        0x00,
-        0x00,
-        0x00,
-        0x00,
-        0x02,
-        0x00,
-        0x00,
-        0x1e,
-    ]
+fn all_changes() -> [u8; 52] {
+    let mut o = [0; 52];
+    hexadecimal(
+        b"\
+0103 0004 030d 0503 0404 072d 0901 0911 0b3d 0b3b \
+0cdf 1000 1cf0 2400 2cc8 3000 34ff 3c00 4300 4404 4402 4501 480a 4c01 5101 5300",
+        &mut o,
+    );
+    o
 }
 
 // The sheet with one octet changed, where it has that octet.
@@ -172,19 +50,18 @@ pub(crate) fn changed(at: usize, x: u8) -> [u8; SIZE] {
     o
 }
 
-fn change(at: usize, x: u8) {
-    number(b"octet ", at);
-    number(b" is ", wide(x));
+fn change(at: u8, x: u8) {
+    number(b"octet ", at as u64);
+    number(b" is ", x as u64);
     text(b": ");
-    let o = changed(at, x);
+    let o = changed(at as usize, x);
     checked(sheet::check_sheet(&o));
 }
 
 fn changes() {
-    let places = PLACES;
-    let octets = OCTETS;
+    let all = all_changes();
     for i in 0..CHANGES {
-        change(places[i], octets[i]);
+        change(all[2 * i], all[2 * i + 1]);
     }
 }
 
@@ -209,10 +86,9 @@ fn cuts() {
     let o = small();
     let mut refused = 0;
     for n in 0..SIZE {
-        refused += refused_at_start(&o[..n]);
+        refused += refused_at_start(front(&o, n));
     }
-    number(b"cut at 84 places, refused 14 at 0: ", refused);
-    text(b"\n");
+    named(b"cut at 84 places, refused 14 at 0: ", refused as u64);
 }
 
 pub(crate) fn run() {

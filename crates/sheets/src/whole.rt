@@ -1,11 +1,16 @@
 // An empty sheet and a full one: written, checked, read, and written again from what was read.
 use crate::output::checked;
 use crate::output::found;
-use crate::output::number;
 use crate::output::stored;
-use crate::output::text;
+use format::AssertFields;
 use hello::Hello;
 use neighbours::Table;
+use printing::flag;
+use printing::front;
+use printing::in_common;
+use printing::named;
+use printing::put_assert;
+use printing::text;
 
 // How many octets the entries of a full sheet have, and the sheet.
 const ASSERTS: usize = 16384;
@@ -34,10 +39,13 @@ fn asserts() -> [u8; ASSERTS] {
     let mut e = [0; ASSERTS];
     for i in 0..1024 {
         let n = i as u32;
-        octets::write32(&mut e, 16 * i, 0xe800_0000 + n);
-        octets::write32(&mut e, 16 * i + 4, source(n));
-        octets::write32(&mut e, 16 * i + 8, word(n));
-        octets::write32(&mut e, 16 * i + 12, n);
+        let x = AssertFields {
+            group: 0xe800_0000 + n,
+            source: source(n),
+            r_preference: word(n),
+            metric: n,
+        };
+        put_assert(&mut e, 16 * i, x);
     }
     e
 }
@@ -69,32 +77,9 @@ fn table() -> Table {
     t
 }
 
-// Whether the first octets of two slices are the same.
+// Whether two slices are the same.
 fn same(a: &[u8], b: &[u8]) -> bool {
-    if a.len() != b.len() {
-        return false;
-    }
-    for i in 0..a.len() {
-        if a[i] != b[i] {
-            return false;
-        }
-    }
-    true
-}
-
-fn flag(b: bool) {
-    if b {
-        return text(b"1");
-    }
-    text(b"0");
-}
-
-// The first n octets of a slice, or all of it.
-fn front(e: &[u8], n: usize) -> &[u8] {
-    if e.len() < n {
-        return e;
-    }
-    &e[..n]
+    a.len() == b.len() && in_common(a, b) == a.len()
 }
 
 // What was read, written again: the sheet it came from.
@@ -127,8 +112,7 @@ fn again(o: &[u8], asserts: &[u8], pairs: &[u8]) {
     let ra = front(&ea, asserts.len());
     let rp = front(&ep, pairs.len());
     compared(asserts, pairs, ra, rp);
-    number(b", neighbours ", table.count);
-    text(b"\n");
+    named(b", neighbours ", table.count as u64);
     rewritten(ra, rp, table, o);
 }
 

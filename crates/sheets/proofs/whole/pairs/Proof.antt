@@ -13,69 +13,9 @@ Inv-loop e₀ i₀ e i = (length e ≡ 8192) × (i ≤ 1024)
 abbrev μ-loop : tie.MeasureT-loop
 μ-loop e₀ i₀ e i = 1024 - i
 
-loop-holds : tie.Need-loop-holds Inv-loop μ-loop
-loop-holds c = search needs
-
-slice-aggregate-write32 : tie.Need-slice-aggregate-write32 Inv-loop μ-loop
-slice-aggregate-write32 c = search needs
-
-mul-write32 : tie.Need-mul-write32 Inv-loop μ-loop
-mul-write32 c = search needs
-
-cast-write32 : tie.Need-cast-write32 Inv-loop μ-loop
-cast-write32 c = search needs
-
-add-write32 : tie.Need-add-write32 Inv-loop μ-loop
-add-write32 c = search needs
-
-write32-requires : tie.Need-write32-requires Inv-loop μ-loop
-write32-requires c κs = search needs
-
-slice-aggregate-write32-2 : tie.Need-slice-aggregate-write32-2 Inv-loop μ-loop
-slice-aggregate-write32-2 c = search needs
-
-mul-write32-2 : tie.Need-mul-write32-2 Inv-loop μ-loop
-mul-write32-2 c = search needs
-
-add-write32-2 : tie.Need-add-write32-2 Inv-loop μ-loop
-add-write32-2 c = search needs
-
-cast-write32-2 : tie.Need-cast-write32-2 Inv-loop μ-loop
-cast-write32-2 c = search needs
-
-write32-requires-2 : tie.Need-write32-requires-2 Inv-loop μ-loop
-write32-requires-2 c κs = search needs
-
-add-i : tie.Need-add-i Inv-loop μ-loop
-add-i c = search needs
-
-loop-less : tie.Need-loop-less Inv-loop μ-loop
-loop-less c = search needs
-
-loop-again : tie.Need-loop-again Inv-loop μ-loop
-loop-again c = search needs
-
-returns : tie.Need-returns Inv-loop μ-loop
-returns c = search needs
-
 pub pairs-spec : {M : Type 1} → statement M
 pairs-spec =
     tie.close
-    (tie.spec
-    Inv-loop
-    μ-loop
-    loop-holds
-    slice-aggregate-write32
-    mul-write32
-    cast-write32
-    add-write32
-    write32-requires
-    slice-aggregate-write32-2
-    mul-write32-2
-    add-write32-2
-    cast-write32-2
-    write32-requires-2
-    add-i
-    loop-less
-    loop-again
-    returns)
+    (tie.spec Inv-loop μ-loop (λ c. search needs) (λ c. search needs) (λ c. search needs) (λ c. search needs) (λ c. search needs)
+    (λ c κs. search needs) (λ c. search needs) (λ c. search needs) (λ c. search needs) (λ c. search needs) (λ c κs. search needs) (λ c. search needs)
+    (λ c. search needs) (λ c. search needs) (λ c. search needs))
