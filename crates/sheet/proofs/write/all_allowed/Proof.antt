@@ -1,7 +1,7 @@
 -- `sheet::write::all_allowed` meets its contract, by what `first_bad` answered.
 -- Assumes nothing.
 use denote.Ref.{now}
-use Rattle.writing.specs.Kinds.{entriesFor}
+use Rattle.entries.specs.Kinds.{entriesFor}
 use Rattle.sheet.proofs.Asks.{listed-fine, listed-bad}
 use borrow.Author.Needs.{needs}
 use Rattle.sheet.proofs.write.all_allowed.Statement.{statement}
