@@ -73,10 +73,10 @@ pub fn is_source(s: &[u8], zero_allowed: bool) -> bool
     if s[1] != 0 {
         return false;
     }
-    if zero_allowed {
+    if number32(s, 2) != 0 {
         return true;
     }
-    number32(s, 2) != 0
+    zero_allowed
 }
 
 // R, the highest bit of the word that it has with the metric preference. A caller lends the four octets.

@@ -1,7 +1,7 @@
 -- `fields::field::is_source` meets its contract: of six octets, its tests are those of `sourceTest`, which `source-form` makes the definition's.
 -- Assumes nothing.
-use mathlib.Core.Path.{_≡_}
-use mathlib.Core.Bool.{_&&_}
+use mathlib.Core.Path.{_≡_, refl}
+use mathlib.Core.Bool.{Bool, true, false, _&&_, _||_}
 use borrow.Author.Tests.{eq-eqb, ne-eqb}
 use borrow.Author.Needs.{needs}
 use denote.Ref.{now}
@@ -36,18 +36,31 @@ shared-slice-read-if3 c = search needs
 returns-3 : tie.Need-returns-3
 returns-3 c = rw (asked (c .before .before .before .before), eq-eqb _ _ (c .before .before .if2 .left), ne-eqb _ _ (c .if3 .taken))
 
-returns-4 : tie.Need-returns-4
-returns-4 c =
-    let d = c .before .before .before in
-    rw (asked (d .before .before), eq-eqb _ _ (d .if2 .left), eq-eqb _ _ (c .before .if3 .left), c .if4 .taken)
-
 number32-requires : tie.Need-number32-requires
 number32-requires c κs = search needs
 
+-- whether the address may be 0 is asked last: it seldom is, whatever R of the record says
+any-true : (z : Bool) → true ≡ (z || true)
+any-true true = refl
+any-true false = refl
+
+any-false : (z : Bool) → z ≡ (z || false)
+any-false true = refl
+any-false false = refl
+
+returns-4 : tie.Need-returns-4
+returns-4 c =
+    let n = c .before in
+    let d = n .before .before .before in
+    rw (asked (d .before .before), eq-eqb _ _ (d .if2 .left), eq-eqb _ _ (n .before .if3 .left), ← n .number32 .ensures, ne-eqb _ _ (c .if4 .taken))
+    (any-true (d .before .before .before .before .args .zero-allowed))
+
 returns-5 : tie.Need-returns-5
 returns-5 c =
-    let d = c .before .before .before .before in
-    rw (asked (d .before .before), eq-eqb _ _ (d .if2 .left), eq-eqb _ _ (c .before .before .if3 .left), c .before .if4 .left, c .number32 .ensures)
+    let n = c .before in
+    let d = n .before .before .before in
+    rw (asked (d .before .before), eq-eqb _ _ (d .if2 .left), eq-eqb _ _ (n .before .if3 .left), ← n .number32 .ensures, eq-eqb _ _ (c .if4 .left))
+    (any-false (d .before .before .before .before .args .zero-allowed))
 
 pub is-source-spec : {M : Type 1} → statement M
 is-source-spec =
@@ -58,6 +71,6 @@ is-source-spec =
     returns-2
     shared-slice-read-if3
     returns-3
-    returns-4
     number32-requires
+    returns-4
     returns-5)
