@@ -5,13 +5,16 @@
 --     be-suc, length-be, be-above                           the octets of a number: by the first, how many, and that what stands above them does not show
 --     value-be, value-be-mod, be-value                      both ways: from a number and back, of any number the rest, from octets and back
 --     put-nil, length-put, octets-put                       a write of nothing; a write keeps the length, and a list of octets
---     put-put, put-next, put-before                         two writes in a row are one; the same for two calls, by what each promised, in either order
+--     put-put, put-next, put-number-next, put-before        two writes in a row are one; the same for two calls, by what each promised, in either order
 --     take-put, drop-put, take-put-end, drop-put-end        what stands up to the end of a write and past it: at the start, and at any place
 --     part-put, field-put                                   what was written is read back: octets, and a field
 --     stores-put, lows-be, taken-be, put-number             stores one by one are a write; the octets as code takes them are those of the number
 --     number-is, number-short                               a number by its octets, and where fewer are there
 --     number-part, number-cut                               a number in a part, by its place in the whole; and where the part is that number
---     put-copied                                            the octets of a number stored as they stand
+--     number-split, be-two, value-first                     a number in two parts, as octets and back, and by its first octet
+--     part-octets, put-copied                               the octets of a number as they stand, and stored so
+--     copied-stores, copied-few, copied-none                a copy of k octets, by the stores that make it, and where either has fewer
+--     copied-part, copied-number                            a copy from a part into a part that was lent, as a write into the whole
 --     octets-there, octets-short, octets-back               a reader of octets, by whether they are there, and what it got
 --     number-there, number-back, number-bad, number-lt      a reader of a number
 --     ignored-got, ignored-bad                              a reader of octets that are skipped
@@ -21,10 +24,10 @@
 --     write-back, length-fitted                             and from a writer's
 -- Assumes nothing.
 use mathlib.Core.Path.{_≡_, refl, sym, ap, ap₂, _∙_}
-use mathlib.Core.Bool.{Bool, true, false, cond}
+use mathlib.Core.Bool.{Bool, true, false, _&&_, cond}
 use mathlib.Core.List.{List, [], _∷_, _++_, append-assoc, append-nil}
 use Prim.Native.Nat.{ℕ, zero, suc, _+_, _-_, _*_, _/_, _%_, _^_, _≤_, _<_}
-use native.Mathlib.Nat.{add-zero, add-suc, zero-add, mul-assoc, add-mul, add-assoc, one-le-pow, zero-lt-suc, pow-succ', mod-one, mod-lt, mod-eq-of-lt, div-one, div-lt-iff-lt-mul, mul-add-div-right, mul-add-mod-self-right}
+use native.Mathlib.Nat.{add-zero, add-suc, add-comm, div-div-eq-div-mul, zero-add, mul-assoc, add-mul, add-assoc, one-le-pow, zero-lt-suc, pow-succ', mod-one, mod-lt, mod-eq-of-lt, div-one, div-lt-iff-lt-mul, mul-add-div-right, mul-add-mod-self-right}
 use native.Mathlib.Decide.{decLe}
 use native.Mathlib.Omega.{arith}
 use lib.Arith.{digits-lt, digits-div, mod-mul}
@@ -33,7 +36,8 @@ use lib.Pow.{pow-add}
 use lib.ListN.{length, getD, set, take, drop, length-append, length-take, length-drop, take-append-drop, drop-of-length-le}
 use lib.Seq.{sets, sets-eq, take-add, take-all, take-at, take-take, take-append-le, drop-at, drop-cons, drop-drop, getD-drop, length-take-le}
 use borrow.Author.Tests.{le-leb, lt-leb, leb-true}
-use Rattle.octets.specs.Octets.{Octets, value, numberAt, be, put}
+use borrow.Rule.Slice.PartMut.{putMid}
+use Rattle.octets.specs.Octets.{Octets, value, numberAt, be, put, copied}
 use Rattle.octets.specs.Reader.{Read, got, bad, continue, _>>=_, _>>_, give, octets, number}
 use Rattle.octets.specs.Field.{fieldOf, placeOf, ignored, writtenOf, written, fitted}
 use Rattle.octets.specs.declared.Field.{Field}
@@ -192,6 +196,11 @@ put-put d at e f =
 pub put-next : (l : List ℕ) (at : ℕ) (e f : List ℕ) {m n : List ℕ} {k : ℕ} → m ≡ put l at e → n ≡ put m k f → k ≡ at + length e → n ≡ put l at (e ++ f)
 put-next l at e f p q r = q ∙ rw (p, r) (put-put l at e f)
 
+-- the same past a number
+pub put-number-next : (k : ℕ) (d : List ℕ) (at n : ℕ) (f : List ℕ) {d′ d″ : List ℕ} {at′ : ℕ} → d′ ≡ put d at (be k n) → d″ ≡ put d′ at′ f → at′ ≡ at + k
+    → d″ ≡ put d at (be k n ++ f)
+put-number-next k d at n f p q r = put-next d at (be k n) f p q (rw length-be r)
+
 -- octets before those that stand where they end
 pub put-before : (l : List ℕ) (at : ℕ) (e f : List ℕ) {m n : List ℕ} {k : ℕ} → m ≡ put l k f → n ≡ put m at e → k ≡ at + length e → k ≤ length l → n ≡ put l at (e ++ f)
 put-before l at e f p q r h =
@@ -293,15 +302,90 @@ number-part o from n there k at p e h =
 pub number-cut : (k : ℕ) (o : List ℕ) (at end : ℕ) → end ≡ at + k → end ≤ length o → numberAt k (take (end - at) (drop at o)) 0 ≡ numberAt k o at
 number-cut k o at end e there = number-part o at (end - at) (omega arith) k 0 at (omega arith) (omega arith)
 
+-- a number in two parts
+pub number-split : (j k : ℕ) (o : List ℕ) (at : ℕ) → at + (j + k) ≤ length o → numberAt (j + k) o at ≡ numberAt j o at * 256 ^ k + numberAt k o (at + j)
+unfolding numberAt
+number-split j k o at h =
+    let rest : length (take k (drop j (drop at o))) ≡ k = length-take-le k (drop j (drop at o)) (simp length-drop (omega arith)) in
+    rw (take-add, value-append, rest, drop-drop)
+
+pub be-two : (j k h l : ℕ) → l < 256 ^ k → be (j + k) (h * 256 ^ k + l) ≡ be j h ++ be k l
+unfolding be
+be-two zero k h l s = rw zero-add (be-above k h l)
+be-two (suc j) k h l s =
+    let e : suc j + k ≡ suc (j + k) = omega arith in
+    let first : (h * 256 ^ k + l) / 256 ^ (j + k) ≡ h / 256 ^ j =
+    rw (add-comm j k, pow-add) (sym (div-div-eq-div-mul (h * 256 ^ k + l) (256 ^ k) (256 ^ j)) ∙ ap (λ x. x / 256 ^ j) (digits-div h s)) in
+    rw (e, be-suc, first, be-two j k h l s)
+
+-- the first octet of a number
+pub value-first : (k : ℕ) (o : List ℕ) → Octets o → length o ≡ suc k → value o / 256 ^ k ≡ getD o 0 0
+unfolding value
+value-first k [] h e = absurd (no-zero e)
+  where
+    no-zero : 0 ≡ suc k → ⊥
+    no-zero p = omega arith
+value-first k (x ∷ o) h e =
+    let l : length o ≡ k = omega arith in
+    rw (← l) (digits-div x (value-lt o (octets-tail x o h)))
+
+pub part-octets : (k : ℕ) (o : List ℕ) (at : ℕ) → Octets o → at + k ≤ length o → be k (numberAt k o at) ≡ take k (drop at o)
+unfolding numberAt
+part-octets k o at octet there =
+    let part : List ℕ = take k (drop at o) in
+    let long : length part ≡ k = length-take-le k (drop at o) (simp length-drop (omega arith)) in
+    ap (λ n. be n (value part)) (sym long) ∙ be-value part (octets-take k (drop at o) (octets-drop at o octet))
+
+stores-part : (k : ℕ) (o d : List ℕ) (at out : ℕ) → at + k ≤ length o → out + k ≤ length d → stores d out 0 (octetsFrom o at 0 k) ≡ put d out (take k (drop at o))
+stores-part k o d at out there room =
+    let is : octetsFrom o at 0 k ≡ take k (drop at o) = from-part o at 0 k (omega arith) ∙ ap (λ x. take k (drop x o)) (add-zero at) in
+    let long : length (take k (drop at o)) ≡ k = length-take-le k (drop at o) (simp length-drop (omega arith)) in
+    ap (stores d out 0) is ∙ stores-put d out (take k (drop at o)) (rw long room)
+
 pub put-copied : (k : ℕ) (o d : List ℕ) (at out : ℕ) → Octets o → at + k ≤ length o → out + k ≤ length d
     → stores d out 0 (octetsFrom o at 0 k) ≡ put d out (be k (numberAt k o at))
-unfolding numberAt
-put-copied k o d at out octet there room =
-    let part : List ℕ = take k (drop at o) in
-    let is : octetsFrom o at 0 k ≡ part = from-part o at 0 k (omega arith) ∙ ap (λ x. take k (drop x o)) (add-zero at) in
-    let long : length part ≡ k = length-take-le k (drop at o) (simp length-drop (omega arith)) in
-    let back : be k (value part) ≡ part = ap (λ n. be n (value part)) (sym long) ∙ be-value part (octets-take k (drop at o) (octets-drop at o octet)) in
-    ap (stores d out 0) is ∙ (stores-put d out part (rw long room) ∙ ap (put d out) (sym back))
+put-copied k o d at out octet there room = stores-part k o d at out there room ∙ ap (put d out) (sym (part-octets k o at octet there))
+
+-- ---- octets copied
+
+pub copied-all : (k : ℕ) (s d : List ℕ) → k ≤ length s → k ≤ length d → copied k s d ≡ put d 0 (take k s)
+unfolding copied
+copied-all k s d there room = rw (le-leb _ _ there, le-leb _ _ room)
+
+pub copied-stores : (k : ℕ) (s d : List ℕ) → k ≤ length s → k ≤ length d → stores d 0 0 (octetsFrom s 0 0 k) ≡ copied k s d
+copied-stores k s d there room = stores-part k s d 0 0 (omega arith) (omega arith) ∙ sym (copied-all k s d there room)
+
+pub copied-few : (k : ℕ) (s d : List ℕ) → length s < k → d ≡ copied k s d
+unfolding copied
+copied-few k s d h = rw (lt-leb _ _ h)
+
+pub copied-none : (k : ℕ) (s d : List ℕ) → length d < k → d ≡ copied k s d
+unfolding copied
+copied-none k s d h = go (leb k (length s))
+  where
+    go : (b : Bool) → d ≡ cond (b && leb k (length d)) (put d 0 (take k s)) d
+    go true = rw (lt-leb _ _ h)
+    go false = refl
+
+-- from the part between two places into the part between two others, which comes back as putMid has it
+pub copied-part : (k : ℕ) (s d : List ℕ) (at end out past : ℕ) → end ≡ at + k → past ≡ out + k → end ≤ length s → past ≤ length d
+    → putMid out (past - out) d (copied k (take (end - at) (drop at s)) (take (past - out) (drop out d))) ≡ put d out (take k (drop at s))
+unfolding put
+copied-part k s d at end out past e p there room =
+    let n : end - at ≡ k = omega arith in
+    let m : past - out ≡ k = omega arith in
+    let long : length (take k (drop at s)) ≡ k = length-take-le k (drop at s) (simp length-drop (omega arith)) in
+    let wide : length (take k (drop out d)) ≡ k = length-take-le k (drop out d) (simp length-drop (omega arith)) in
+    let whole : copied k (take k (drop at s)) (take k (drop out d)) ≡ take k (drop at s) =
+    copied-all k (take k (drop at s)) (take k (drop out d)) (omega arith) (omega arith)
+    ∙ rw (put-eq (take k (drop out d)) 0 (take k (take k (drop at s))), take-take k k (drop at s) (omega arith), long, zero-add, drop-of-length-le (take k (drop out d)) {i = k} (omega arith), append-nil) refl in
+    rw (n, m, whole, long, drop-drop) refl
+
+-- the same of a number's octets
+pub copied-number : (k : ℕ) (s d : List ℕ) (at end out past : ℕ) → Octets s → end ≡ at + k → past ≡ out + k → end ≤ length s → past ≤ length d
+    → putMid out (past - out) d (copied k (take (end - at) (drop at s)) (take (past - out) (drop out d))) ≡ put d out (be k (numberAt k s at))
+copied-number k s d at end out past octet e p there room =
+    copied-part k s d at end out past e p there room ∙ ap (put d out) (sym (part-octets k s at octet (omega arith)))
 
 -- ---- the readers of octets and of numbers
 

@@ -1,10 +1,10 @@
 // Field readers and writers at any place of a slice: numbers of 8, 16 and 32 bits, big-endian, and octets that
 // are skipped. Each is total: a place from which the field does not fit is answered, and never reached.
-// `number16` and `number32` are for callers who know that the field is there.
+// `number16`, `number32`, `number64`, `copy4` and `copy16` are for callers who know that the octets are there.
 ghost use mathlib.Core.Path.{_≡_};
 ghost use Prim.Native.Nat.{_-_, _<_};
 ghost use lib.ListN.{length};
-ghost use Rattle.octets.specs.Octets.{numberAt, be};
+ghost use Rattle.octets.specs.Octets.{numberAt, be, copied};
 ghost use Rattle.octets.specs.Reader.{number};
 ghost use Rattle.octets.specs.Field.{fieldOf, placeOf, ignored, writtenOf, written, fitted};
 
@@ -146,6 +146,73 @@ pub fn number32(s: &[u8], at: usize) -> u32
         return short_number(s, at, n);
     }
     ((wide(s[at]) * 256 + wide(s[at + 1])) * 256 + wide(s[at + 2])) * 256 + wide(s[at + 3])
+}
+
+// The number in the octets at a place, of which there are fewer than eight.
+fn short_number64(s: &[u8], at: usize, n: usize) -> u64
+    requires { ⌜ (n ≡ length (now s) - at) × (n < 8) ⌝ }
+    ensures { λ r. ⌜ r ≡ numberAt n (now (s .entry)) at ⌝ }
+{
+    let first = number32(s, at) as u64;
+    if n <= 4 {
+        return first;
+    }
+    let rest = short_number(s, at + 4, n - 4) as u64;
+    if n == 5 {
+        return first * 256 + rest;
+    }
+    if n == 6 {
+        return first * 65536 + rest;
+    }
+    first * 16777216 + rest
+}
+
+// The number in the eight octets at a place, or in those that are there.
+pub fn number64(s: &[u8], at: usize) -> u64
+    ensures { λ r. ⌜ r ≡ numberAt 8 (now (s .entry)) at ⌝ }
+{
+    let n = left(s.len(), at);
+    if n < 8 {
+        return short_number64(s, at, n);
+    }
+    (number32(s, at) as u64) * 4294967296 + (number32(s, at + 4) as u64)
+}
+
+// The first four octets of one slice, stored over those of another. They are read before the first is stored: the
+// compiler does not know that the two are apart. Lend parts of four: their lengths are then not tested.
+pub fn copy4(s: &[u8], d: &mut [u8])
+    ensures { λ _. ⌜ now (d .exit) ≡ copied 4 (now (s .entry)) (now (d .entry)) ⌝ }
+{
+    if s.len() < 4 {
+        return;
+    }
+    if d.len() < 4 {
+        return;
+    }
+    let a = s[0];
+    let b = s[1];
+    let c = s[2];
+    let e = s[3];
+    d[0] = a;
+    d[1] = b;
+    d[2] = c;
+    d[3] = e;
+}
+
+// The same with sixteen octets.
+pub fn copy16(s: &[u8], d: &mut [u8])
+    ensures { λ _. ⌜ now (d .exit) ≡ copied 16 (now (s .entry)) (now (d .entry)) ⌝ }
+{
+    if s.len() < 16 {
+        return;
+    }
+    if d.len() < 16 {
+        return;
+    }
+    copy4(&s[0..4], &mut d[0..4]);
+    copy4(&s[4..8], &mut d[4..8]);
+    copy4(&s[8..12], &mut d[8..12]);
+    copy4(&s[12..16], &mut d[12..16]);
 }
 
 pub fn write8(d: &mut [u8], at: usize, n: u8) -> Written
