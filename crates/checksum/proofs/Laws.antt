@@ -8,20 +8,24 @@
 --     sum-le              the sum of octets is a word
 --     checksum-le         a checksum is a word
 --     checksum-field      the checksum does not look at its own field
+--     sum-after           octets after whole words are summed on
+--     eight-summed        the words of a number of eight octets, as code takes them
 --     holds-true          a message whose sum is 0xFFFF holds
 --     holds-sum           and back
---     sum-checksum        octets with their checksum written into the field sum to 0xFFFF
+--     sum-checksum        octets with their checksum written into the field sum to 0xFFFF: by themselves, after an earlier sum
+--                         (sum-checksum-from), and after an even number of octets that are not sent (sum-checksum-after)
 -- Assumes nothing.
 use mathlib.Core.Path.{_≡_, refl, ap, sym, _∙_}
 use mathlib.Core.Bool.{true}
-use mathlib.Core.List.{List, [], _∷_}
-use Prim.Native.Nat.{ℕ, zero, suc, _+_, _-_, _*_, _/_, _%_, _≤_, _<_}
+use mathlib.Core.List.{List, [], _∷_, _++_}
+use Prim.Native.Nat.{ℕ, zero, suc, _+_, _-_, _*_, _/_, _%_, _^_, _≤_, _<_}
 use native.Mathlib.Omega.{arith}
 use native.Mathlib.Nat.{mod-add-mod, add-assoc, zero-add}
 use borrow.Author.Tests.{eq-eqb, eqb-true}
 use lib.ListN.{length, getD, take}
 use lib.Seq.{take-length}
-use Rattle.checksum.specs.Sum.{words, add, sumFrom, sum, checksum, holds}
+use Rattle.octets.specs.Octets.{be}
+use Rattle.checksum.specs.Sum.{words, add, sumFrom, sum, checksumFrom, holdsFrom, checksum, holds}
 
 pub add-le : (a b : ℕ) → a ≤ 65535 → b ≤ 65535 → add a b ≤ 65535
 unfolding add
@@ -75,21 +79,67 @@ pub sum-le : (o : List ℕ) → ((i : ℕ) → getD o i 0 < 256) → sum o ≤ 6
 unfolding sum
 sum-le o h = sumFrom-le (words o) 0 (omega arith) (getD-words-le o h)
 
+pub checksum-from-le : (start : ℕ) (o : List ℕ) → checksumFrom start o ≤ 65535
+unfolding checksumFrom
+checksum-from-le start o = omega arith
+
 pub checksum-le : (o : List ℕ) → checksum o ≤ 65535
 unfolding checksum
-checksum-le o = omega arith
+checksum-le o = checksum-from-le 0 o
 
 pub checksum-field : (a b x y x′ y′ : ℕ) (body : List ℕ) → checksum (a ∷ b ∷ x ∷ y ∷ body) ≡ checksum (a ∷ b ∷ x′ ∷ y′ ∷ body)
-unfolding checksum words
+unfolding checksum checksumFrom words
 checksum-field a b x y x′ y′ body = refl
 
 pub holds-true : (o : List ℕ) → sum o ≡ 65535 → holds o ≡ true
-unfolding holds
-holds-true o e = eq-eqb (sum o) 65535 e
+unfolding holds holdsFrom sum
+holds-true o e = eq-eqb (sumFrom 0 (words o)) 65535 e
 
 pub holds-sum : (o : List ℕ) → holds o ≡ true → sum o ≡ 65535
-unfolding holds
-holds-sum o e = eqb-true (sum o) 65535 e
+unfolding holds holdsFrom sum
+holds-sum o e = eqb-true (sumFrom 0 (words o)) 65535 e
+
+-- ---- octets after others
+
+-- whole words before other octets
+words-append : (k : ℕ) (a b : List ℕ) → length a ≡ 2 * k → words (a ++ b) ≡ words a ++ words b
+unfolding words
+words-append k [] b e = refl
+words-append k (x ∷ []) b e = absurd (odd k e)
+  where
+    odd : (k : ℕ) → 1 ≡ 2 * k → ⊥
+    odd k p = omega arith
+words-append zero (x ∷ y ∷ a) b e = absurd (none e)
+  where
+    none : suc (suc (length a)) ≡ 2 * 0 → ⊥
+    none p = omega arith
+words-append (suc k) (x ∷ y ∷ a) b e = ap (λ l. (x * 256 + y) ∷ l) (words-append k a b (omega arith))
+
+sumFrom-append : (acc : ℕ) (a b : List ℕ) → sumFrom acc (a ++ b) ≡ sumFrom (sumFrom acc a) b
+unfolding sumFrom
+sumFrom-append acc [] b = refl
+sumFrom-append acc (x ∷ a) b = sumFrom-append (add acc x) a b
+
+pub sum-after : (k acc : ℕ) (a b : List ℕ) → length a ≡ 2 * k → sumFrom acc (words (a ++ b)) ≡ sumFrom (sumFrom acc (words a)) (words b)
+sum-after k acc a b e = rw (words-append k a b e) (sumFrom-append acc (words a) (words b))
+
+-- the words of a number of eight octets, as code takes them
+words-eight : (n : ℕ) → n < 18446744073709551616
+    → words (be 8 n) ≡ n / 281474976710656 ∷ (n / 4294967296 % 65536) ∷ (n / 65536 % 65536) ∷ n % 65536 ∷ []
+unfolding words be
+words-eight n h =
+    let a : n / 256 ^ 7 % 256 * 256 + n / 256 ^ 6 % 256 ≡ n / 281474976710656 = omega arith in
+    let b : n / 256 ^ 5 % 256 * 256 + n / 256 ^ 4 % 256 ≡ n / 4294967296 % 65536 = omega arith in
+    let c : n / 256 ^ 3 % 256 * 256 + n / 256 ^ 2 % 256 ≡ n / 65536 % 65536 = omega arith in
+    let d : n / 256 ^ 1 % 256 * 256 + n / 256 ^ 0 % 256 ≡ n % 65536 = omega arith in
+    rw (a, b, c, d)
+
+pub eight-summed : (start n a b c d : ℕ) → n < 18446744073709551616 → a ≡ add start (n / 281474976710656) → b ≡ add a (n / 4294967296 % 65536)
+    → c ≡ add b (n / 65536 % 65536) → d ≡ add c (n % 65536) → d ≡ sumFrom start (words (be 8 n))
+unfolding sumFrom
+eight-summed start n a b c d h p q r s = rw (words-eight n h) (s ∙ ap (λ x. add x (n % 65536)) (r ∙ ap (λ x. add x (n / 65536 % 65536)) (q ∙ ap (λ x. add x (n / 4294967296 % 65536)) p)))
+
+-- ---- the checksum in its field
 
 -- A sum of words is the plain sum of the same words, normed: so their order is free, and the checksum can be added last.
 
@@ -145,31 +195,47 @@ two-le u v ws hu hv h zero = hu
 two-le u v ws hu hv h (suc zero) = hv
 two-le u v ws hu hv h (suc (suc i)) = h i
 
-sumFrom-two : (u v : ℕ) (ws : List ℕ) → u ≤ 65535 → v ≤ 65535 → ((i : ℕ) → getD ws i 0 ≤ 65535)
-    → sumFrom 0 (u ∷ v ∷ ws) ≡ norm (u + (v + total ws))
-unfolding total
-sumFrom-two u v ws hu hv h =
-    sumFrom-norm (u ∷ v ∷ ws) 0 (omega arith) (two-le u v ws hu hv h)
-    ∙ ap norm (zero-add (u + (v + total ws)))
+-- words whose sum goes on from an earlier one
+module _ (start : ℕ) (hs : start ≤ 65535) where
+  sumFrom-two : (u v : ℕ) (ws : List ℕ) → u ≤ 65535 → v ≤ 65535 → ((i : ℕ) → getD ws i 0 ≤ 65535)
+      → sumFrom start (u ∷ v ∷ ws) ≡ norm (start + u + (v + total ws))
+  unfolding total
+  sumFrom-two u v ws hu hv h =
+      sumFrom-norm (u ∷ v ∷ ws) start hs (two-le u v ws hu hv h)
+      ∙ ap norm (sym (add-assoc start u (v + total ws)))
 
-checksum-norm : (a b x y : ℕ) (body : List ℕ) → a * 256 + b ≤ 65535 → ((i : ℕ) → getD (words body) i 0 ≤ 65535)
-    → checksum (a ∷ b ∷ x ∷ y ∷ body) ≡ 65535 - norm (a * 256 + b + total (words body))
-unfolding checksum words
-checksum-norm a b x y body hu hs =
-    ap (λ (n : ℕ). 65535 - n)
-    (sumFrom-two (a * 256 + b) 0 (words body) hu (omega arith) hs
-    ∙ ap (λ (n : ℕ). norm (a * 256 + b + n)) (zero-add (total (words body))))
+  checksum-norm : (a b x y : ℕ) (body : List ℕ) → a * 256 + b ≤ 65535 → ((i : ℕ) → getD (words body) i 0 ≤ 65535)
+      → checksumFrom start (a ∷ b ∷ x ∷ y ∷ body) ≡ 65535 - norm (start + (a * 256 + b) + total (words body))
+  unfolding checksumFrom words
+  checksum-norm a b x y body hu h =
+      ap (λ (n : ℕ). 65535 - n)
+      (sumFrom-two (a * 256 + b) 0 (words body) hu (omega arith) h
+      ∙ ap (λ (n : ℕ). norm (start + (a * 256 + b) + n)) (zero-add (total (words body))))
 
-sum-filled : (a b c : ℕ) (body : List ℕ) → a * 256 + b ≤ 65535 → ((i : ℕ) → getD (words body) i 0 ≤ 65535) → c ≤ 65535
-    → c ≡ 65535 - norm (a * 256 + b + total (words body)) → sum (a ∷ b ∷ c / 256 ∷ c % 256 ∷ body) ≡ 65535
-unfolding sum words
-sum-filled a b c body hu hs hc e =
-    let f : c / 256 * 256 + c % 256 ≡ c = omega arith in
-    rw f (sumFrom-two (a * 256 + b) c (words body) hu hc hs ∙ norm-complement (a * 256 + b) c (total (words body)) e)
+  sum-filled : (a b c : ℕ) (body : List ℕ) → a * 256 + b ≤ 65535 → ((i : ℕ) → getD (words body) i 0 ≤ 65535) → c ≤ 65535
+      → c ≡ 65535 - norm (start + (a * 256 + b) + total (words body)) → sumFrom start (words (a ∷ b ∷ c / 256 ∷ c % 256 ∷ body)) ≡ 65535
+  unfolding words
+  sum-filled a b c body hu h hc e =
+      let f : c / 256 * 256 + c % 256 ≡ c = omega arith in
+      rw f (sumFrom-two (a * 256 + b) c (words body) hu hc h ∙ norm-complement (start + (a * 256 + b)) c (total (words body)) e)
+
+  pub sum-checksum-from : (a b x y : ℕ) (body : List ℕ) → ((i : ℕ) → getD (a ∷ b ∷ x ∷ y ∷ body) i 0 < 256)
+      → sumFrom start (words (a ∷ b ∷ checksumFrom start (a ∷ b ∷ x ∷ y ∷ body) / 256 ∷ checksumFrom start (a ∷ b ∷ x ∷ y ∷ body) % 256 ∷ body)) ≡ 65535
+  sum-checksum-from a b x y body h =
+      let hu : a * 256 + b ≤ 65535 = omega (arith, h 0, h 1) in
+      let hw : (i : ℕ) → getD (words body) i 0 ≤ 65535 = getD-words-le body (λ i. h (suc (suc (suc (suc i))))) in
+      sum-filled a b (checksumFrom start (a ∷ b ∷ x ∷ y ∷ body)) body hu hw (checksum-from-le start (a ∷ b ∷ x ∷ y ∷ body)) (checksum-norm a b x y body hu hw)
 
 pub sum-checksum : (a b x y : ℕ) (body : List ℕ) → ((i : ℕ) → getD (a ∷ b ∷ x ∷ y ∷ body) i 0 < 256)
     → sum (a ∷ b ∷ checksum (a ∷ b ∷ x ∷ y ∷ body) / 256 ∷ checksum (a ∷ b ∷ x ∷ y ∷ body) % 256 ∷ body) ≡ 65535
-sum-checksum a b x y body h =
-    let hu : a * 256 + b ≤ 65535 = omega (arith, h 0, h 1) in
-    let hs : (i : ℕ) → getD (words body) i 0 ≤ 65535 = getD-words-le body (λ i. h (suc (suc (suc (suc i))))) in
-    sum-filled a b (checksum (a ∷ b ∷ x ∷ y ∷ body)) body hu hs (checksum-le (a ∷ b ∷ x ∷ y ∷ body)) (checksum-norm a b x y body hu hs)
+unfolding sum checksum
+sum-checksum = sum-checksum-from 0 (omega arith)
+
+-- with an even number of octets before the message, which are summed and not sent
+pub sum-checksum-after : (k : ℕ) (front : List ℕ) → length front ≡ 2 * k → ((i : ℕ) → getD front i 0 < 256)
+    → (a b x y : ℕ) (body : List ℕ) → ((i : ℕ) → getD (a ∷ b ∷ x ∷ y ∷ body) i 0 < 256)
+    → sum (front ++ (a ∷ b ∷ checksumFrom (sum front) (a ∷ b ∷ x ∷ y ∷ body) / 256 ∷ checksumFrom (sum front) (a ∷ b ∷ x ∷ y ∷ body) % 256 ∷ body)) ≡ 65535
+unfolding sum
+sum-checksum-after k front e octets a b x y body h =
+    sum-after k 0 front (a ∷ b ∷ checksumFrom (sum front) (a ∷ b ∷ x ∷ y ∷ body) / 256 ∷ checksumFrom (sum front) (a ∷ b ∷ x ∷ y ∷ body) % 256 ∷ body) e
+    ∙ sum-checksum-from (sum front) (sum-le front octets) a b x y body h

@@ -6,6 +6,7 @@
 --     sum           the one's complement sum of octets
 --     checksum      what the checksum field of a message holds
 --     holds         a message's sum is 0xFFFF
+--     checksumFrom, holdsFrom     the same after octets that were summed before and are not sent, as a pseudo-header is
 -- The laws of these are in proofs/Laws.antt. Assumes nothing: these are definitions.
 use Prim.Native.Nat.{ℕ, _+_, _-_, _*_, _/_, _%_}
 use mathlib.Core.Bool.{Bool}
@@ -32,8 +33,14 @@ unfoldable pub sum : List ℕ → ℕ
 sum o = sumFrom 0 (words o)
 
 -- the field is word 1 of a message, octets 2 and 3; the complement of the sum with the field as 0
+unfoldable pub checksumFrom : ℕ → List ℕ → ℕ
+checksumFrom start o = 0xffff - sumFrom start (set (words o) 1 0)
+
+unfoldable pub holdsFrom : ℕ → List ℕ → Bool
+holdsFrom start o = eqb (sumFrom start (words o)) 0xffff
+
 unfoldable pub checksum : List ℕ → ℕ
-checksum o = 0xffff - sumFrom 0 (set (words o) 1 0)
+checksum o = checksumFrom 0 o
 
 unfoldable pub holds : List ℕ → Bool
-holds o = eqb (sum o) 0xffff
+holds o = holdsFrom 0 o

@@ -3,6 +3,7 @@
 --     zeros-written       and so of every run of the records that stand for entries
 --     one-zero            with addresses of 4 octets: 01's sentence, of a run
 --     one-zero-written    and of everything that is written for any entries
+--     three-shorter, three-sizes, three-zeros-written     with addresses of 16 octets: exactly one, two and three zeros
 -- Assumes nothing.
 use Prim.Native.Nat.{ℕ, zero, suc, _+_, _*_, _≤_, _<_}
 use native.Mathlib.Omega.{arith}
@@ -15,6 +16,7 @@ use borrow.Author.Tests.{eqb-true}
 use Rattle.records.specs.Records.{AssertRecord, GroupRecord, ofGroup, rBit}
 use Rattle.records.specs.Runs.{Run, run, ofRun, runs}
 use Rattle.records.specs.Joining.{together, sameGroup, allZero, groupRecords, allGroupRecords, aggregated, joined}
+use Rattle.records.specs.Sizes.{groupRecordSize}
 use Rattle.records.specs.NoSources.{OneZero, Zeros, Shorter, Groups, end, next, Written, source, rp}
 use Rattle.records.proofs.Joining.{aggregated-rp, aggregated-source, group-few, groupRecords-elim}
 
@@ -27,6 +29,10 @@ all-zeros (s ∷ ss) z =
     let k = and-eq-true-iff _ _ .0 z in
     ap₂ {C = List ℕ} (λ x l. x ∷ l) (eqb-true s 0 (k .0)) (all-zeros ss (k .1))
 
+zeros-are-not : allZero [] ≡ false → ⊥
+unfolding allZero
+zeros-are-not h = let never : _≡_ {A = ℕ} 0 1 = cc in omega arith
+
 zeros-are : (z : ℕ) → allZero (replicate z 0) ≡ true
 unfolding allZero
 zeros-are zero = refl
@@ -37,14 +43,37 @@ few-zeros w g z h =
     let n : length {A = ℕ} (replicate z 0) ≡ z = length-replicate z 0 in
     group-few w g (replicate z 0) (zeros-are z) (omega arith) ∙ ap (λ (k : ℕ). replicate k (ofGroup g [])) n
 
+-- a list with a first element is not empty
+no-cons : {A : Type 0} {a : A} {l : List A} → a ∷ l ≡ [] → ⊥
+no-cons e = let never : _≡_ {A = ℕ} 0 1 = cc in omega arith
+
+-- one group record with sources is not several without
+not-apart : (g z s : ℕ) (ss : List ℕ) → ofGroup g (s ∷ ss) ∷ [] ≡ replicate z (ofGroup g []) → ⊥
+not-apart g zero s ss e = no-cons e
+not-apart g (suc z) s ss e = no-cons {a = s} {l = ss} cc
+
 -- few zeros are written apart where that is shorter, and one more is not
 pub zeros : (w few : ℕ) → Shorter w few → (Shorter w (suc few) → ⊥) → (g : ℕ) (ss : List ℕ) → Zeros few g ss (groupRecords w g ss)
 zeros w few short long g ss = record {
   none = λ z h e. rw e (few-zeros w g z (omega (arith, short, h)));
+  only = λ z.
+      groupRecords-elim w g ss (λ rs. rs ≡ replicate z (ofGroup g []) → (ss ≡ replicate z 0) × (z ≤ few))
+      (λ all h e.
+        let n : length ss ≡ z = sym (length-replicate (length ss) (ofGroup g [])) ∙ ap length e ∙ length-replicate z (ofGroup g []) in
+        (all-zeros ss all ∙ ap (λ (k : ℕ). replicate k 0) n, omega (arith, long, h)))
+      (λ all h e. absurd (many z ss h e)) (λ none e. absurd (other z ss none e));
   all = λ not.
       groupRecords-elim w g ss (λ rs. rs ≡ ofGroup g ss ∷ [])
       (λ z h. absurd (not (length ss) (omega (arith, long, h)) (all-zeros ss z))) (λ z h. refl) (λ z. refl);
 }
+  where
+    many : (z : ℕ) (ss : List ℕ) → w + 8 ≤ 6 * length ss → ofGroup g ss ∷ [] ≡ replicate z (ofGroup g []) → ⊥
+    many z [] h e = omega arith
+    many z (s ∷ ss) h e = not-apart g z s ss e
+
+    other : (z : ℕ) (ss : List ℕ) → allZero ss ≡ false → ofGroup g ss ∷ [] ≡ replicate z (ofGroup g []) → ⊥
+    other z [] h e = let never : _≡_ {A = ℕ} 0 1 = absurd (zeros-are-not h) in omega arith
+    other z (s ∷ ss) h e = not-apart g z s ss e
 
 -- ---- everything that is written
 
@@ -74,22 +103,12 @@ zeros-written w few short long = joined-written (Zeros few) w (λ g s ss. zeros 
 
 -- ---- addresses of 4 octets
 
--- a list with a first element is not empty
-no-cons : {A : Type 0} {a : A} {l : List A} → a ∷ l ≡ [] → ⊥
-no-cons e = let never : _≡_ {A = ℕ} 0 1 = cc in omega arith
-
--- whether a run is one zero is decided
-is-one : (s : ℕ) (ss : List ℕ) → Dec (_≡_ {A = List ℕ} (s ∷ ss) (0 ∷ []))
-is-one zero [] = yes refl
-is-one (suc s) [] = no (λ e. let k : suc s ≡ 0 = cc in omega arith)
-is-one s (x ∷ ss) = no (λ e. no-cons {a = x} {l = ss} cc)
-
 -- a run is not empty, so that one zero is few says what 01 says
 zeros-one : (g s : ℕ) (ss : List ℕ) (rs : List GroupRecord) → Zeros 1 g (s ∷ ss) rs → OneZero g (s ∷ ss) rs
 zeros-one g s ss rs h = record {
   none = λ e. h .none 1 (lit≤ tt) e;
-  only = λ e. decided e (is-one s ss);
-  all = all;
+  only = λ e. h .only 1 e .0;
+  all = λ not. h .all (others not);
 }
   where
     others : (_≡_ {A = List ℕ} (s ∷ ss) (0 ∷ []) → ⊥) → (z : ℕ) → z ≤ 1 → _≡_ {A = List ℕ} (s ∷ ss) (replicate z 0) → ⊥
@@ -97,15 +116,21 @@ zeros-one g s ss rs h = record {
     others not (suc zero) k e = not e
     others not (suc (suc z)) k e = omega arith
 
-    all : (_≡_ {A = List ℕ} (s ∷ ss) (0 ∷ []) → ⊥) → rs ≡ ofGroup g (s ∷ ss) ∷ []
-    all not = h .all (others not)
-
-    decided : rs ≡ ofGroup g [] ∷ [] → Dec (_≡_ {A = List ℕ} (s ∷ ss) (0 ∷ [])) → _≡_ {A = List ℕ} (s ∷ ss) (0 ∷ [])
-    decided e (yes is) = is
-    decided e (no not) = let same = sym (all not) ∙ e in absurd (no-cons {a = s} {l = ss} cc)
-
 pub one-zero : (g s : ℕ) (ss : List ℕ) → OneZero g (s ∷ ss) (groupRecords 4 g (s ∷ ss))
 one-zero g s ss = zeros-one g s ss (groupRecords 4 g (s ∷ ss)) (zeros 4 1 (lit< tt) (λ h. omega arith) g (s ∷ ss))
 
 pub one-zero-written : (es : List AssertRecord) → Written OneZero (runs together es) (joined 4 es)
 one-zero-written = joined-written OneZero 4 one-zero
+
+-- ---- addresses of 16 octets
+
+-- "48 and 72 octets against 60 and 78": z zeros apart, and together
+pub three-shorter : (z : ℕ) → ((z ≤ 3) → Shorter 16 z) × (Shorter 16 z → z ≤ 3)
+three-shorter z = ((λ h. omega arith), (λ h. omega arith))
+
+pub three-sizes : (map (λ z. z * groupRecordSize 16 0) (1 ∷ 2 ∷ 3 ∷ []) ≡ 24 ∷ 48 ∷ 72 ∷ []) × (map (groupRecordSize 16) (1 ∷ 2 ∷ 3 ∷ []) ≡ 42 ∷ 60 ∷ 78 ∷ [])
+three-sizes = (refl, refl)
+
+-- so one, two and three zeros are written apart, and no others
+pub three-zeros-written : (es : List AssertRecord) → Written (Zeros 3) (runs together es) (joined 16 es)
+three-zeros-written = zeros-written 16 3 (lit< tt) (λ h. omega arith)

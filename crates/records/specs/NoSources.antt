@@ -25,10 +25,12 @@ pub record OneZero (g : ℕ) (ss : List ℕ) (rs : List GroupRecord) : Type 0 wh
   -- every other is written with all its sources: p is the number of its entries
   pub all : (ss ≡ 0 ∷ [] → ⊥) → rs ≡ ofGroup g ss ∷ []
 
--- With addresses of any width: how many zeros are few is what Shorter says, 1 with addresses of 4 octets.
+-- With addresses of any width: how many zeros are few is what Shorter says, 1 with addresses of 4 octets and 3 with addresses of 16.
 pub record Zeros (few g : ℕ) (ss : List ℕ) (rs : List GroupRecord) : Type 0 where
   -- z entries with source 0, few of them, are z group records with p=0
   pub none : (z : ℕ) → z ≤ few → ss ≡ replicate z 0 → rs ≡ replicate z (ofGroup g [])
+  -- and no others are
+  pub only : (z : ℕ) → rs ≡ replicate z (ofGroup g []) → (ss ≡ replicate z 0) × (z ≤ few)
   -- every other run is one group record with all its sources
   pub all : ((z : ℕ) → z ≤ few → ss ≡ replicate z 0 → ⊥) → rs ≡ ofGroup g ss ∷ []
 

@@ -6,18 +6,6 @@ use borrow.Author.Needs.{needs}
 use Rattle.checksum.proofs.add.Statement.{statement}
 use Rattle.checksum.proofs.add.Tie as tie
 
-sub-if1 : tie.Need-sub-if1
-sub-if1 c = search needs
-
-add-result : tie.Need-add-result
-add-result c = search needs
-
-sub-result : tie.Need-sub-result
-sub-result c = search needs
-
-sub-result-2 : tie.Need-sub-result-2
-sub-result-2 c = search needs
-
 returns : tie.Need-returns
 unfolding add
 returns c = omega arith
@@ -27,4 +15,4 @@ unfolding add
 returns-2 c = omega arith
 
 pub add-spec : {M : Type 1} → statement M
-add-spec = tie.close (tie.spec sub-if1 add-result sub-result sub-result-2 returns returns-2)
+add-spec = tie.close (tie.spec (λ c. search needs) (λ c. search needs) (λ c. search needs) (λ c. search needs) returns returns-2)

@@ -5,12 +5,9 @@ use borrow.Author.Needs.{needs}
 use Rattle.checksum.proofs.sum.Statement.{statement}
 use Rattle.checksum.proofs.sum.Tie as tie
 
-sum-from-requires : tie.Need-sum-from-requires
-sum-from-requires c κs = search needs
-
 returns : tie.Need-returns
 unfolding sum
 returns c = c .sum-from .ensures
 
 pub sum-spec : {M : Type 1} → statement M
-sum-spec = tie.close (tie.spec sum-from-requires returns)
+sum-spec = tie.close (tie.spec (λ c κs. search needs) returns)

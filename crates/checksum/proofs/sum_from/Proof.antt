@@ -18,9 +18,6 @@ Inv-loop s from start end acc₀ i₀ acc i = SoFar s from start i acc
 abbrev μ-loop : tie.MeasureT-loop
 μ-loop s from start end acc₀ i₀ acc i = length s - i
 
-sub-end : tie.Need-sub-end Inv-loop μ-loop
-sub-end c = search needs
-
 sub-end-2 : tie.Need-sub-end-2 Inv-loop μ-loop
 sub-end-2 c = omega arith
 
@@ -38,12 +35,6 @@ add-word c = let t = so-far-there (c .before .before .loop .inv) (c .before .loo
 shared-slice-read-word-2 : tie.Need-shared-slice-read-word-2 Inv-loop μ-loop
 shared-slice-read-word-2 c = let t = so-far-there (c .before .before .before .loop .inv) (c .before .before .loop-test .taken) in search needs
 
-word-requires : tie.Need-word-requires Inv-loop μ-loop
-word-requires c κs = search needs
-
-add-requires : tie.Need-add-requires Inv-loop μ-loop
-add-requires c κs = search needs
-
 add-i : tie.Need-add-i Inv-loop μ-loop
 add-i c = let t = so-far-there (c .before .before .before .before .before .loop .inv) (c .before .before .before .before .loop-test .taken) in search needs
 
@@ -55,15 +46,6 @@ loop-again c =
     let f = c .before .before .before .before .before .loop .inv in
     so-far-next f (so-far-there f (c .before .before .before .before .loop-test .taken)) (c .add .result) (omega arith)
     (c .add .ensures ∙ ap (add _) (c .before .word .ensures))
-
-shared-slice-read-word-3 : tie.Need-shared-slice-read-word-3 Inv-loop μ-loop
-shared-slice-read-word-3 c = search needs
-
-word-requires-2 : tie.Need-word-requires-2 Inv-loop μ-loop
-word-requires-2 c κs = search needs
-
-add-requires-2 : tie.Need-add-requires-2 Inv-loop μ-loop
-add-requires-2 c κs = search needs
 
 returns : tie.Need-returns Inv-loop μ-loop
 returns c =
@@ -80,19 +62,19 @@ sum-from-spec =
     (tie.spec
     Inv-loop
     μ-loop
-    sub-end
+    (λ c. search needs)
     sub-end-2
     loop-holds
     shared-slice-read-word
     add-word
     shared-slice-read-word-2
-    word-requires
-    add-requires
+    (λ c κs. search needs)
+    (λ c κs. search needs)
     add-i
     loop-less
     loop-again
-    shared-slice-read-word-3
-    word-requires-2
-    add-requires-2
+    (λ c. search needs)
+    (λ c κs. search needs)
+    (λ c κs. search needs)
     returns
     returns-2)

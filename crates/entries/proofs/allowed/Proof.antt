@@ -37,17 +37,8 @@ source-is c =
 add-number32 : tie.Need-add-number32
 add-number32 c = omega (arith, there (c .before))
 
-sub-number32 : tie.Need-sub-number32
-sub-number32 c = search needs
-
-part-number32-start : tie.Need-part-number32-start
-part-number32-start c = search needs
-
 part-number32-end : tie.Need-part-number32-end
 part-number32-end c = omega (arith, there (c .before))
-
-number32-requires : tie.Need-number32-requires
-number32-requires c κs = search needs
 
 returns : tie.Need-returns
 returns c =
@@ -66,17 +57,8 @@ add-number32-2 c = omega (arith, there (start (c .before .before)))
 add-number32-3 : tie.Need-add-number32-3
 add-number32-3 c = omega (arith, there (start (c .before .before)))
 
-sub-number32-2 : tie.Need-sub-number32-2
-sub-number32-2 c = search needs
-
-part-number32-start-2 : tie.Need-part-number32-start-2
-part-number32-start-2 c = search needs
-
 part-number32-end-2 : tie.Need-part-number32-end-2
 part-number32-end-2 c = omega (arith, there (start (c .before .before)))
-
-number32-requires-2 : tie.Need-number32-requires-2
-number32-requires-2 c κs = search needs
 
 returns-3 : tie.Need-returns-3
 unfolding mayBeSource
@@ -85,9 +67,6 @@ returns-3 c =
     let n = m .before .before .before .before in
     let a = start n .args in
     rw (allowed-is (a .kind) (now (a .e)) (a .at), ← group-is n, ← source-is m, le-leb _ _ (m .before .before .before .if1 .left), lt-ltb _ _ (m .before .before .if2 .left), ne-eqb _ _ (c .if3 .taken))
-
-zero-allowed-requires : tie.Need-zero-allowed-requires
-zero-allowed-requires c κs = search needs
 
 returns-4 : tie.Need-returns-4
 unfolding mayBeSource
@@ -103,18 +82,18 @@ allowed-spec =
     tie.close
     (tie.spec
     add-number32
-    sub-number32
-    part-number32-start
+    (λ c. search needs)
+    (λ c. search needs)
     part-number32-end
-    number32-requires
+    (λ c κs. search needs)
     returns
     returns-2
     add-number32-2
     add-number32-3
-    sub-number32-2
-    part-number32-start-2
+    (λ c. search needs)
+    (λ c. search needs)
     part-number32-end-2
-    number32-requires-2
+    (λ c κs. search needs)
     returns-3
-    zero-allowed-requires
+    (λ c κs. search needs)
     returns-4)

@@ -22,9 +22,6 @@ Inv-loop kind e start size count i₀ at₀ i at = Looking (entriesFor kind) e (
 abbrev μ-loop : tie.MeasureT-loop
 μ-loop kind e start size count i₀ at₀ i at = count - i
 
-entry-size-requires : tie.Need-entry-size-requires Inv-loop μ-loop
-entry-size-requires c κs = search needs
-
 div-count : tie.Need-div-count Inv-loop μ-loop
 div-count c = omega (arith, c .entry-size .ensures, size-range (c .before .before .args .kind))
 
@@ -82,7 +79,7 @@ first-bad-spec =
     (tie.spec
     Inv-loop
     μ-loop
-    entry-size-requires
+    (λ c κs. search needs)
     div-count
     returns
     mul-at

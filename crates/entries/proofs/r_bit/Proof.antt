@@ -4,11 +4,8 @@ use borrow.Author.Needs.{needs}
 use Rattle.entries.proofs.r_bit.Statement.{statement}
 use Rattle.entries.proofs.r_bit.Tie as tie
 
-number32-requires : tie.Need-number32-requires
-number32-requires c κs = search needs
-
 returns : tie.Need-returns
 returns c = rw (c .number32 .ensures)
 
 pub r-bit-spec : {M : Type 1} → statement M
-r-bit-spec = tie.close (tie.spec number32-requires returns)
+r-bit-spec = tie.close (tie.spec (λ c κs. search needs) returns)

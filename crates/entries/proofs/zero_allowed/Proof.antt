@@ -6,55 +6,25 @@ use Rattle.entries.specs.Kinds.{zeroFor}
 use Rattle.entries.proofs.zero_allowed.Statement.{statement}
 use Rattle.entries.proofs.zero_allowed.Tie as tie
 
-enum-told : tie.Need-enum-told
-enum-told c = search needs
-
-add-r-bit : tie.Need-add-r-bit
-add-r-bit c = search needs
-
 r-bit-requires : tie.Need-r-bit-requires
 r-bit-requires c κs =
     let h = rw (c .enum-told .given .1) at (c .before .before .before .pre) in
     omega arith
-
-enum-told-2 : tie.Need-enum-told-2
-enum-told-2 c = search needs
-
-add-r-bit-2 : tie.Need-add-r-bit-2
-add-r-bit-2 c = search needs
 
 r-bit-requires-2 : tie.Need-r-bit-requires-2
 r-bit-requires-2 c κs =
     let h = rw (c .enum-told2 .given .1) at (c .before .before .before .pre) in
     omega arith
 
-enum-told-3 : tie.Need-enum-told-3
-enum-told-3 c = search needs
-
-add-r-bit-3 : tie.Need-add-r-bit-3
-add-r-bit-3 c = search needs
-
 r-bit-requires-3 : tie.Need-r-bit-requires-3
 r-bit-requires-3 c κs =
     let h = rw (c .enum-told3 .given .1) at (c .before .before .before .pre) in
     omega arith
 
-enum-told-4 : tie.Need-enum-told-4
-enum-told-4 c = search needs
-
-add-r-bit-4 : tie.Need-add-r-bit-4
-add-r-bit-4 c = search needs
-
 r-bit-requires-4 : tie.Need-r-bit-requires-4
 r-bit-requires-4 c κs =
     let h = rw (c .enum-told4 .given .1) at (c .before .before .before .pre) in
     omega arith
-
-enum-told-5 : tie.Need-enum-told-5
-enum-told-5 c = search needs
-
-enum-told-6 : tie.Need-enum-told-6
-enum-told-6 c = search needs
 
 returns : tie.Need-returns
 unfolding zeroFor
@@ -84,20 +54,20 @@ pub zero-allowed-spec : {M : Type 1} → statement M
 zero-allowed-spec =
     tie.close
     (tie.spec
-    enum-told
-    add-r-bit
+    (λ c. search needs)
+    (λ c. search needs)
     r-bit-requires
-    enum-told-2
-    add-r-bit-2
+    (λ c. search needs)
+    (λ c. search needs)
     r-bit-requires-2
-    enum-told-3
-    add-r-bit-3
+    (λ c. search needs)
+    (λ c. search needs)
     r-bit-requires-3
-    enum-told-4
-    add-r-bit-4
+    (λ c. search needs)
+    (λ c. search needs)
     r-bit-requires-4
-    enum-told-5
-    enum-told-6
+    (λ c. search needs)
+    (λ c. search needs)
     returns
     returns-2
     returns-3

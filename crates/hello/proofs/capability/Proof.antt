@@ -9,9 +9,6 @@ use Rattle.hello.proofs.Laws.{stepped-bad}
 use Rattle.hello.proofs.capability.Statement.{statement}
 use Rattle.hello.proofs.capability.Tie as tie
 
-bad-requires : tie.Need-bad-requires
-bad-requires c κs = search needs
-
 returns : tie.Need-returns
 unfolding capable saidBy refuse _>>_ continue
 returns c = λ o. stepped-bad (c .bad .ensures) ∙ (rw (c .before .if1 .taken))
@@ -21,4 +18,4 @@ unfolding stepped capable saidBy refuse give _>>_ continue
 returns-2 c = λ o. rw (c .if1 .left)
 
 pub capability-spec : {M : Type 1} → statement M
-capability-spec = tie.close (tie.spec bad-requires returns returns-2)
+capability-spec = tie.close (tie.spec (λ c κs. search needs) returns returns-2)

@@ -7,14 +7,8 @@ use Rattle.hello.proofs.Laws.{stepped-bad}
 use Rattle.hello.proofs.cut.Statement.{statement}
 use Rattle.hello.proofs.cut.Tie as tie
 
-place-requires : tie.Need-place-requires
-place-requires c κs = search needs
-
-bad-requires : tie.Need-bad-requires
-bad-requires c κs = search needs
-
 returns : tie.Need-returns
 returns c = stepped-bad (c .bad .ensures) ∙ ap (bad 6) (c .before .place .ensures)
 
 pub cut-spec : {M : Type 1} → statement M
-cut-spec = tie.close (tie.spec place-requires bad-requires returns)
+cut-spec = tie.close (tie.spec (λ c κs. search needs) (λ c κs. search needs) returns)

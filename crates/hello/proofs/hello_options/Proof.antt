@@ -9,18 +9,6 @@ use Rattle.hello.proofs.Hellos.{hello-all, hello-cut}
 use Rattle.hello.proofs.hello_options.Statement.{statement}
 use Rattle.hello.proofs.hello_options.Tie as tie
 
-options-requires : tie.Need-options-requires
-options-requires c κs = search needs
-
-enum-known-all : tie.Need-enum-known-all
-enum-known-all c = search needs
-
-hello-of-requires : tie.Need-hello-of-requires
-hello-of-requires c κs = search needs
-
-enum-known-all-2 : tie.Need-enum-known-all-2
-enum-known-all-2 c = search needs
-
 returns : tie.Need-returns
 unfolding heard told
 returns c =
@@ -38,4 +26,4 @@ returns-2 c =
 pub hello-options-spec : {M : Type 1} → statement M
 hello-options-spec =
     tie.close
-    (tie.spec options-requires enum-known-all hello-of-requires enum-known-all-2 returns returns-2)
+    (tie.spec (λ c κs. search needs) (λ c. search needs) (λ c κs. search needs) (λ c. search needs) returns returns-2)

@@ -8,18 +8,6 @@ use Rattle.hello.proofs.Laws.{stepped-bad, option-got, option-bad}
 use Rattle.hello.proofs.option.Statement.{statement}
 use Rattle.hello.proofs.option.Tie as tie
 
-option-fields-requires : tie.Need-option-fields-requires
-option-fields-requires c κs = search needs
-
-enum-known-s : tie.Need-enum-known-s
-enum-known-s c = search needs
-
-enum-known-s-2 : tie.Need-enum-known-s-2
-enum-known-s-2 c = search needs
-
-bad-requires : tie.Need-bad-requires
-bad-requires c κs = search needs
-
 returns : tie.Need-returns
 unfolding stepped
 returns c =
@@ -37,4 +25,4 @@ returns-2 c =
 pub option-spec : {M : Type 1} → statement M
 option-spec =
     tie.close
-    (tie.spec option-fields-requires enum-known-s enum-known-s-2 bad-requires returns returns-2)
+    (tie.spec (λ c κs. search needs) (λ c. search needs) (λ c. search needs) (λ c κs. search needs) returns returns-2)

@@ -18,36 +18,12 @@ found c =
     let t = l .before .before in
     head _ _ (read-got (t .before .before .read16 .ensures) (t .t .given .1)) (read-got (l .read162 .ensures) (c .before .l .given .1))
 
-read16-requires : tie.Need-read16-requires
-read16-requires c κs = search needs
-
-enum-known-t : tie.Need-enum-known-t
-enum-known-t c = search needs
-
-enum-told : tie.Need-enum-told
-enum-told c = search needs
-
-cut-requires : tie.Need-cut-requires
-cut-requires c κs = search needs
-
 returns : tie.Need-returns
 returns c =
     let r = c .before .before .before in
     let a = r .before .before .args in
     c .cut .ensures
     ∙ sym (no-type (saidBy (a .h)) (now (a .m)) (a .at) (read-cut (r .read16 .ensures) (c .before .enum-told .given .1) refl))
-
-read16-requires-2 : tie.Need-read16-requires-2
-read16-requires-2 c κs = search needs
-
-enum-known-l : tie.Need-enum-known-l
-enum-known-l c = search needs
-
-enum-told-2 : tie.Need-enum-told-2
-enum-told-2 c = search needs
-
-cut-requires-2 : tie.Need-cut-requires-2
-cut-requires-2 c κs = search needs
 
 returns-2 : tie.Need-returns-2
 returns-2 c =
@@ -59,14 +35,8 @@ returns-2 c =
     (no-length (saidBy (a .h)) (now (a .m)) (a .at) (read-got (t .before .before .read16 .ensures) (t .t .given .1))
     (read-cut (l .read162 .ensures) (c .before .enum-told2 .given .1) refl))
 
-slice-aggregate-four-at : tie.Need-slice-aggregate-four-at
-slice-aggregate-four-at c = search needs
-
 four-at-requires : tie.Need-four-at-requires
 four-at-requires c κs = (found (c .before) .fits, refl)
-
-capability-requires : tie.Need-capability-requires
-capability-requires c κs = search needs
 
 returns-3 : tie.Need-returns-3
 returns-3 c =
@@ -74,9 +44,6 @@ returns-3 c =
     let a = k .before .before .before .before .before .before .before .before .before .args in
     c .capability .ensures (now (a .m))
     ∙ sym (head-capability (found k) (saidBy (a .h)) (sym (c .before .before .four-at .ensures) ∙ c .before .if1 .taken))
-
-bad-requires : tie.Need-bad-requires
-bad-requires c κs = search needs
 
 returns-4 : tie.Need-returns-4
 returns-4 c =
@@ -87,26 +54,17 @@ returns-4 c =
     (head-wrong (found k) (saidBy (l .before .args .h)) (λ i. l .shared-slice-known .given i .fits) (c .before .if2 .taken)
     (sym (c .before .before .before .four-at .ensures) ∙ c .before .before .if1 .left))
 
-holdtime-requires : tie.Need-holdtime-requires
-holdtime-requires c κs = search needs
-
 returns-5 : tie.Need-returns-5
 returns-5 c =
     let k = c .before .before .before .before .before .before in
     let a = k .before .before .before .before .before .before .before .before .before .args in
     c .holdtime .ensures ∙ sym (head-known (found k) (saidBy (a .h)) (c .before .if3 .taken))
 
-priority-requires : tie.Need-priority-requires
-priority-requires c κs = search needs
-
 returns-6 : tie.Need-returns-6
 returns-6 c =
     let k = c .before .before .before .before .before .before .before in
     let a = k .before .before .before .before .before .before .before .before .before .args in
     c .priority .ensures ∙ sym (head-known (found k) (saidBy (a .h)) (c .before .if4 .taken))
-
-skip-requires : tie.Need-skip-requires
-skip-requires c κs = search needs
 
 returns-7 : tie.Need-returns-7
 returns-7 c =
@@ -120,25 +78,25 @@ pub option-fields-spec : {M : Type 1} → statement M
 option-fields-spec =
     tie.close
     (tie.spec
-    read16-requires
-    enum-known-t
-    enum-told
-    cut-requires
+    (λ c κs. search needs)
+    (λ c. search needs)
+    (λ c. search needs)
+    (λ c κs. search needs)
     returns
-    read16-requires-2
-    enum-known-l
-    enum-told-2
-    cut-requires-2
+    (λ c κs. search needs)
+    (λ c. search needs)
+    (λ c. search needs)
+    (λ c κs. search needs)
     returns-2
-    slice-aggregate-four-at
+    (λ c. search needs)
     four-at-requires
-    capability-requires
+    (λ c κs. search needs)
     returns-3
-    bad-requires
+    (λ c κs. search needs)
     returns-4
-    holdtime-requires
+    (λ c κs. search needs)
     returns-5
-    priority-requires
+    (λ c κs. search needs)
     returns-6
-    skip-requires
+    (λ c κs. search needs)
     returns-7)

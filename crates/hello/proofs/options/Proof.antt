@@ -25,12 +25,6 @@ loop-holds c =
     let a = c .before .args in
     so-far-start (now (a .m)) (a .start)
 
-option-requires : tie.Need-option-requires Inv-loop μ-loop
-option-requires c κs = search needs
-
-enum-known-s : tie.Need-enum-known-s Inv-loop μ-loop
-enum-known-s c = search needs
-
 loop-less : tie.Need-loop-less Inv-loop μ-loop
 unfolding stepped
 loop-less c =
@@ -43,9 +37,6 @@ unfolding stepped
 loop-again c =
     let r = c .before .before .before in
     so-far-next (r .before .before .loop .inv) (r .before .loop-test .taken) (sym (r .option .ensures) ∙ ap stepped (c .before .s .given .1))
-
-enum-known-s-2 : tie.Need-enum-known-s-2 Inv-loop μ-loop
-enum-known-s-2 c = search needs
 
 returns : tie.Need-returns Inv-loop μ-loop
 unfolding stepped heard
@@ -64,10 +55,10 @@ options-spec =
     Inv-loop
     μ-loop
     loop-holds
-    option-requires
-    enum-known-s
+    (λ c κs. search needs)
+    (λ c. search needs)
     loop-less
     loop-again
-    enum-known-s-2
+    (λ c. search needs)
     returns
     returns-2)

@@ -10,21 +10,6 @@ use Rattle.hello.proofs.Hellos.{read-refused, read-body, other-kind}
 use Rattle.hello.proofs.read_hello.Statement.{statement}
 use Rattle.hello.proofs.read_hello.Tie as tie
 
-header-requires : tie.Need-header-requires
-header-requires c κs = search needs
-
-enum-known-k : tie.Need-enum-known-k
-enum-known-k c = search needs
-
-enum-known-k-2 : tie.Need-enum-known-k-2
-enum-known-k-2 c = search needs
-
-enum-told : tie.Need-enum-told
-enum-told c = search needs
-
-hello-options-requires : tie.Need-hello-options-requires
-hello-options-requires c κs = search needs
-
 returns : tie.Need-returns
 unfolding headed told
 returns c =
@@ -54,11 +39,11 @@ pub read-hello-spec : {M : Type 1} → statement M
 read-hello-spec =
     tie.close
     (tie.spec
-    header-requires
-    enum-known-k
-    enum-known-k-2
-    enum-told
-    hello-options-requires
+    (λ c κs. search needs)
+    (λ c. search needs)
+    (λ c. search needs)
+    (λ c. search needs)
+    (λ c κs. search needs)
     returns
     returns-2
     returns-3)

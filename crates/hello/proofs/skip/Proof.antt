@@ -9,18 +9,6 @@ use Rattle.hello.proofs.Laws.{skipped-cut, skipped-there}
 use Rattle.hello.proofs.skip.Statement.{statement}
 use Rattle.hello.proofs.skip.Tie as tie
 
-skip-requires : tie.Need-skip-requires
-skip-requires c κs = search needs
-
-enum-known-f : tie.Need-enum-known-f
-enum-known-f c = search needs
-
-enum-told : tie.Need-enum-told
-enum-told c = search needs
-
-cut-requires : tie.Need-cut-requires
-cut-requires c κs = search needs
-
 returns : tie.Need-returns
 returns c =
     let r = c .before .before .before in
@@ -36,4 +24,4 @@ returns-2 c =
     sym (skipped-there (saidBy (a .h)) (a .len) (now (a .m)) (a .at) (ignored-got (a .len) (now (a .m)) (a .at) (read-got (r .skip .ensures) (c .before .f .given .1))))
 
 pub skip-spec : {M : Type 1} → statement M
-skip-spec = tie.close (tie.spec skip-requires enum-known-f enum-told cut-requires returns returns-2)
+skip-spec = tie.close (tie.spec (λ c κs. search needs) (λ c. search needs) (λ c. search needs) (λ c κs. search needs) returns returns-2)

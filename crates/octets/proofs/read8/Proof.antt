@@ -8,22 +8,10 @@ use Rattle.octets.proofs.Laws.{field-short, field-got}
 use Rattle.octets.proofs.read8.Statement.{statement}
 use Rattle.octets.proofs.read8.Tie as tie
 
-left-requires : tie.Need-left-requires
-left-requires c κs = search needs
-
 returns : tie.Need-returns
 returns c =
     let a = c .before .before .before .args in
     field-short 1 (now (a .s)) (a .at) (omega arith)
-
-shared-slice-read-wide : tie.Need-shared-slice-read-wide
-shared-slice-read-wide c = search needs
-
-wide-requires : tie.Need-wide-requires
-wide-requires c κs = search needs
-
-add-t3 : tie.Need-add-t3
-add-t3 c = search needs
 
 returns-2 : tie.Need-returns-2
 unfolding value
@@ -34,4 +22,4 @@ returns-2 c =
 pub read8-spec : {M : Type 1} → statement M
 read8-spec =
     tie.close
-    (tie.spec left-requires returns shared-slice-read-wide wide-requires add-t3 returns-2)
+    (tie.spec (λ c κs. search needs) returns (λ c. search needs) (λ c κs. search needs) (λ c. search needs) returns-2)

@@ -8,34 +8,13 @@ use Rattle.octets.proofs.Laws.{write-full, write-next}
 use Rattle.octets.proofs.write16.Statement.{statement}
 use Rattle.octets.proofs.write16.Tie as tie
 
-left-requires : tie.Need-left-requires
-left-requires c κs = search needs
-
 returns : tie.Need-returns
 returns c =
     let a = c .before .before .before .args in
     write-full 2 (now (a .d)) (a .at) (a .n) (omega arith)
 
-cast-d : tie.Need-cast-d
-cast-d c = search needs
-
-slice-write-d : tie.Need-slice-write-d
-slice-write-d c = search needs
-
-cast-d-2 : tie.Need-cast-d-2
-cast-d-2 c = search needs
-
-add-d : tie.Need-add-d
-add-d c = search needs
-
 slice-write-d-2 : tie.Need-slice-write-d-2
 slice-write-d-2 c = simp length-set (omega arith)
-
-add-t5 : tie.Need-add-t5
-add-t5 c = search needs
-
-same-length : tie.Need-same-length
-same-length c = search needs
 
 returns-2 : tie.Need-returns-2
 returns-2 c =
@@ -46,13 +25,13 @@ pub write16-spec : {M : Type 1} → statement M
 write16-spec =
     tie.close
     (tie.spec
-    left-requires
+    (λ c κs. search needs)
     returns
-    cast-d
-    slice-write-d
-    cast-d-2
-    add-d
+    (λ c. search needs)
+    (λ c. search needs)
+    (λ c. search needs)
+    (λ c. search needs)
     slice-write-d-2
-    add-t5
-    same-length
+    (λ c. search needs)
+    (λ c. search needs)
     returns-2)

@@ -23,32 +23,14 @@ found c =
     let cut : a .from + c .before .before .entry-size .result * a .count - a .from ≡ entriesFor (a .kind) .size * a .count = omega (arith, same (c .before .before)) in
     rw cut at (c .first-bad .ensures)
 
-entry-size-requires : tie.Need-entry-size-requires
-entry-size-requires c κs = search needs
-
 mul-end : tie.Need-mul-end
 mul-end c = omega (arith, same c, c .before .before .pre)
 
 add-end : tie.Need-add-end
 add-end c = omega (arith, same c, c .before .before .pre)
 
-sub-first-bad : tie.Need-sub-first-bad
-sub-first-bad c = search needs
-
-part-first-bad-start : tie.Need-part-first-bad-start
-part-first-bad-start c = search needs
-
 part-first-bad-end : tie.Need-part-first-bad-end
 part-first-bad-end c = omega (arith, same c, c .before .before .pre)
-
-first-bad-requires : tie.Need-first-bad-requires
-first-bad-requires c κs = search needs
-
-enum-told : tie.Need-enum-told
-enum-told c = search needs
-
-enum-known-x : tie.Need-enum-known-x
-enum-known-x c = search needs
 
 -- the place of the entry that is at fault
 place : (c : tie.After-known-told) → c .before .before .before .before .before .before .before .args .from + c .before .before .before .before .before .entry-size .result * c .before .x .given .0 .0 ≤ length (now (c .before .before .before .before .before .before .before .args .o))
@@ -80,15 +62,15 @@ pub check-entries-spec : {M : Type 1} → statement M
 check-entries-spec =
     tie.close
     (tie.spec
-    entry-size-requires
+    (λ c κs. search needs)
     mul-end
     add-end
-    sub-first-bad
-    part-first-bad-start
+    (λ c. search needs)
+    (λ c. search needs)
     part-first-bad-end
-    first-bad-requires
-    enum-told
-    enum-known-x
+    (λ c κs. search needs)
+    (λ c. search needs)
+    (λ c. search needs)
     mul-t14
     add-t15
     returns

@@ -11,20 +11,8 @@ use Rattle.sections.proofs.Header.{header-short, header-counts, header-
 use Rattle.sections.proofs.check_header.Statement.{statement}
 use Rattle.sections.proofs.check_header.Tie as tie
 
-refused-requires : tie.Need-refused-requires
-refused-requires c κs = search needs
-
 returns : tie.Need-returns
 returns c = c .refused .ensures ∙ sym (header-short base ipv4 (now (c .before .before .before .args .o)) (c .before .if1 .taken))
-
-counts-in-requires : tie.Need-counts-in-requires
-counts-in-requires c κs = search needs
-
-counts-allowed-requires : tie.Need-counts-allowed-requires
-counts-allowed-requires c κs = search needs
-
-refused-requires-2 : tie.Need-refused-requires-2
-refused-requires-2 c κs = search needs
 
 returns-2 : tie.Need-returns-2
 returns-2 c =
@@ -34,9 +22,6 @@ returns-2 c =
 
 offsets-agree-requires : tie.Need-offsets-agree-requires
 offsets-agree-requires c κs = sym (c .before .counts-allowed .ensures) ∙ not-false _ (c .if2 .left)
-
-refused-requires-3 : tie.Need-refused-requires-3
-refused-requires-3 c κs = search needs
 
 returns-3 : tie.Need-returns-3
 returns-3 c =
@@ -54,13 +39,13 @@ pub check-header-spec : {M : Type 1} → statement M
 check-header-spec =
     tie.close
     (tie.spec
-    refused-requires
+    (λ c κs. search needs)
     returns
-    counts-in-requires
-    counts-allowed-requires
-    refused-requires-2
+    (λ c κs. search needs)
+    (λ c κs. search needs)
+    (λ c κs. search needs)
     returns-2
     offsets-agree-requires
-    refused-requires-3
+    (λ c κs. search needs)
     returns-3
     returns-4)

@@ -31,12 +31,6 @@ add-rows-from c = omega (arith, total (c .before .before .before))
 check-entries-requires : tie.Need-check-entries-requires
 check-entries-requires c κs = omega (arith, total (c .before .before .before))
 
-enum-told : tie.Need-enum-told
-enum-told c = search needs
-
-enum-told-2 : tie.Need-enum-told-2
-enum-told-2 c = search needs
-
 returns : tie.Need-returns
 returns c =
     let a = c .before .before .before .before .before .before .args in
@@ -44,12 +38,6 @@ returns c =
 
 check-entries-requires-2 : tie.Need-check-entries-requires-2
 check-entries-requires-2 c κs = omega (arith, total (c .before .before .before .before .before .before))
-
-enum-told-3 : tie.Need-enum-told-3
-enum-told-3 c = search needs
-
-enum-told-4 : tie.Need-enum-told-4
-enum-told-4 c = search needs
 
 returns-2 : tie.Need-returns-2
 unfolding pairsFrom
@@ -75,12 +63,12 @@ check-sections-spec =
     mul-rows-from
     add-rows-from
     check-entries-requires
-    enum-told
-    enum-told-2
+    (λ c. search needs)
+    (λ c. search needs)
     returns
     check-entries-requires-2
-    enum-told-3
-    enum-told-4
+    (λ c. search needs)
+    (λ c. search needs)
     returns-2
     check-rows-requires
     returns-3)

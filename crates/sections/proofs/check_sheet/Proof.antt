@@ -11,15 +11,6 @@ use Rattle.sections.proofs.Checks.{header-gives, sheet-header, sheet-fa
 use Rattle.sections.proofs.check_sheet.Statement.{statement}
 use Rattle.sections.proofs.check_sheet.Tie as tie
 
-check-header-requires : tie.Need-check-header-requires
-check-header-requires c κs = search needs
-
-enum-known-x : tie.Need-enum-known-x
-enum-known-x c = search needs
-
-enum-told : tie.Need-enum-told
-enum-told c = search needs
-
 returns : tie.Need-returns
 returns c = sheet-header base ipv4 (now (c .before .before .before .before .args .o)) (c .before .before .check-header .ensures) (c .enum-told .given .1)
 
@@ -27,15 +18,6 @@ check-sections-requires : tie.Need-check-sections-requires
 check-sections-requires c κs =
     let o = now (c .before .before .before .before .before .args .o) in
     header-end base ipv4 o _ (header-gives base ipv4 o (c .before .before .before .check-header .ensures) (c .before .x .given .1))
-
-enum-told-2 : tie.Need-enum-told-2
-enum-told-2 c = search needs
-
-enum-known-s : tie.Need-enum-known-s
-enum-known-s c = search needs
-
-refused-requires : tie.Need-refused-requires
-refused-requires c κs = search needs
 
 returns-2 : tie.Need-returns-2
 unfolding checkedBy
@@ -53,13 +35,13 @@ pub check-sheet-spec : {M : Type 1} → statement M
 check-sheet-spec =
     tie.close
     (tie.spec
-    check-header-requires
-    enum-known-x
-    enum-told
+    (λ c κs. search needs)
+    (λ c. search needs)
+    (λ c. search needs)
     returns
     check-sections-requires
-    enum-told-2
-    enum-known-s
-    refused-requires
+    (λ c. search needs)
+    (λ c. search needs)
+    (λ c κs. search needs)
     returns-2
     returns-3)

@@ -6,15 +6,6 @@ use Rattle.sections.proofs.Header.{counts-are}
 use Rattle.sections.proofs.counts_in.Statement.{statement}
 use Rattle.sections.proofs.counts_in.Tie as tie
 
-number16-requires : tie.Need-number16-requires
-number16-requires c κs = search needs
-
-number16-requires-2 : tie.Need-number16-requires-2
-number16-requires-2 c κs = search needs
-
-number16-requires-3 : tie.Need-number16-requires-3
-number16-requires-3 c κs = search needs
-
 returns : tie.Need-returns
 returns c = counts-are (now (c .before .before .before .before .args .o)) (c .before .before .number16 .ensures) (c .before .number162 .ensures) (c .number163 .ensures)
 
@@ -22,7 +13,7 @@ pub counts-in-spec : {M : Type 1} → statement M
 counts-in-spec =
     tie.close
     (tie.spec
-    number16-requires
-    number16-requires-2
-    number16-requires-3
+    (λ c κs. search needs)
+    (λ c κs. search needs)
+    (λ c κs. search needs)
     returns)

@@ -25,17 +25,11 @@ before-it c = omega (arith, c .loop-test .taken)
 loop-holds : tie.Need-loop-holds Inv-loop μ-loop
 loop-holds c = (omega arith, refl)
 
-sub-i : tie.Need-sub-i Inv-loop μ-loop
-sub-i c = search needs
-
 mul-number32 : tie.Need-mul-number32 Inv-loop μ-loop
 mul-number32 c = omega (arith, c .before .loop .inv .0, c .before .before .before .pre)
 
 add-number32 : tie.Need-add-number32 Inv-loop μ-loop
 add-number32 c = omega (arith, c .before .loop .inv .0, c .before .before .before .pre)
-
-number32-requires : tie.Need-number32-requires Inv-loop μ-loop
-number32-requires c κs = search needs
 
 returns : tie.Need-returns Inv-loop μ-loop
 returns c =
@@ -66,10 +60,10 @@ is-earlier-spec =
     Inv-loop
     μ-loop
     loop-holds
-    sub-i
+    (λ c. search needs)
     mul-number32
     add-number32
-    number32-requires
+    (λ c κs. search needs)
     returns
     loop-less
     loop-again

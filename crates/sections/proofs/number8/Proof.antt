@@ -8,9 +8,6 @@ use Rattle.sections.proofs.Rows.{octet-is}
 use Rattle.sections.proofs.number8.Statement.{statement}
 use Rattle.sections.proofs.number8.Tie as tie
 
-shared-slice-read-result : tie.Need-shared-slice-read-result
-shared-slice-read-result c = search needs
-
 returns : tie.Need-returns
 returns c = octet-is (now (c .before .before .args .o)) (c .before .before .args .at) (c .before .if1 .taken)
 
@@ -18,4 +15,4 @@ returns-2 : tie.Need-returns-2
 returns-2 c = sym (number-none 1 (now (c .before .args .o)) (c .before .args .at) (c .if1 .left))
 
 pub number8-spec : {M : Type 1} → statement M
-number8-spec = tie.close (tie.spec shared-slice-read-result returns returns-2)
+number8-spec = tie.close (tie.spec (λ c. search needs) returns returns-2)

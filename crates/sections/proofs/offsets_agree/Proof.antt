@@ -26,24 +26,15 @@ mul-rows-from c = omega (arith, within (c .before .before .before))
 add-rows-from : tie.Need-add-rows-from
 add-rows-from c = omega (arith, within (c .before .before .before))
 
-number16-requires : tie.Need-number16-requires
-number16-requires c κs = search needs
-
 returns : tie.Need-returns
 returns c =
     let a = c .before .before .before .before .before .args in
     rw (agree-is (now (a .o)) (a .c) (c .before .number16 .ensures) refl refl, ne-eqb _ _ (c .if1 .taken))
 
-number16-requires-2 : tie.Need-number16-requires-2
-number16-requires-2 c κs = search needs
-
 returns-2 : tie.Need-returns-2
 returns-2 c =
     let a = c .before .before .before .before .before .before .before .args in
     rw (agree-is (now (a .o)) (a .c) (c .before .before .before .number16 .ensures) (c .before .number162 .ensures) refl, eq-eqb _ _ (c .before .before .if1 .left), ne-eqb _ _ (c .if2 .taken))
-
-number16-requires-3 : tie.Need-number16-requires-3
-number16-requires-3 c κs = search needs
 
 returns-3 : tie.Need-returns-3
 returns-3 c =
@@ -71,11 +62,11 @@ offsets-agree-spec =
     add-pairs-from
     mul-rows-from
     add-rows-from
-    number16-requires
+    (λ c κs. search needs)
     returns
-    number16-requires-2
+    (λ c κs. search needs)
     returns-2
-    number16-requires-3
+    (λ c κs. search needs)
     returns-3
     mul-result
     add-result

@@ -10,9 +10,6 @@ use Rattle.sections.proofs.Rows.{row-none}
 use Rattle.sections.proofs.row_at.Statement.{statement}
 use Rattle.sections.proofs.row_at.Tie as tie
 
-row-within-requires : tie.Need-row-within-requires
-row-within-requires c κs = search needs
-
 returns : tie.Need-returns
 returns c =
     let a = c .before .before .before .args in
@@ -20,11 +17,5 @@ returns c =
     ∙ row-none ipv4 (now (a .o)) (length (now (a .o))) (omega arith)
     ∙ sym (row-none ipv4 (now (a .o)) (a .at) (omega (arith, c .before .if1 .taken)))
 
-row-within-requires-2 : tie.Need-row-within-requires-2
-row-within-requires-2 c κs = search needs
-
-returns-2 : tie.Need-returns-2
-returns-2 c = search needs
-
 pub row-at-spec : {M : Type 1} → statement M
-row-at-spec = tie.close (tie.spec row-within-requires returns row-within-requires-2 returns-2)
+row-at-spec = tie.close (tie.spec (λ c κs. search needs) returns (λ c κs. search needs) (λ c. search needs))

@@ -11,40 +11,16 @@ use Rattle.sections.proofs.Rows.{fits-flags, fits-zero, fits-not, fits-
 use Rattle.sections.proofs.row_fits.Statement.{statement}
 use Rattle.sections.proofs.row_fits.Tie as tie
 
-mul-at : tie.Need-mul-at
-mul-at c = search needs
-
-add-at : tie.Need-add-at
-add-at c = search needs
-
-add-number8 : tie.Need-add-number8
-add-number8 c = search needs
-
-number8-requires : tie.Need-number8-requires
-number8-requires c κs = search needs
-
 returns : tie.Need-returns
 returns c =
     let a = c .before .before .before .args in
     fits-flags (now (a .o)) (a .from + 12 * a .i) (earlierRows ipv4 (now (a .o)) (a .from) (a .i)) (c .before .number8 .ensures) refl (c .if1 .taken)
-
-add-number8-2 : tie.Need-add-number8-2
-add-number8-2 c = search needs
-
-number8-requires-2 : tie.Need-number8-requires-2
-number8-requires-2 c κs = search needs
 
 returns-2 : tie.Need-returns-2
 returns-2 c =
     let a = c .before .before .before .before .before .args in
     fits-zero (now (a .o)) (a .from + 12 * a .i) (earlierRows ipv4 (now (a .o)) (a .from) (a .i))
     (c .before .before .before .number8 .ensures) (c .before .number82 .ensures) (c .before .before .if1 .left) (c .if2 .taken)
-
-row-at-requires : tie.Need-row-at-requires
-row-at-requires c κs = search needs
-
-is-allowed-requires : tie.Need-is-allowed-requires
-is-allowed-requires c κs = search needs
 
 is-earlier-requires : tie.Need-is-earlier-requires
 is-earlier-requires c κs = omega (arith, c .before .before .before .before .before .before .before .before .pre)
@@ -70,16 +46,16 @@ pub row-fits-spec : {M : Type 1} → statement M
 row-fits-spec =
     tie.close
     (tie.spec
-    mul-at
-    add-at
-    add-number8
-    number8-requires
+    (λ c. search needs)
+    (λ c. search needs)
+    (λ c. search needs)
+    (λ c κs. search needs)
     returns
-    add-number8-2
-    number8-requires-2
+    (λ c. search needs)
+    (λ c κs. search needs)
     returns-2
-    row-at-requires
-    is-allowed-requires
+    (λ c κs. search needs)
+    (λ c κs. search needs)
     is-earlier-requires
     returns-3
     returns-4)

@@ -9,27 +9,6 @@ use Rattle.sections.proofs.Rows.{row-is}
 use Rattle.sections.proofs.row_within.Statement.{statement}
 use Rattle.sections.proofs.row_within.Tie as tie
 
-add-number8 : tie.Need-add-number8
-add-number8 c = search needs
-
-number8-requires : tie.Need-number8-requires
-number8-requires c κs = search needs
-
-number32-requires : tie.Need-number32-requires
-number32-requires c κs = search needs
-
-add-number32 : tie.Need-add-number32
-add-number32 c = search needs
-
-number32-requires-2 : tie.Need-number32-requires-2
-number32-requires-2 c κs = search needs
-
-add-number16 : tie.Need-add-number16
-add-number16 c = search needs
-
-number16-requires : tie.Need-number16-requires
-number16-requires c κs = search needs
-
 cast-t14 : tie.Need-cast-t14
 cast-t14 c =
     let s = c .before .before .before .before in
@@ -44,12 +23,12 @@ pub row-within-spec : {M : Type 1} → statement M
 row-within-spec =
     tie.close
     (tie.spec
-    add-number8
-    number8-requires
-    number32-requires
-    add-number32
-    number32-requires-2
-    add-number16
-    number16-requires
+    (λ c. search needs)
+    (λ c κs. search needs)
+    (λ c κs. search needs)
+    (λ c. search needs)
+    (λ c κs. search needs)
+    (λ c. search needs)
+    (λ c κs. search needs)
     cast-t14
     returns)

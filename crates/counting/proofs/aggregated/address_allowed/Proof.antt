@@ -21,20 +21,8 @@ source-room : (c : tie.Else1) → c .before .before .args .at + 6 ≤ length (no
 unfolding addressSize
 source-room c = rw (c .if1 .left) at (c .before .before .pre)
 
-add-is-group : tie.Need-add-is-group
-add-is-group c = search needs
-
-sub-is-group : tie.Need-sub-is-group
-sub-is-group c = search needs
-
-part-is-group-start : tie.Need-part-is-group-start
-part-is-group-start c = search needs
-
 part-is-group-end : tie.Need-part-is-group-end
 part-is-group-end c = group-room c
-
-is-group-requires : tie.Need-is-group-requires
-is-group-requires c κs = search needs
 
 returns : tie.Need-returns
 unfolding addressSize addressForm
@@ -43,20 +31,8 @@ returns c =
     let a = d .before .before .args in
     rw (d .if1 .taken) (c .is-group .ensures ∙ part-form 8 (groupForm ipv4) (now (a .m)) (a .at) (a .at + 8) refl (group-room d))
 
-add-is-source : tie.Need-add-is-source
-add-is-source c = search needs
-
-sub-is-source : tie.Need-sub-is-source
-sub-is-source c = search needs
-
-part-is-source-start : tie.Need-part-is-source-start
-part-is-source-start c = search needs
-
 part-is-source-end : tie.Need-part-is-source-end
 part-is-source-end c = source-room c
-
-is-source-requires : tie.Need-is-source-requires
-is-source-requires c κs = search needs
 
 returns-2 : tie.Need-returns-2
 unfolding addressSize addressForm
@@ -69,15 +45,15 @@ pub address-allowed-spec : {M : Type 1} → statement M
 address-allowed-spec =
     tie.close
     (tie.spec
-    add-is-group
-    sub-is-group
-    part-is-group-start
+    (λ c. search needs)
+    (λ c. search needs)
+    (λ c. search needs)
     part-is-group-end
-    is-group-requires
+    (λ c κs. search needs)
     returns
-    add-is-source
-    sub-is-source
-    part-is-source-start
+    (λ c. search needs)
+    (λ c. search needs)
+    (λ c. search needs)
     part-is-source-end
-    is-source-requires
+    (λ c κs. search needs)
     returns-2)

@@ -10,12 +10,6 @@ use Rattle.counting.proofs.Addresses.{address-is}
 use Rattle.counting.proofs.aggregated.address_check.Statement.{statement}
 use Rattle.counting.proofs.aggregated.address_check.Tie as tie
 
-address-allowed-requires : tie.Need-address-allowed-requires
-address-allowed-requires c κs = search needs
-
-address-size-requires : tie.Need-address-size-requires
-address-size-requires c κs = search needs
-
 add-t6 : tie.Need-add-t6
 add-t6 c = omega (arith, c .address-size .ensures, c .before .before .before .before .pre)
 
@@ -27,9 +21,6 @@ returns c =
       form-yes (address-is (a .is-group) (now (a .m)) (a .at) (s .pre)) next-is (sym (c .before .before .address-allowed .ensures) ∙ c .before .if1 .taken),
       λ k e. cc,
     )
-
-bad-requires : tie.Need-bad-requires
-bad-requires c κs = search needs
 
 returns-2 : tie.Need-returns-2
 returns-2 c =
@@ -44,9 +35,9 @@ pub address-check-spec : {M : Type 1} → statement M
 address-check-spec =
     tie.close
     (tie.spec
-    address-allowed-requires
-    address-size-requires
+    (λ c κs. search needs)
+    (λ c κs. search needs)
     add-t6
     returns
-    bad-requires
+    (λ c κs. search needs)
     returns-2)

@@ -32,20 +32,11 @@ room c =
     let a = start l .args in
     whole-room (now (a .m)) (l .loop .at) (a .n) (l .before .whole-addresses .result) (l .loop .i) (a .is-group) (l .loop .inv .0) (c .loop-test .taken)
 
-whole-addresses-requires : tie.Need-whole-addresses-requires Inv-loop μ-loop
-whole-addresses-requires c κs = search needs
-
 loop-holds : tie.Need-loop-holds Inv-loop μ-loop
 loop-holds c = (simp sub-zero (c .whole-addresses .ensures), rw sub-zero)
 
 address-check-requires : tie.Need-address-check-requires Inv-loop μ-loop
 address-check-requires c κs = room c .1
-
-enum-known-c : tie.Need-enum-known-c Inv-loop μ-loop
-enum-known-c c = search needs
-
-enum-told : tie.Need-enum-told Inv-loop μ-loop
-enum-told c = search needs
 
 returns : tie.Need-returns Inv-loop μ-loop
 returns c =
@@ -54,12 +45,6 @@ returns c =
     let a = start l .args in
     times-bad (addressField (a .is-group)) (now (a .m)) (l .loop .at) (a .n) (l .loop .i) (room (d .before) .0) (c .enum-told .given .1) (d .address-check .ensures .0)
     ∙ l .loop .inv .1
-
-add-i : tie.Need-add-i Inv-loop μ-loop
-add-i c = search needs
-
-loop-less : tie.Need-loop-less Inv-loop μ-loop
-loop-less c = search needs
 
 loop-again : tie.Need-loop-again Inv-loop μ-loop
 loop-again c =
@@ -71,9 +56,6 @@ loop-again c =
       times-on (addressField (a .is-group)) (now (a .m)) (l .loop .at) (a .n) (l .loop .i) (room (d .before) .0) (c .before .c .given .1) (d .address-check .ensures .0)
           ∙ l .loop .inv .1,
     )
-
-bad-requires : tie.Need-bad-requires Inv-loop μ-loop
-bad-requires c κs = search needs
 
 returns-2 : tie.Need-returns-2 Inv-loop μ-loop
 returns-2 c =
@@ -97,15 +79,15 @@ addresses-check-spec =
     (tie.spec
     Inv-loop
     μ-loop
-    whole-addresses-requires
+    (λ c κs. search needs)
     loop-holds
     address-check-requires
-    enum-known-c
-    enum-told
+    (λ c. search needs)
+    (λ c. search needs)
     returns
-    add-i
-    loop-less
+    (λ c. search needs)
+    (λ c. search needs)
     loop-again
-    bad-requires
+    (λ c κs. search needs)
     returns-2
     returns-3)

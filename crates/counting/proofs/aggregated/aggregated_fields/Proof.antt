@@ -19,18 +19,6 @@ use borrow.Author.Needs.{needs}
 use Rattle.counting.proofs.aggregated.aggregated_fields.Statement.{statement}
 use Rattle.counting.proofs.aggregated.aggregated_fields.Tie as tie
 
-octets-check-requires : tie.Need-octets-check-requires
-octets-check-requires c κs = search needs
-
-enum-known-v : tie.Need-enum-known-v
-enum-known-v c = search needs
-
-enum-told : tie.Need-enum-told
-enum-told c = search needs
-
-with-count-requires : tie.Need-with-count-requires
-with-count-requires c κs = search needs
-
 returns : tie.Need-returns
 unfolding aggregatedFields _>>=_
 returns c =
@@ -54,18 +42,6 @@ unfolding aggregatedFields _>>=_
 afterWord c next =
     let a = start c .args in
     tallies-number recordCount 4 (now (a .m)) (a .at) _ (c .before .v .given .1) (c .before .before .before .octets-check .ensures) refl next
-
-octets-check-requires-2 : tie.Need-octets-check-requires-2
-octets-check-requires-2 c κs = search needs
-
-enum-known-x : tie.Need-enum-known-x
-enum-known-x c = search needs
-
-enum-told-2 : tie.Need-enum-told-2
-enum-told-2 c = search needs
-
-with-count-requires-2 : tie.Need-with-count-requires-2
-with-count-requires-2 c κs = search needs
 
 returns-2 : tie.Need-returns-2
 unfolding _>>=_
@@ -100,17 +76,8 @@ byR c r test next =
 add-r-bit : tie.Need-add-r-bit
 add-r-bit c = omega (arith, found (c .before .before .before .before))
 
-sub-r-bit : tie.Need-sub-r-bit
-sub-r-bit c = search needs
-
-part-r-bit-start : tie.Need-part-r-bit-start
-part-r-bit-start c = search needs
-
 part-r-bit-end : tie.Need-part-r-bit-end
 part-r-bit-end c = found (c .before .before .before .before)
-
-r-bit-requires : tie.Need-r-bit-requires
-r-bit-requires c κs = search needs
 
 -- R as code has read it is that of the word
 bit-is : (c : tie.After-r-bit) → rBit (numberAt 4 (now (start (c .before .before .before .before .before .before) .args .m)) (start (c .before .before .before .before .before .before) .args .at)) ≡ c .r-bit .result
@@ -119,14 +86,8 @@ bit-is c =
     let a = start d .args in
     sym (c .r-bit .ensures ∙ ap rBit (number-cut 4 (now (a .m)) (a .at) (a .at + 4) refl (found d)))
 
-rp-aggregated-requires : tie.Need-rp-aggregated-requires
-rp-aggregated-requires c κs = search needs
-
 returns-3 : tie.Need-returns-3
 returns-3 c = byR (c .before .before .before .before) true (bit-is (c .before .before) ∙ c .before .if1 .taken) (c .rp-aggregated .ensures)
-
-source-aggregated-requires : tie.Need-source-aggregated-requires
-source-aggregated-requires c κs = search needs
 
 returns-4 : tie.Need-returns-4
 returns-4 c = byR (c .before .before .before .before) false (bit-is (c .before .before) ∙ c .before .if1 .left) (c .source-aggregated .ensures)
@@ -135,22 +96,22 @@ pub aggregated-fields-spec : {M : Type 1} → statement M
 aggregated-fields-spec =
     tie.close
     (tie.spec
-    octets-check-requires
-    enum-known-v
-    enum-told
-    with-count-requires
+    (λ c κs. search needs)
+    (λ c. search needs)
+    (λ c. search needs)
+    (λ c κs. search needs)
     returns
-    octets-check-requires-2
-    enum-known-x
-    enum-told-2
-    with-count-requires-2
+    (λ c κs. search needs)
+    (λ c. search needs)
+    (λ c. search needs)
+    (λ c κs. search needs)
     returns-2
     add-r-bit
-    sub-r-bit
-    part-r-bit-start
+    (λ c. search needs)
+    (λ c. search needs)
     part-r-bit-end
-    r-bit-requires
-    rp-aggregated-requires
+    (λ c κs. search needs)
+    (λ c κs. search needs)
     returns-3
-    source-aggregated-requires
+    (λ c κs. search needs)
     returns-4)

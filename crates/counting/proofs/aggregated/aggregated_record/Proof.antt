@@ -10,26 +10,11 @@ use borrow.Author.Needs.{needs}
 use Rattle.counting.proofs.aggregated.aggregated_record.Statement.{statement}
 use Rattle.counting.proofs.aggregated.aggregated_record.Tie as tie
 
-aggregated-fields-requires : tie.Need-aggregated-fields-requires
-aggregated-fields-requires c κs = search needs
-
-enum-known-c : tie.Need-enum-known-c
-enum-known-c c = search needs
-
-enum-told : tie.Need-enum-told
-enum-told c = search needs
-
 returns : tie.Need-returns
 unfolding aggregatedRecord inRecord
 returns c =
     let a = c .before .before .before .before .args in
     handed-all recordCount (a .at) (aggregatedFields ipv4 (now (a .m)) (a .at)) (c .enum-told .given .1) (c .before .before .aggregated-fields .ensures)
-
-in-record-requires : tie.Need-in-record-requires
-in-record-requires c κs = search needs
-
-with-count-requires : tie.Need-with-count-requires
-with-count-requires c κs = search needs
 
 returns-2 : tie.Need-returns-2
 unfolding aggregatedRecord inRecord
@@ -42,10 +27,10 @@ pub aggregated-record-spec : {M : Type 1} → statement M
 aggregated-record-spec =
     tie.close
     (tie.spec
-    aggregated-fields-requires
-    enum-known-c
-    enum-told
+    (λ c κs. search needs)
+    (λ c. search needs)
+    (λ c. search needs)
     returns
-    in-record-requires
-    with-count-requires
+    (λ c κs. search needs)
+    (λ c κs. search needs)
     returns-2)

@@ -9,15 +9,6 @@ use borrow.Author.Needs.{needs}
 use Rattle.counting.proofs.aggregated.count_check.Statement.{statement}
 use Rattle.counting.proofs.aggregated.count_check.Tie as tie
 
-octets-check-requires : tie.Need-octets-check-requires
-octets-check-requires c κs = search needs
-
-enum-known-f : tie.Need-enum-known-f
-enum-known-f c = search needs
-
-enum-told : tie.Need-enum-told
-enum-told c = search needs
-
 returns : tie.Need-returns
 returns c =
     let a = c .before .before .before .before .args in
@@ -33,12 +24,6 @@ found : (c : tie.After-known-told) → (start c .args .at + 2 ≤ length (now (s
 found c =
     let a = start c .args in
     octets-room 2 (now (a .m)) (a .at) (c .before .f .given .1) (c .before .before .before .octets-check .ensures)
-
-number16-requires : tie.Need-number16-requires
-number16-requires c κs = search needs
-
-bad-requires : tie.Need-bad-requires
-bad-requires c κs = search needs
 
 returns-2 : tie.Need-returns-2
 returns-2 c =
@@ -56,11 +41,11 @@ pub count-check-spec : {M : Type 1} → statement M
 count-check-spec =
     tie.close
     (tie.spec
-    octets-check-requires
-    enum-known-f
-    enum-told
+    (λ c κs. search needs)
+    (λ c. search needs)
+    (λ c. search needs)
     returns
-    number16-requires
-    bad-requires
+    (λ c κs. search needs)
+    (λ c κs. search needs)
     returns-2
     returns-3)

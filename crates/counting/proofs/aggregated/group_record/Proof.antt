@@ -18,18 +18,6 @@ use borrow.Author.Needs.{needs}
 use Rattle.counting.proofs.aggregated.group_record.Statement.{statement}
 use Rattle.counting.proofs.aggregated.group_record.Tie as tie
 
-group-check-requires : tie.Need-group-check-requires
-group-check-requires c κs = search needs
-
-enum-known-g : tie.Need-enum-known-g
-enum-known-g c = search needs
-
-enum-told : tie.Need-enum-told
-enum-told c = search needs
-
-with-count-requires : tie.Need-with-count-requires
-with-count-requires c κs = search needs
-
 returns : tie.Need-returns
 unfolding groupRecord _>>=_
 returns c =
@@ -51,18 +39,6 @@ afterGroup c next =
     let a = start c .args in
     tallies-on groupCount (groupField ipv4 (now (a .m)) (a .at)) _ (c .before .g .given .1) (c .before .before .before .group-check .ensures) (λ g e. next g)
 
-octets-check-requires : tie.Need-octets-check-requires
-octets-check-requires c κs = search needs
-
-enum-known-f : tie.Need-enum-known-f
-enum-known-f c = search needs
-
-enum-told-2 : tie.Need-enum-told-2
-enum-told-2 c = search needs
-
-with-count-requires-2 : tie.Need-with-count-requires-2
-with-count-requires-2 c κs = search needs
-
 returns-2 : tie.Need-returns-2
 unfolding _>>=_
 returns-2 c =
@@ -72,9 +48,6 @@ returns-2 c =
     tallies-bad groupCount (number 2 (now (a .m)) (d .before .g .given .0 .0)) _ (c .before .enum-told2 .given .1)
     (checks-number 2 (now (a .m)) (d .before .g .given .0 .0) (c .before .before .before .octets-check .ensures))
     (c .with-count2 .ensures))
-
-number16-requires : tie.Need-number16-requires
-number16-requires c κs = search needs
 
 -- past the number of sources
 afterCount : (c : tie.After-number16) {y : Read ℕ}
@@ -93,18 +66,6 @@ afterCount c next =
     (c .number16 .ensures)
     (next g))
 
-octets-check-requires-2 : tie.Need-octets-check-requires-2
-octets-check-requires-2 c κs = search needs
-
-enum-known-r : tie.Need-enum-known-r
-enum-known-r c = search needs
-
-enum-told-3 : tie.Need-enum-told-3
-enum-told-3 c = search needs
-
-with-count-requires-3 : tie.Need-with-count-requires-3
-with-count-requires-3 c κs = search needs
-
 returns-3 : tie.Need-returns-3
 unfolding _>>_
 returns-3 c =
@@ -114,12 +75,6 @@ returns-3 c =
     tallies-bad groupCount (octets 2 (now (a .m)) (d .before .before .f .given .0 .0)) _ (c .before .enum-told3 .given .1)
     (c .before .before .before .octets-check2 .ensures)
     (c .with-count3 .ensures))
-
-addresses-check-requires : tie.Need-addresses-check-requires
-addresses-check-requires c κs = search needs
-
-with-count-requires-4 : tie.Need-with-count-requires-4
-with-count-requires-4 c κs = search needs
 
 -- past the octets that are ignored: so many entries if there are so many sources
 sources : (c : tie.After-addresses-check) {y : Read ℕ} (e : ℕ) → ((g : ℕ) (ss : List ℕ) → length ss ≡ c .before .before .before .before .before .number16 .result → groupCount (ofGroup g ss) ≡ e)
@@ -142,9 +97,6 @@ returns-4 : tie.Need-returns-4
 returns-4 c =
     sources (c .before .before) 1 (λ g ss l. group-none g ss (l ∙ c .before .if1 .taken)) (c .with-count4 .ensures)
 
-with-count-requires-5 : tie.Need-with-count-requires-5
-with-count-requires-5 c κs = search needs
-
 returns-5 : tie.Need-returns-5
 returns-5 c =
     sources (c .before .before) (c .before .before .before .before .before .before .before .number16 .result) (λ g ss l. group-some g ss l (c .before .if1 .left)) (c .with-count5 .ensures)
@@ -153,24 +105,24 @@ pub group-record-spec : {M : Type 1} → statement M
 group-record-spec =
     tie.close
     (tie.spec
-    group-check-requires
-    enum-known-g
-    enum-told
-    with-count-requires
+    (λ c κs. search needs)
+    (λ c. search needs)
+    (λ c. search needs)
+    (λ c κs. search needs)
     returns
-    octets-check-requires
-    enum-known-f
-    enum-told-2
-    with-count-requires-2
+    (λ c κs. search needs)
+    (λ c. search needs)
+    (λ c. search needs)
+    (λ c κs. search needs)
     returns-2
-    number16-requires
-    octets-check-requires-2
-    enum-known-r
-    enum-told-3
-    with-count-requires-3
+    (λ c κs. search needs)
+    (λ c κs. search needs)
+    (λ c. search needs)
+    (λ c. search needs)
+    (λ c κs. search needs)
     returns-3
-    addresses-check-requires
-    with-count-requires-4
+    (λ c κs. search needs)
+    (λ c κs. search needs)
     returns-4
-    with-count-requires-5
+    (λ c κs. search needs)
     returns-5)

@@ -28,15 +28,6 @@ loop-holds c =
     let a = c .before .args in
     (omega arith, (omega arith, rw sub-zero (tally-start groupsCount (times (a .n) (groupRecord ipv4) (now (a .m)) (a .from)))))
 
-group-record-requires : tie.Need-group-record-requires Inv-loop μ-loop
-group-record-requires c κs = search needs
-
-enum-known-c : tie.Need-enum-known-c Inv-loop μ-loop
-enum-known-c c = search needs
-
-enum-told : tie.Need-enum-told Inv-loop μ-loop
-enum-told c = search needs
-
 returns : tie.Need-returns Inv-loop μ-loop
 returns c =
     let l = c .before .before .before .before in
@@ -57,12 +48,6 @@ room c =
 
 add-total : tie.Need-add-total Inv-loop μ-loop
 add-total c = omega (arith, room c)
-
-add-i : tie.Need-add-i Inv-loop μ-loop
-add-i c = search needs
-
-loop-less : tie.Need-loop-less Inv-loop μ-loop
-loop-less c = search needs
 
 loop-again : tie.Need-loop-again Inv-loop μ-loop
 loop-again c =
@@ -94,12 +79,12 @@ group-records-spec =
     Inv-loop
     μ-loop
     loop-holds
-    group-record-requires
-    enum-known-c
-    enum-told
+    (λ c κs. search needs)
+    (λ c. search needs)
+    (λ c. search needs)
     returns
     add-total
-    add-i
-    loop-less
+    (λ c. search needs)
+    (λ c. search needs)
     loop-again
     returns-2)

@@ -13,26 +13,11 @@ use borrow.Author.Needs.{needs}
 use Rattle.counting.proofs.aggregated.rp_aggregated.Statement.{statement}
 use Rattle.counting.proofs.aggregated.rp_aggregated.Tie as tie
 
-count-check-requires : tie.Need-count-check-requires
-count-check-requires c κs = search needs
-
-enum-known-c : tie.Need-enum-known-c
-enum-known-c c = search needs
-
-enum-told : tie.Need-enum-told
-enum-told c = search needs
-
-with-count-requires : tie.Need-with-count-requires
-with-count-requires c κs = search needs
-
 returns : tie.Need-returns
 unfolding rpAggregated _>>=_
 returns c =
     let a = c .before .before .before .before .before .args in
     tallies-bad recordCount (positive (now (a .m)) (a .at)) _ (c .before .enum-told .given .1) (c .before .before .before .count-check .ensures) (c .with-count .ensures)
-
-number16-requires : tie.Need-number16-requires
-number16-requires c κs = search needs
 
 -- where the function begins
 abbrev start : tie.After-known-told → tie.Start
@@ -48,18 +33,6 @@ afterCount c next =
     let a = start (c .before) .args in
     tallies-positive recordCount (now (a .m)) (a .at) _ (c .before .before .c .given .1) (c .before .before .before .before .count-check .ensures) (c .number16 .ensures) next
 
-octets-check-requires : tie.Need-octets-check-requires
-octets-check-requires c κs = search needs
-
-enum-known-r : tie.Need-enum-known-r
-enum-known-r c = search needs
-
-enum-told-2 : tie.Need-enum-told-2
-enum-told-2 c = search needs
-
-with-count-requires-2 : tie.Need-with-count-requires-2
-with-count-requires-2 c κs = search needs
-
 returns-2 : tie.Need-returns-2
 unfolding _>>_
 returns-2 c =
@@ -67,9 +40,6 @@ returns-2 c =
     let a = start (d .before) .args in
     afterCount d
     (tallies-bad recordCount (octets 2 (now (a .m)) (d .before .before .c .given .0 .0)) _ (c .before .enum-told2 .given .1) (c .before .before .before .octets-check .ensures) (c .with-count2 .ensures))
-
-group-records-requires : tie.Need-group-records-requires
-group-records-requires c κs = search needs
 
 returns-3 : tie.Need-returns-3
 unfolding _>>_ _>>=_ give
@@ -86,16 +56,16 @@ pub rp-aggregated-spec : {M : Type 1} → statement M
 rp-aggregated-spec =
     tie.close
     (tie.spec
-    count-check-requires
-    enum-known-c
-    enum-told
-    with-count-requires
+    (λ c κs. search needs)
+    (λ c. search needs)
+    (λ c. search needs)
+    (λ c κs. search needs)
     returns
-    number16-requires
-    octets-check-requires
-    enum-known-r
-    enum-told-2
-    with-count-requires-2
+    (λ c κs. search needs)
+    (λ c κs. search needs)
+    (λ c. search needs)
+    (λ c. search needs)
+    (λ c κs. search needs)
     returns-2
-    group-records-requires
+    (λ c κs. search needs)
     returns-3)

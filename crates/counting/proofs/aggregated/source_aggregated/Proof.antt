@@ -15,18 +15,6 @@ use borrow.Author.Needs.{needs}
 use Rattle.counting.proofs.aggregated.source_aggregated.Statement.{statement}
 use Rattle.counting.proofs.aggregated.source_aggregated.Tie as tie
 
-source-check-requires : tie.Need-source-check-requires
-source-check-requires c κs = search needs
-
-enum-known-s : tie.Need-enum-known-s
-enum-known-s c = search needs
-
-enum-told : tie.Need-enum-told
-enum-told c = search needs
-
-with-count-requires : tie.Need-with-count-requires
-with-count-requires c κs = search needs
-
 returns : tie.Need-returns
 unfolding sourceAggregated _>>=_
 returns c =
@@ -48,18 +36,6 @@ afterSource c next =
     let a = start c .args in
     tallies-on recordCount (sourceField ipv4 false (now (a .m)) (a .at)) _ (c .before .s .given .1) (c .before .before .before .source-check .ensures) (λ s e. next s)
 
-count-check-requires : tie.Need-count-check-requires
-count-check-requires c κs = search needs
-
-enum-known-c : tie.Need-enum-known-c
-enum-known-c c = search needs
-
-enum-told-2 : tie.Need-enum-told-2
-enum-told-2 c = search needs
-
-with-count-requires-2 : tie.Need-with-count-requires-2
-with-count-requires-2 c κs = search needs
-
 returns-2 : tie.Need-returns-2
 unfolding _>>=_
 returns-2 c =
@@ -69,9 +45,6 @@ returns-2 c =
     tallies-bad recordCount (positive (now (a .m)) (d .before .s .given .0 .0)) _ (c .before .enum-told2 .given .1)
     (c .before .before .before .count-check .ensures)
     (c .with-count2 .ensures))
-
-number16-requires : tie.Need-number16-requires
-number16-requires c κs = search needs
 
 -- past the number of groups
 afterCount : (c : tie.After-number16) {y : Read ℕ}
@@ -90,18 +63,6 @@ afterCount c next =
     (c .number16 .ensures)
     (next s))
 
-octets-check-requires : tie.Need-octets-check-requires
-octets-check-requires c κs = search needs
-
-enum-known-r : tie.Need-enum-known-r
-enum-known-r c = search needs
-
-enum-told-3 : tie.Need-enum-told-3
-enum-told-3 c = search needs
-
-with-count-requires-3 : tie.Need-with-count-requires-3
-with-count-requires-3 c κs = search needs
-
 returns-3 : tie.Need-returns-3
 unfolding _>>_
 returns-3 c =
@@ -111,12 +72,6 @@ returns-3 c =
     tallies-bad recordCount (octets 2 (now (a .m)) (d .before .before .c .given .0 .0)) _ (c .before .enum-told3 .given .1)
     (c .before .before .before .octets-check .ensures)
     (c .with-count3 .ensures))
-
-addresses-check-requires : tie.Need-addresses-check-requires
-addresses-check-requires c κs = search needs
-
-with-count-requires-4 : tie.Need-with-count-requires-4
-with-count-requires-4 c κs = search needs
 
 returns-4 : tie.Need-returns-4
 unfolding _>>_ _>>=_ give addressField
@@ -136,22 +91,22 @@ pub source-aggregated-spec : {M : Type 1} → statement M
 source-aggregated-spec =
     tie.close
     (tie.spec
-    source-check-requires
-    enum-known-s
-    enum-told
-    with-count-requires
+    (λ c κs. search needs)
+    (λ c. search needs)
+    (λ c. search needs)
+    (λ c κs. search needs)
     returns
-    count-check-requires
-    enum-known-c
-    enum-told-2
-    with-count-requires-2
+    (λ c κs. search needs)
+    (λ c. search needs)
+    (λ c. search needs)
+    (λ c κs. search needs)
     returns-2
-    number16-requires
-    octets-check-requires
-    enum-known-r
-    enum-told-3
-    with-count-requires-3
+    (λ c κs. search needs)
+    (λ c κs. search needs)
+    (λ c. search needs)
+    (λ c. search needs)
+    (λ c κs. search needs)
     returns-3
-    addresses-check-requires
-    with-count-requires-4
+    (λ c κs. search needs)
+    (λ c κs. search needs)
     returns-4)

@@ -16,9 +16,6 @@ returns c =
     let a = c .before .args in
     whole-none (a .is-group) (now (a .m)) (a .from) (a .n) (c .if1 .taken)
 
-sub-left : tie.Need-sub-left
-sub-left c = search needs
-
 -- as many as fit
 fit : (c : tie.Joined2)
     → c .if2 .there ≡ (length (now (c .before .before .args .m)) - c .before .before .args .from) / addressSize (c .before .before .args .is-group)
@@ -36,4 +33,4 @@ returns-3 c =
     whole-some (a .is-group) (now (a .m)) (a .from) (a .n) (fit (c .before)) (omega arith)
 
 pub whole-addresses-spec : {M : Type 1} → statement M
-whole-addresses-spec = tie.close (tie.spec returns sub-left returns-2 returns-3)
+whole-addresses-spec = tie.close (tie.spec returns (λ c. search needs) returns-2 returns-3)

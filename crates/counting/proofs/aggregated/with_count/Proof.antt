@@ -5,12 +5,6 @@ use borrow.Author.Needs.{needs}
 use Rattle.counting.proofs.aggregated.with_count.Statement.{statement}
 use Rattle.counting.proofs.aggregated.with_count.Tie as tie
 
-enum-known-c : tie.Need-enum-known-c
-enum-known-c c = search needs
-
-enum-known-c-2 : tie.Need-enum-known-c-2
-enum-known-c-2 c = search needs
-
 returns : tie.Need-returns
 unfolding checked counted tallied
 returns c = rw (c .before .c .given .1)
@@ -20,4 +14,4 @@ unfolding checked counted tallied
 returns-2 c = rw (c .before .c2 .given .1)
 
 pub with-count-spec : {M : Type 1} → statement M
-with-count-spec = tie.close (tie.spec enum-known-c enum-known-c-2 returns returns-2)
+with-count-spec = tie.close (tie.spec (λ c. search needs) (λ c. search needs) returns returns-2)

@@ -7,18 +7,6 @@ use Rattle.counting.proofs.Bodies.{packed-bad, packed-on, start-room}
 use Rattle.counting.proofs.entries.count_packed.Statement.{statement}
 use Rattle.counting.proofs.entries.count_packed.Tie as tie
 
-packed-check-requires : tie.Need-packed-check-requires
-packed-check-requires c κs = search needs
-
-enum-known-z : tie.Need-enum-known-z
-enum-known-z c = search needs
-
-enum-told : tie.Need-enum-told
-enum-told c = search needs
-
-with-count-requires : tie.Need-with-count-requires
-with-count-requires c κs = search needs
-
 returns : tie.Need-returns
 returns c =
     let a = c .before .before .before .before .before .args in
@@ -36,10 +24,10 @@ pub count-packed-spec : {M : Type 1} → statement M
 count-packed-spec =
     tie.close
     (tie.spec
-    packed-check-requires
-    enum-known-z
-    enum-told
-    with-count-requires
+    (λ c κs. search needs)
+    (λ c. search needs)
+    (λ c. search needs)
+    (λ c κs. search needs)
     returns
     count-to-end-requires
     returns-2)

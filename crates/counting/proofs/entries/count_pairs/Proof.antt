@@ -8,54 +8,6 @@ use Rattle.counting.specs.Counts.{tallied}
 use Rattle.counting.proofs.entries.count_pairs.Statement.{statement}
 use Rattle.counting.proofs.entries.count_pairs.Tie as tie
 
-enum-told : tie.Need-enum-told
-enum-told c = search needs
-
-bad-requires : tie.Need-bad-requires
-bad-requires c κs = search needs
-
-with-count-requires : tie.Need-with-count-requires
-with-count-requires c κs = search needs
-
-enum-told-2 : tie.Need-enum-told-2
-enum-told-2 c = search needs
-
-bad-requires-2 : tie.Need-bad-requires-2
-bad-requires-2 c κs = search needs
-
-with-count-requires-2 : tie.Need-with-count-requires-2
-with-count-requires-2 c κs = search needs
-
-enum-told-3 : tie.Need-enum-told-3
-enum-told-3 c = search needs
-
-bad-requires-3 : tie.Need-bad-requires-3
-bad-requires-3 c κs = search needs
-
-with-count-requires-3 : tie.Need-with-count-requires-3
-with-count-requires-3 c κs = search needs
-
-enum-told-4 : tie.Need-enum-told-4
-enum-told-4 c = search needs
-
-bad-requires-4 : tie.Need-bad-requires-4
-bad-requires-4 c κs = search needs
-
-with-count-requires-4 : tie.Need-with-count-requires-4
-with-count-requires-4 c κs = search needs
-
-enum-told-5 : tie.Need-enum-told-5
-enum-told-5 c = search needs
-
-count-register-requires : tie.Need-count-register-requires
-count-register-requires c κs = search needs
-
-enum-told-6 : tie.Need-enum-told-6
-enum-told-6 c = search needs
-
-count-register-requires-2 : tie.Need-count-register-requires-2
-count-register-requires-2 c κs = search needs
-
 returns : tie.Need-returns
 unfolding pairsBody checked tallied
 returns c = rw (c .before .before .enum-told .given .1) (c .with-count .ensures ∙ ap (λ x. tallied (λ u. 0) (checked x)) (c .before .bad .ensures))
@@ -84,22 +36,22 @@ pub count-pairs-spec : {M : Type 1} → statement M
 count-pairs-spec =
     tie.close
     (tie.spec
-    enum-told
-    bad-requires
-    with-count-requires
-    enum-told-2
-    bad-requires-2
-    with-count-requires-2
-    enum-told-3
-    bad-requires-3
-    with-count-requires-3
-    enum-told-4
-    bad-requires-4
-    with-count-requires-4
-    enum-told-5
-    count-register-requires
-    enum-told-6
-    count-register-requires-2
+    (λ c. search needs)
+    (λ c κs. search needs)
+    (λ c κs. search needs)
+    (λ c. search needs)
+    (λ c κs. search needs)
+    (λ c κs. search needs)
+    (λ c. search needs)
+    (λ c κs. search needs)
+    (λ c κs. search needs)
+    (λ c. search needs)
+    (λ c κs. search needs)
+    (λ c κs. search needs)
+    (λ c. search needs)
+    (λ c κs. search needs)
+    (λ c. search needs)
+    (λ c κs. search needs)
     returns
     returns-2
     returns-3

@@ -9,26 +9,8 @@ use Rattle.counting.proofs.Bodies.{plain-bad, plain-more, plain-end}
 use Rattle.counting.proofs.entries.count_plain.Statement.{statement}
 use Rattle.counting.proofs.entries.count_plain.Tie as tie
 
-assert-check-requires : tie.Need-assert-check-requires
-assert-check-requires c κs = search needs
-
-enum-known-c : tie.Need-enum-known-c
-enum-known-c c = search needs
-
-enum-told : tie.Need-enum-told
-enum-told c = search needs
-
-with-count-requires : tie.Need-with-count-requires
-with-count-requires c κs = search needs
-
 returns : tie.Need-returns
 returns c = plain-bad (now (c .before .before .before .before .before .args .m)) (c .before .enum-told .given .1) (c .before .before .before .assert-check .ensures) (c .with-count .ensures)
-
-bad-requires : tie.Need-bad-requires
-bad-requires c κs = search needs
-
-with-count-requires-2 : tie.Need-with-count-requires-2
-with-count-requires-2 c κs = search needs
 
 returns-2 : tie.Need-returns-2
 unfolding checked tallied
@@ -45,12 +27,12 @@ pub count-plain-spec : {M : Type 1} → statement M
 count-plain-spec =
     tie.close
     (tie.spec
-    assert-check-requires
-    enum-known-c
-    enum-told
-    with-count-requires
+    (λ c κs. search needs)
+    (λ c. search needs)
+    (λ c. search needs)
+    (λ c κs. search needs)
     returns
-    bad-requires
-    with-count-requires-2
+    (λ c κs. search needs)
+    (λ c κs. search needs)
     returns-2
     returns-3)

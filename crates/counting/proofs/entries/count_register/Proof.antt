@@ -13,12 +13,6 @@ use Rattle.counting.proofs.Bodies.{count-pairs, records-none-left, reco
 use Rattle.counting.proofs.entries.count_register.Statement.{statement}
 use Rattle.counting.proofs.entries.count_register.Tie as tie
 
-bad-requires : tie.Need-bad-requires
-bad-requires c κs = search needs
-
-with-count-requires : tie.Need-with-count-requires
-with-count-requires c κs = search needs
-
 returns : tie.Need-returns
 unfolding checked tallied
 returns c =
@@ -26,9 +20,6 @@ returns c =
     c .with-count .ensures
     ∙ ap (λ x. tallied (λ u. 0) (checked x)) (c .before .bad .ensures)
     ∙ sym (ap (tallied length) (records-none-left (pairRecord ipv4 (a .zero-allowed)) (now (a .m)) 4 (omega arith)))
-
-count-to-end-requires : tie.Need-count-to-end-requires
-count-to-end-requires c κs = search needs
 
 returns-2 : tie.Need-returns-2
 returns-2 c =
@@ -39,4 +30,4 @@ returns-2 c =
 
 pub count-register-spec : {M : Type 1} → statement M
 count-register-spec =
-    tie.close (tie.spec bad-requires with-count-requires returns count-to-end-requires returns-2)
+    tie.close (tie.spec (λ c κs. search needs) (λ c κs. search needs) returns (λ c κs. search needs) returns-2)

@@ -24,12 +24,6 @@ abbrev μ-loop : tie.MeasureT-loop
 abbrev start : tie.At-loop Inv-loop μ-loop → tie.Start Inv-loop μ-loop
 start l = l .before .before .before .before
 
-passed-requires : tie.Need-passed-requires Inv-loop μ-loop
-passed-requires c κs = search needs
-
-record-size-requires : tie.Need-record-size-requires Inv-loop μ-loop
-record-size-requires c κs = search needs
-
 -- past the records that are passed by their form
 first : (c : tie.After-record-size Inv-loop μ-loop)
     → Reached (c .before .before .before .args .joined) (c .before .before .before .args .is-assert) (c .before .before .before .args .zero-allowed) (now (c .before .before .before .args .m))
@@ -49,15 +43,6 @@ loop-holds : tie.Need-loop-holds Inv-loop μ-loop
 loop-holds c =
     let a = c .before .before .before .args in
     (passed-few (a .is-assert) (a .from) (c .before .passed .result) (c .record-size .ensures), first c)
-
-record-count-requires : tie.Need-record-count-requires Inv-loop μ-loop
-record-count-requires c κs = search needs
-
-enum-known-c : tie.Need-enum-known-c Inv-loop μ-loop
-enum-known-c c = search needs
-
-enum-told : tie.Need-enum-told Inv-loop μ-loop
-enum-told c = search needs
 
 -- what is left to count gives the whole
 whole : (l : tie.At-loop Inv-loop μ-loop)
@@ -122,14 +107,14 @@ count-to-end-spec =
     (tie.spec
     Inv-loop
     μ-loop
-    passed-requires
-    record-size-requires
+    (λ c κs. search needs)
+    (λ c κs. search needs)
     mul-at
     add-at
     loop-holds
-    record-count-requires
-    enum-known-c
-    enum-told
+    (λ c κs. search needs)
+    (λ c. search needs)
+    (λ c. search needs)
     returns
     add-total
     loop-less

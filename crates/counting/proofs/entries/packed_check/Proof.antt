@@ -34,18 +34,6 @@ reserved c =
     let d = passed c .before .before in
     octets-room 3 (now (start d .args .m)) (d .before .z .given .0 .0) (c .before .r .given .1) (c .before .before .before .octets-check2 .ensures)
 
-octets-check-requires : tie.Need-octets-check-requires
-octets-check-requires c κs = search needs
-
-enum-known-z : tie.Need-enum-known-z
-enum-known-z c = search needs
-
-enum-told : tie.Need-enum-told
-enum-told c = search needs
-
-in-record-requires : tie.Need-in-record-requires
-in-record-requires c κs = search needs
-
 returns : tie.Need-returns
 unfolding checked
 returns c =
@@ -58,12 +46,6 @@ returns c =
 shared-slice-read-if1 : tie.Need-shared-slice-read-if1
 shared-slice-read-if1 c = omega (arith, zero (c .before) .0)
 
-bad-requires : tie.Need-bad-requires
-bad-requires c κs = search needs
-
-in-record-requires-2 : tie.Need-in-record-requires-2
-in-record-requires-2 c κs = search needs
-
 returns-2 : tie.Need-returns-2
 unfolding checked
 returns-2 c =
@@ -71,18 +53,6 @@ returns-2 c =
     c .in-record2 .ensures
     ∙ ap (λ z. handUp 4 (checked z)) (c .before .bad .ensures)
     ∙ zero-wrong (now (start d .args .m)) 4 (zero d .0) (c .before .before .if1 .taken)
-
-octets-check-requires-2 : tie.Need-octets-check-requires-2
-octets-check-requires-2 c κs = search needs
-
-enum-known-r : tie.Need-enum-known-r
-enum-known-r c = search needs
-
-enum-told-2 : tie.Need-enum-told-2
-enum-told-2 c = search needs
-
-in-record-requires-3 : tie.Need-in-record-requires-3
-in-record-requires-3 c κs = search needs
 
 returns-3 : tie.Need-returns-3
 unfolding checked
@@ -94,9 +64,6 @@ returns-3 c =
     ∙ ap (λ z. handUp 4 (checked z)) (c .before .enum-told2 .given .1)
     ∙ reserved-cut o 4 (zero d .0) (r .before .if1 .left) (zero d .1)
     (sym (refused (octets 3 o (d .before .z .given .0 .0)) (c .before .enum-told2 .given .1) (r .octets-check2 .ensures)))
-
-bad-requires-2 : tie.Need-bad-requires-2
-bad-requires-2 c κs = search needs
 
 returns-4 : tie.Need-returns-4
 unfolding checked
@@ -117,20 +84,20 @@ pub packed-check-spec : {M : Type 1} → statement M
 packed-check-spec =
     tie.close
     (tie.spec
-    octets-check-requires
-    enum-known-z
-    enum-told
-    in-record-requires
+    (λ c κs. search needs)
+    (λ c. search needs)
+    (λ c. search needs)
+    (λ c κs. search needs)
     returns
     shared-slice-read-if1
-    bad-requires
-    in-record-requires-2
+    (λ c κs. search needs)
+    (λ c κs. search needs)
     returns-2
-    octets-check-requires-2
-    enum-known-r
-    enum-told-2
-    in-record-requires-3
+    (λ c κs. search needs)
+    (λ c. search needs)
+    (λ c. search needs)
+    (λ c κs. search needs)
     returns-3
-    bad-requires-2
+    (λ c κs. search needs)
     returns-4
     returns-5)

@@ -8,12 +8,9 @@ returns : tie.Need-returns
 unfolding passedRecords
 returns c = rw (c .if1 .taken)
 
-allowed-records-requires : tie.Need-allowed-records-requires
-allowed-records-requires c κs = search needs
-
 returns-2 : tie.Need-returns-2
 unfolding passedRecords
 returns-2 c = rw (c .before .if1 .left) (c .allowed-records .ensures)
 
 pub passed-spec : {M : Type 1} → statement M
-passed-spec = tie.close (tie.spec returns allowed-records-requires returns-2)
+passed-spec = tie.close (tie.spec returns (λ c κs. search needs) returns-2)

@@ -28,9 +28,6 @@ room c =
     let a = start l .args in
     whole-there (a .is-assert) (now (a .m)) (a .from) (l .loop .at) (l .before .whole-records .result) (l .loop .i) (l .before .whole-records .ensures) (l .loop .inv .0) (c .loop-test .taken)
 
-whole-records-requires : tie.Need-whole-records-requires Inv-loop μ-loop
-whole-records-requires c κs = search needs
-
 loop-holds : tie.Need-loop-holds Inv-loop μ-loop
 loop-holds c =
     let a = c .before .before .args in
@@ -39,17 +36,8 @@ loop-holds c =
 record-allowed-requires : tie.Need-record-allowed-requires Inv-loop μ-loop
 record-allowed-requires c κs = room c
 
-record-size-requires : tie.Need-record-size-requires Inv-loop μ-loop
-record-size-requires c κs = search needs
-
 add-at : tie.Need-add-at Inv-loop μ-loop
 add-at c = omega (arith, room (c .before .before .before), c .record-size .ensures)
-
-add-i : tie.Need-add-i Inv-loop μ-loop
-add-i c = search needs
-
-loop-less : tie.Need-loop-less Inv-loop μ-loop
-loop-less c = search needs
 
 loop-again : tie.Need-loop-again Inv-loop μ-loop
 loop-again c =
@@ -89,13 +77,13 @@ allowed-records-spec =
     (tie.spec
     Inv-loop
     μ-loop
-    whole-records-requires
+    (λ c κs. search needs)
     loop-holds
     record-allowed-requires
-    record-size-requires
+    (λ c κs. search needs)
     add-at
-    add-i
-    loop-less
+    (λ c. search needs)
+    (λ c. search needs)
     loop-again
     returns
     returns-2)

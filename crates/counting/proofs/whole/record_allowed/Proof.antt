@@ -18,20 +18,8 @@ use Rattle.counting.proofs.whole.record_allowed.Tie as tie
 abbrev start : tie.After-is-group → tie.Start
 start c = c .before .before .before
 
-add-is-group : tie.Need-add-is-group
-add-is-group c = search needs
-
-sub-is-group : tie.Need-sub-is-group
-sub-is-group c = search needs
-
-part-is-group-start : tie.Need-part-is-group-start
-part-is-group-start c = search needs
-
 part-is-group-end : tie.Need-part-is-group-end
 part-is-group-end c = omega (arith, form-room (c .before .args .is-assert) (c .before .args .at) (length (now (c .before .args .m))) (c .before .pre))
-
-is-group-requires : tie.Need-is-group-requires
-is-group-requires c κs = search needs
 
 -- what was found of the group
 group-is : (c : tie.After-is-group) → c .is-group .result ≡ groupForm ipv4 (take 8 (drop (start c .args .at) (now (start c .args .m))))
@@ -45,41 +33,11 @@ there c =
     let s = start (c .before .before) in
     assert-room (s .args .is-assert) (s .args .at) (length (now (s .args .m))) (c .if2 .taken) (s .pre)
 
-add-is-source : tie.Need-add-is-source
-add-is-source c = search needs
-
-add-is-source-2 : tie.Need-add-is-source-2
-add-is-source-2 c = search needs
-
-sub-is-source : tie.Need-sub-is-source
-sub-is-source c = search needs
-
-part-is-source-start : tie.Need-part-is-source-start
-part-is-source-start c = search needs
-
 part-is-source-end : tie.Need-part-is-source-end
 part-is-source-end c = omega (arith, there c)
 
-add-r-bit : tie.Need-add-r-bit
-add-r-bit c = search needs
-
-add-r-bit-2 : tie.Need-add-r-bit-2
-add-r-bit-2 c = search needs
-
-sub-r-bit : tie.Need-sub-r-bit
-sub-r-bit c = search needs
-
-part-r-bit-start : tie.Need-part-r-bit-start
-part-r-bit-start c = search needs
-
 part-r-bit-end : tie.Need-part-r-bit-end
 part-r-bit-end c = omega (arith, there (c .before))
-
-r-bit-requires : tie.Need-r-bit-requires
-r-bit-requires c κs = search needs
-
-is-source-requires : tie.Need-is-source-requires
-is-source-requires c κs = search needs
 
 returns : tie.Need-returns
 returns c =
@@ -91,25 +49,10 @@ returns c =
     let form = c .is-source .ensures ∙ part-form 6 (sourceForm ipv4 (r .r-bit .result)) (now (a .m)) (a .at + 8) (a .at + 14) (omega arith) (omega (arith, there t)) in
     rw (t .if2 .taken) (form-assert (now (a .m)) (a .at) (group-is g) (a .zero-allowed) (t .before .if1 .taken) bit form)
 
-add-is-source-3 : tie.Need-add-is-source-3
-add-is-source-3 c = search needs
-
-add-is-source-4 : tie.Need-add-is-source-4
-add-is-source-4 c = search needs
-
-sub-is-source-2 : tie.Need-sub-is-source-2
-sub-is-source-2 c = search needs
-
-part-is-source-start-2 : tie.Need-part-is-source-start-2
-part-is-source-start-2 c = search needs
-
 part-is-source-end-2 : tie.Need-part-is-source-end-2
 part-is-source-end-2 c =
     let s = start (c .before .before) in
     form-room (s .args .is-assert) (s .args .at) (length (now (s .args .m))) (s .pre)
-
-is-source-requires-2 : tie.Need-is-source-requires-2
-is-source-requires-2 c κs = search needs
 
 returns-2 : tie.Need-returns-2
 returns-2 c =
@@ -128,29 +71,29 @@ pub record-allowed-spec : {M : Type 1} → statement M
 record-allowed-spec =
     tie.close
     (tie.spec
-    add-is-group
-    sub-is-group
-    part-is-group-start
+    (λ c. search needs)
+    (λ c. search needs)
+    (λ c. search needs)
     part-is-group-end
-    is-group-requires
-    add-is-source
-    add-is-source-2
-    sub-is-source
-    part-is-source-start
+    (λ c κs. search needs)
+    (λ c. search needs)
+    (λ c. search needs)
+    (λ c. search needs)
+    (λ c. search needs)
     part-is-source-end
-    add-r-bit
-    add-r-bit-2
-    sub-r-bit
-    part-r-bit-start
+    (λ c. search needs)
+    (λ c. search needs)
+    (λ c. search needs)
+    (λ c. search needs)
     part-r-bit-end
-    r-bit-requires
-    is-source-requires
+    (λ c κs. search needs)
+    (λ c κs. search needs)
     returns
-    add-is-source-3
-    add-is-source-4
-    sub-is-source-2
-    part-is-source-start-2
+    (λ c. search needs)
+    (λ c. search needs)
+    (λ c. search needs)
+    (λ c. search needs)
     part-is-source-end-2
-    is-source-requires-2
+    (λ c κs. search needs)
     returns-2
     returns-3)

@@ -4,9 +4,6 @@ use Rattle.counting.specs.Counts.{recordSize, wholeRecords}
 use Rattle.counting.proofs.whole.whole_records.Statement.{statement}
 use Rattle.counting.proofs.whole.whole_records.Tie as tie
 
-sub-left : tie.Need-sub-left
-sub-left c = search needs
-
 returns : tie.Need-returns
 unfolding recordSize wholeRecords
 returns c = rw (c .if1 .taken)
@@ -16,4 +13,4 @@ unfolding recordSize wholeRecords
 returns-2 c = rw (c .if1 .left)
 
 pub whole-records-spec : {M : Type 1} → statement M
-whole-records-spec = tie.close (tie.spec sub-left returns returns-2)
+whole-records-spec = tie.close (tie.spec (λ c. search needs) returns returns-2)

@@ -12,15 +12,6 @@ use Rattle.fields.proofs.Fields.{octets-room, part-form, form-no, form-
 use Rattle.fields.proofs.field.group_check.Statement.{statement}
 use Rattle.fields.proofs.field.group_check.Tie as tie
 
-octets-check-requires : tie.Need-octets-check-requires
-octets-check-requires c κs = search needs
-
-enum-known-f : tie.Need-enum-known-f
-enum-known-f c = search needs
-
-enum-told : tie.Need-enum-told
-enum-told c = search needs
-
 returns : tie.Need-returns
 returns c =
     let a = c .before .before .before .before .args in
@@ -45,9 +36,6 @@ part-is-group-start c = omega (arith, found c)
 part-is-group-end : tie.Need-part-is-group-end
 part-is-group-end c = omega (arith, found c)
 
-is-group-requires : tie.Need-is-group-requires
-is-group-requires c κs = search needs
-
 -- what the test of their form said
 form : (c : tie.After-is-group) → groupForm ipv4 (take 8 (drop (start (c .before .before) .args .at) (now (start (c .before .before) .args .m)))) ≡ c .is-group .result
 form c =
@@ -62,9 +50,6 @@ returns-2 c =
     let a = start d .args in
     form-yes (group-is (now (a .m)) (a .at) (found d .0)) (found d .1) (form (c .before) ∙ c .if1 .taken)
 
-bad-requires : tie.Need-bad-requires
-bad-requires c κs = search needs
-
 returns-3 : tie.Need-returns-3
 returns-3 c =
     let d = c .before .before .before .before in
@@ -75,14 +60,14 @@ pub group-check-spec : {M : Type 1} → statement M
 group-check-spec =
     tie.close
     (tie.spec
-    octets-check-requires
-    enum-known-f
-    enum-told
+    (λ c κs. search needs)
+    (λ c. search needs)
+    (λ c. search needs)
     returns
     sub-is-group
     part-is-group-start
     part-is-group-end
-    is-group-requires
+    (λ c κs. search needs)
     returns-2
-    bad-requires
+    (λ c κs. search needs)
     returns-3)

@@ -24,20 +24,11 @@ asked c =
 returns : tie.Need-returns
 returns c = rw (ne-eqb _ _ (c .if1 .taken))
 
-shared-slice-read-if2 : tie.Need-shared-slice-read-if2
-shared-slice-read-if2 c = search needs
-
 returns-2 : tie.Need-returns-2
 returns-2 c = rw (asked (c .before .before), ne-eqb _ _ (c .if2 .taken))
 
-shared-slice-read-if3 : tie.Need-shared-slice-read-if3
-shared-slice-read-if3 c = search needs
-
 returns-3 : tie.Need-returns-3
 returns-3 c = rw (asked (c .before .before .before .before), eq-eqb _ _ (c .before .before .if2 .left), ne-eqb _ _ (c .if3 .taken))
-
-number32-requires : tie.Need-number32-requires
-number32-requires c κs = search needs
 
 -- whether the address may be 0 is asked last: it seldom is, whatever R of the record says
 any-true : (z : Bool) → true ≡ (z || true)
@@ -67,10 +58,10 @@ is-source-spec =
     tie.close
     (tie.spec
     returns
-    shared-slice-read-if2
+    (λ c. search needs)
     returns-2
-    shared-slice-read-if3
+    (λ c. search needs)
     returns-3
-    number32-requires
+    (λ c κs. search needs)
     returns-4
     returns-5)

@@ -12,15 +12,6 @@ use Rattle.fields.proofs.Fields.{octets-room, part-form, form-no, form-
 use Rattle.fields.proofs.field.source_check.Statement.{statement}
 use Rattle.fields.proofs.field.source_check.Tie as tie
 
-octets-check-requires : tie.Need-octets-check-requires
-octets-check-requires c κs = search needs
-
-enum-known-f : tie.Need-enum-known-f
-enum-known-f c = search needs
-
-enum-told : tie.Need-enum-told
-enum-told c = search needs
-
 returns : tie.Need-returns
 returns c =
     let a = c .before .before .before .before .args in
@@ -45,9 +36,6 @@ part-is-source-start c = omega (arith, found c)
 part-is-source-end : tie.Need-part-is-source-end
 part-is-source-end c = omega (arith, found c)
 
-is-source-requires : tie.Need-is-source-requires
-is-source-requires c κs = search needs
-
 -- what the test of their form said
 form : (c : tie.After-is-source) → sourceForm ipv4 (start (c .before .before) .args .zero-allowed) (take 6 (drop (start (c .before .before) .args .at) (now (start (c .before .before) .args .m)))) ≡ c .is-source .result
 form c =
@@ -62,9 +50,6 @@ returns-2 c =
     let a = start d .args in
     form-yes (source-is (a .zero-allowed) (now (a .m)) (a .at) (found d .0)) (found d .1) (form (c .before) ∙ c .if1 .taken)
 
-bad-requires : tie.Need-bad-requires
-bad-requires c κs = search needs
-
 returns-3 : tie.Need-returns-3
 returns-3 c =
     let d = c .before .before .before .before in
@@ -75,14 +60,14 @@ pub source-check-spec : {M : Type 1} → statement M
 source-check-spec =
     tie.close
     (tie.spec
-    octets-check-requires
-    enum-known-f
-    enum-told
+    (λ c κs. search needs)
+    (λ c. search needs)
+    (λ c. search needs)
     returns
     sub-is-source
     part-is-source-start
     part-is-source-end
-    is-source-requires
+    (λ c κs. search needs)
     returns-2
-    bad-requires
+    (λ c κs. search needs)
     returns-3)

@@ -19,30 +19,6 @@ returns c =
     let none : (k : ℕ) → numberAt 4 (now (a .m)) (a .at + k) ≡ 0 = λ k. number-none 4 (now (a .m)) (a .at + k) (omega arith) in
     rw (none 4, none 10, none 14, none 18)
 
-add-number32 : tie.Need-add-number32
-add-number32 c = search needs
-
-number32-requires : tie.Need-number32-requires
-number32-requires c κs = search needs
-
-add-number32-2 : tie.Need-add-number32-2
-add-number32-2 c = search needs
-
-number32-requires-2 : tie.Need-number32-requires-2
-number32-requires-2 c κs = search needs
-
-add-number32-3 : tie.Need-add-number32-3
-add-number32-3 c = search needs
-
-number32-requires-3 : tie.Need-number32-requires-3
-number32-requires-3 c κs = search needs
-
-add-number32-4 : tie.Need-add-number32-4
-add-number32-4 c = search needs
-
-number32-requires-4 : tie.Need-number32-requires-4
-number32-requires-4 c κs = search needs
-
 returns-2 : tie.Need-returns-2
 unfolding assertOf plainAssert
 returns-2 c = rw (c .before .before .before .number32 .ensures, c .before .before .number322 .ensures, c .before .number323 .ensures, c .number324 .ensures)
@@ -52,12 +28,12 @@ assert-at-spec =
     tie.close
     (tie.spec
     returns
-    add-number32
-    number32-requires
-    add-number32-2
-    number32-requires-2
-    add-number32-3
-    number32-requires-3
-    add-number32-4
-    number32-requires-4
+    (λ c. search needs)
+    (λ c κs. search needs)
+    (λ c. search needs)
+    (λ c κs. search needs)
+    (λ c. search needs)
+    (λ c κs. search needs)
+    (λ c. search needs)
+    (λ c κs. search needs)
     returns-2)

@@ -10,12 +10,6 @@ use Rattle.fields.proofs.Skipped.{skipped-handUp}
 use Rattle.fields.proofs.record.assert_check.Statement.{statement}
 use Rattle.fields.proofs.record.assert_check.Tie as tie
 
-assert-fields-requires : tie.Need-assert-fields-requires
-assert-fields-requires c κs = search needs
-
-in-record-requires : tie.Need-in-record-requires
-in-record-requires c κs = search needs
-
 returns : tie.Need-returns
 unfolding assertRecord inRecord
 returns c =
@@ -23,4 +17,4 @@ returns c =
     rw (c .in-record .ensures, c .before .assert-fields .ensures) (sym (skipped-handUp (a .at) (assertFields ipv4 (now (a .m)) (a .at))))
 
 pub assert-check-spec : {M : Type 1} → statement M
-assert-check-spec = tie.close (tie.spec assert-fields-requires in-record-requires returns)
+assert-check-spec = tie.close (tie.spec (λ c κs. search needs) (λ c κs. search needs) returns)

@@ -23,28 +23,10 @@ grouped c = c .before .before .before .before
 abbrev sourced : tie.After-known-told3 → tie.After-known-told2
 sourced c = c .before .before .before .before
 
-group-check-requires : tie.Need-group-check-requires
-group-check-requires c κs = search needs
-
-enum-known-g : tie.Need-enum-known-g
-enum-known-g c = search needs
-
-enum-told : tie.Need-enum-told
-enum-told c = search needs
-
 returns : tie.Need-returns
 returns c =
     let a = c .before .before .before .before .args in
     assert-no-group (now (a .m)) (a .at) (c .enum-told .given .1) (c .before .before .group-check .ensures)
-
-source-check-requires : tie.Need-source-check-requires
-source-check-requires c κs = search needs
-
-enum-known-s : tie.Need-enum-known-s
-enum-known-s c = search needs
-
-enum-told-2 : tie.Need-enum-told-2
-enum-told-2 c = search needs
 
 returns-2 : tie.Need-returns-2
 returns-2 c =
@@ -53,15 +35,6 @@ returns-2 c =
     assert-no-source (now (a .m)) (a .at)
     (g .before .g .given .1) (g .before .before .before .group-check .ensures)
     (c .enum-told2 .given .1) (c .before .before .source-check .ensures)
-
-octets-check-requires : tie.Need-octets-check-requires
-octets-check-requires c κs = search needs
-
-enum-known-v : tie.Need-enum-known-v
-enum-known-v c = search needs
-
-enum-told-3 : tie.Need-enum-told-3
-enum-told-3 c = search needs
 
 returns-3 : tie.Need-returns-3
 returns-3 c =
@@ -89,17 +62,8 @@ found c =
 add-r-bit : tie.Need-add-r-bit
 add-r-bit c = omega (arith, head-room (found c))
 
-sub-r-bit : tie.Need-sub-r-bit
-sub-r-bit c = search needs
-
-part-r-bit-start : tie.Need-part-r-bit-start
-part-r-bit-start c = search needs
-
 part-r-bit-end : tie.Need-part-r-bit-end
 part-r-bit-end c = omega (arith, head-room (found c))
-
-r-bit-requires : tie.Need-r-bit-requires
-r-bit-requires c κs = search needs
 
 -- R as code has read it is that of the word
 bit-is : (c : tie.After-r-bit) → c .r-bit .result ≡ rBit (numberAt 4 (now (start (grouped (sourced (c .before .before))) .args .m)) (sourced (c .before .before) .before .s .given .0 .0))
@@ -107,9 +71,6 @@ bit-is c =
     let d = c .before .before in
     let at = sourced d .before .s .given .0 .0 in
     c .r-bit .ensures ∙ ap rBit (number-cut 4 (now (start (grouped (sourced d)) .args .m)) at (at + 4) (omega arith) (omega (arith, head-room (found d))))
-
-octets-check-requires-2 : tie.Need-octets-check-requires-2
-octets-check-requires-2 c κs = search needs
 
 returns-4 : tie.Need-returns-4
 returns-4 c =
@@ -122,17 +83,8 @@ add-number32 c = omega (arith, head-room (found (c .before .before .before)))
 add-number32-2 : tie.Need-add-number32-2
 add-number32-2 c = omega (arith, head-room (found (c .before .before .before)))
 
-sub-number32 : tie.Need-sub-number32
-sub-number32 c = search needs
-
-part-number32-start : tie.Need-part-number32-start
-part-number32-start c = search needs
-
 part-number32-end : tie.Need-part-number32-end
 part-number32-end c = omega (arith, head-room (found (c .before .before .before)))
-
-number32-requires : tie.Need-number32-requires
-number32-requires c κs = search needs
 
 -- the source as code has read it is the one that is tested
 source-is : (c : tie.After-number32)
@@ -142,17 +94,11 @@ source-is c =
     let at = grouped (sourced d) .before .g .given .0 .0 in
     c .number32 .ensures ∙ number-cut 4 (now (start (grouped (sourced d)) .args .m)) (at + 2) (at + 6) (omega arith) (omega (arith, head-room (found d)))
 
-bad-requires : tie.Need-bad-requires
-bad-requires c κs = search needs
-
 returns-5 : tie.Need-returns-5
 returns-5 c =
     let n = c .before .before in
     let e = n .before .before in
     assert-zero (found (e .before .before .before)) (rw (← bit-is (e .before), e .if1 .left, ← source-is n, eq-eqb _ _ (c .before .if2 .taken))) (c .bad .ensures)
-
-octets-check-requires-3 : tie.Need-octets-check-requires-3
-octets-check-requires-3 c κs = search needs
 
 returns-6 : tie.Need-returns-6
 returns-6 c =
@@ -164,32 +110,32 @@ pub assert-fields-spec : {M : Type 1} → statement M
 assert-fields-spec =
     tie.close
     (tie.spec
-    group-check-requires
-    enum-known-g
-    enum-told
+    (λ c κs. search needs)
+    (λ c. search needs)
+    (λ c. search needs)
     returns
-    source-check-requires
-    enum-known-s
-    enum-told-2
+    (λ c κs. search needs)
+    (λ c. search needs)
+    (λ c. search needs)
     returns-2
-    octets-check-requires
-    enum-known-v
-    enum-told-3
+    (λ c κs. search needs)
+    (λ c. search needs)
+    (λ c. search needs)
     returns-3
     add-r-bit
-    sub-r-bit
-    part-r-bit-start
+    (λ c. search needs)
+    (λ c. search needs)
     part-r-bit-end
-    r-bit-requires
-    octets-check-requires-2
+    (λ c κs. search needs)
+    (λ c κs. search needs)
     returns-4
     add-number32
     add-number32-2
-    sub-number32
-    part-number32-start
+    (λ c. search needs)
+    (λ c. search needs)
     part-number32-end
-    number32-requires
-    bad-requires
+    (λ c κs. search needs)
+    (λ c κs. search needs)
     returns-5
-    octets-check-requires-3
+    (λ c κs. search needs)
     returns-6)

@@ -19,22 +19,10 @@ returns c =
     let none : (k : ℕ) → numberAt 4 (now (a .m)) (a .at + k) ≡ 0 = λ k. number-none 4 (now (a .m)) (a .at + k) (omega arith) in
     rw (none 4, none 10)
 
-add-number32 : tie.Need-add-number32
-add-number32 c = search needs
-
-number32-requires : tie.Need-number32-requires
-number32-requires c κs = search needs
-
-add-number32-2 : tie.Need-add-number32-2
-add-number32-2 c = search needs
-
-number32-requires-2 : tie.Need-number32-requires-2
-number32-requires-2 c κs = search needs
-
 returns-2 : tie.Need-returns-2
 unfolding pairOf plainPair
 returns-2 c = rw (c .before .number32 .ensures, c .number322 .ensures)
 
 pub pair-at-spec : {M : Type 1} → statement M
 pair-at-spec =
-    tie.close (tie.spec returns add-number32 number32-requires add-number32-2 number32-requires-2 returns-2)
+    tie.close (tie.spec returns (λ c. search needs) (λ c κs. search needs) (λ c. search needs) (λ c κs. search needs) returns-2)

@@ -10,12 +10,6 @@ use Rattle.fields.proofs.Skipped.{skipped-handUp}
 use Rattle.fields.proofs.record.pair_check.Statement.{statement}
 use Rattle.fields.proofs.record.pair_check.Tie as tie
 
-pair-fields-requires : tie.Need-pair-fields-requires
-pair-fields-requires c κs = search needs
-
-in-record-requires : tie.Need-in-record-requires
-in-record-requires c κs = search needs
-
 returns : tie.Need-returns
 unfolding pairRecord inRecord
 returns c =
@@ -23,4 +17,4 @@ returns c =
     rw (c .in-record .ensures, c .before .pair-fields .ensures) (sym (skipped-handUp (a .at) (pairFields ipv4 (a .zero-allowed) (now (a .m)) (a .at))))
 
 pub pair-check-spec : {M : Type 1} → statement M
-pair-check-spec = tie.close (tie.spec pair-fields-requires in-record-requires returns)
+pair-check-spec = tie.close (tie.spec (λ c κs. search needs) (λ c κs. search needs) returns)

@@ -12,23 +12,11 @@ use Rattle.fields.proofs.Skipped.{checks-bad, checks-on, skipped-last}
 use Rattle.fields.proofs.record.pair_fields.Statement.{statement}
 use Rattle.fields.proofs.record.pair_fields.Tie as tie
 
-group-check-requires : tie.Need-group-check-requires
-group-check-requires c κs = search needs
-
-enum-known-g : tie.Need-enum-known-g
-enum-known-g c = search needs
-
-enum-told : tie.Need-enum-told
-enum-told c = search needs
-
 returns : tie.Need-returns
 unfolding pairFields _>>=_
 returns c =
     let a = c .before .before .before .before .args in
     checks-bad (groupField ipv4 (now (a .m)) (a .at)) _ (c .enum-told .given .1) (c .before .before .group-check .ensures)
-
-source-check-requires : tie.Need-source-check-requires
-source-check-requires c κs = search needs
 
 returns-2 : tie.Need-returns-2
 unfolding pairFields _>>=_ give
@@ -40,4 +28,4 @@ returns-2 c =
 pub pair-fields-spec : {M : Type 1} → statement M
 pair-fields-spec =
     tie.close
-    (tie.spec group-check-requires enum-known-g enum-told returns source-check-requires returns-2)
+    (tie.spec (λ c κs. search needs) (λ c. search needs) (λ c. search needs) returns (λ c κs. search needs) returns-2)

@@ -10,18 +10,6 @@ use Rattle.fields.proofs.Plain.{record-back}
 use Rattle.fields.proofs.record.read_record.Statement.{statement}
 use Rattle.fields.proofs.record.read_record.Tie as tie
 
-record-check-requires : tie.Need-record-check-requires
-record-check-requires c κs = search needs
-
-enum-known-c : tie.Need-enum-known-c
-enum-known-c c = search needs
-
-enum-known-c-2 : tie.Need-enum-known-c-2
-enum-known-c-2 c = search needs
-
-record-at-requires : tie.Need-record-at-requires
-record-at-requires c κs = search needs
-
 returns : tie.Need-returns
 unfolding single
 returns c =
@@ -39,9 +27,9 @@ pub read-record-spec : {M : Type 1} → statement M
 read-record-spec =
     tie.close
     (tie.spec
-    record-check-requires
-    enum-known-c
-    enum-known-c-2
-    record-at-requires
+    (λ c κs. search needs)
+    (λ c. search needs)
+    (λ c. search needs)
+    (λ c κs. search needs)
     returns
     returns-2)

@@ -6,42 +6,6 @@ use Rattle.format.specs.Values.{recordOf}
 use Rattle.fields.proofs.record.record_at.Statement.{statement}
 use Rattle.fields.proofs.record.record_at.Tie as tie
 
-enum-told : tie.Need-enum-told
-enum-told c = search needs
-
-assert-at-requires : tie.Need-assert-at-requires
-assert-at-requires c κs = search needs
-
-enum-told-2 : tie.Need-enum-told-2
-enum-told-2 c = search needs
-
-assert-at-requires-2 : tie.Need-assert-at-requires-2
-assert-at-requires-2 c κs = search needs
-
-enum-told-3 : tie.Need-enum-told-3
-enum-told-3 c = search needs
-
-assert-at-requires-3 : tie.Need-assert-at-requires-3
-assert-at-requires-3 c κs = search needs
-
-enum-told-4 : tie.Need-enum-told-4
-enum-told-4 c = search needs
-
-assert-at-requires-4 : tie.Need-assert-at-requires-4
-assert-at-requires-4 c κs = search needs
-
-enum-told-5 : tie.Need-enum-told-5
-enum-told-5 c = search needs
-
-pair-at-requires : tie.Need-pair-at-requires
-pair-at-requires c κs = search needs
-
-enum-told-6 : tie.Need-enum-told-6
-enum-told-6 c = search needs
-
-pair-at-requires-2 : tie.Need-pair-at-requires-2
-pair-at-requires-2 c κs = search needs
-
 returns : tie.Need-returns
 unfolding recordOf plainRecord
 returns c = rw (c .before .enum-told .given .1, c .assert-at .ensures)
@@ -70,18 +34,18 @@ pub record-at-spec : {M : Type 1} → statement M
 record-at-spec =
     tie.close
     (tie.spec
-    enum-told
-    assert-at-requires
-    enum-told-2
-    assert-at-requires-2
-    enum-told-3
-    assert-at-requires-3
-    enum-told-4
-    assert-at-requires-4
-    enum-told-5
-    pair-at-requires
-    enum-told-6
-    pair-at-requires-2
+    (λ c. search needs)
+    (λ c κs. search needs)
+    (λ c. search needs)
+    (λ c κs. search needs)
+    (λ c. search needs)
+    (λ c κs. search needs)
+    (λ c. search needs)
+    (λ c κs. search needs)
+    (λ c. search needs)
+    (λ c κs. search needs)
+    (λ c. search needs)
+    (λ c κs. search needs)
     returns
     returns-2
     returns-3

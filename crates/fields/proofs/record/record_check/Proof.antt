@@ -9,42 +9,6 @@ use Rattle.fields.proofs.Skipped.{skipped-last}
 use Rattle.fields.proofs.record.record_check.Statement.{statement}
 use Rattle.fields.proofs.record.record_check.Tie as tie
 
-enum-told : tie.Need-enum-told
-enum-told c = search needs
-
-bad-requires : tie.Need-bad-requires
-bad-requires c κs = search needs
-
-enum-told-2 : tie.Need-enum-told-2
-enum-told-2 c = search needs
-
-assert-check-requires : tie.Need-assert-check-requires
-assert-check-requires c κs = search needs
-
-enum-told-3 : tie.Need-enum-told-3
-enum-told-3 c = search needs
-
-assert-check-requires-2 : tie.Need-assert-check-requires-2
-assert-check-requires-2 c κs = search needs
-
-enum-told-4 : tie.Need-enum-told-4
-enum-told-4 c = search needs
-
-bad-requires-2 : tie.Need-bad-requires-2
-bad-requires-2 c κs = search needs
-
-enum-told-5 : tie.Need-enum-told-5
-enum-told-5 c = search needs
-
-pair-check-requires : tie.Need-pair-check-requires
-pair-check-requires c κs = search needs
-
-enum-told-6 : tie.Need-enum-told-6
-enum-told-6 c = search needs
-
-pair-check-requires-2 : tie.Need-pair-check-requires-2
-pair-check-requires-2 c κs = search needs
-
 returns : tie.Need-returns
 unfolding checked skipped recordAt
 returns c = rw (c .bad .ensures, c .before .enum-told .given .1)
@@ -73,18 +37,18 @@ pub record-check-spec : {M : Type 1} → statement M
 record-check-spec =
     tie.close
     (tie.spec
-    enum-told
-    bad-requires
-    enum-told-2
-    assert-check-requires
-    enum-told-3
-    assert-check-requires-2
-    enum-told-4
-    bad-requires-2
-    enum-told-5
-    pair-check-requires
-    enum-told-6
-    pair-check-requires-2
+    (λ c. search needs)
+    (λ c κs. search needs)
+    (λ c. search needs)
+    (λ c κs. search needs)
+    (λ c. search needs)
+    (λ c κs. search needs)
+    (λ c. search needs)
+    (λ c κs. search needs)
+    (λ c. search needs)
+    (λ c κs. search needs)
+    (λ c. search needs)
+    (λ c κs. search needs)
     returns
     returns-2
     returns-3

@@ -7,18 +7,6 @@ use Rattle.headers.proofs.Headers.{headed-room, body-some, body-none}
 use Rattle.headers.proofs.message.body.Statement.{statement}
 use Rattle.headers.proofs.message.body.Tie as tie
 
-header-requires : tie.Need-header-requires
-header-requires c κs = search needs
-
-enum-told : tie.Need-enum-told
-enum-told c = search needs
-
-enum-told-2 : tie.Need-enum-told-2
-enum-told-2 c = search needs
-
-slice-aggregate-result : tie.Need-slice-aggregate-result
-slice-aggregate-result c = search needs
-
 returns : tie.Need-returns
 returns c = body-none (now (c .before .before .before .before .before .args .m)) (c .before .enum-told2 .given .1) (c .before .before .before .header .ensures)
 
@@ -28,9 +16,6 @@ sub-result c = omega (arith, headed-room (now (c .before .before .before .before
 part-result-start : tie.Need-part-result-start
 part-result-start c = omega (arith, headed-room (now (c .before .before .before .before .args .m)) (c .enum-told .given .1) (c .before .before .header .ensures))
 
-part-result-end : tie.Need-part-result-end
-part-result-end c = search needs
-
 returns-2 : tie.Need-returns-2
 returns-2 c = body-some (now (c .before .before .before .before .before .args .m)) (c .before .enum-told .given .1) (c .before .before .before .header .ensures)
 
@@ -38,12 +23,12 @@ pub body-spec : {M : Type 1} → statement M
 body-spec =
     tie.close
     (tie.spec
-    header-requires
-    enum-told
-    enum-told-2
-    slice-aggregate-result
+    (λ c κs. search needs)
+    (λ c. search needs)
+    (λ c. search needs)
+    (λ c. search needs)
     returns
     sub-result
     part-result-start
-    part-result-end
+    (λ c. search needs)
     returns-2)

@@ -11,22 +11,13 @@ returns : tie.Need-returns
 unfolding kindOf headed
 returns c = rw (eq-eqb _ _ (c .if1 .taken))
 
-assert-kind-requires : tie.Need-assert-kind-requires
-assert-kind-requires c κs = search needs
-
 returns-2 : tie.Need-returns-2
 unfolding kindOf headed
 returns-2 c = rw (ne-eqb _ _ (c .before .before .if1 .left), eq-eqb _ _ (c .before .if2 .taken), c .assert-kind .ensures)
 
-register-kind-requires : tie.Need-register-kind-requires
-register-kind-requires c κs = search needs
-
 returns-3 : tie.Need-returns-3
 unfolding kindOf
 returns-3 c = rw (ne-eqb _ _ (c .before .before .before .if1 .left), ne-eqb _ _ (c .before .before .if2 .left), eq-eqb _ _ (c .before .if3 .taken), c .register-kind .ensures)
-
-refused-requires : tie.Need-refused-requires
-refused-requires c κs = search needs
 
 returns-4 : tie.Need-returns-4
 unfolding kindOf headed
@@ -37,9 +28,9 @@ kind-of-spec =
     tie.close
     (tie.spec
     returns
-    assert-kind-requires
+    (λ c κs. search needs)
     returns-2
-    register-kind-requires
+    (λ c κs. search needs)
     returns-3
-    refused-requires
+    (λ c κs. search needs)
     returns-4)

@@ -15,12 +15,9 @@ returns-2 : tie.Need-returns-2
 unfolding registerKind headed
 returns-2 c = rw (ne-eqb _ _ (c .before .if1 .left), eq-eqb _ _ (c .if2 .taken))
 
-refused-requires : tie.Need-refused-requires
-refused-requires c κs = search needs
-
 returns-3 : tie.Need-returns-3
 unfolding registerKind headed
 returns-3 c = rw (ne-eqb _ _ (c .before .before .if1 .left), ne-eqb _ _ (c .before .if2 .left), c .refused .ensures)
 
 pub register-kind-spec : {M : Type 1} → statement M
-register-kind-spec = tie.close (tie.spec returns returns-2 refused-requires returns-3)
+register-kind-spec = tie.close (tie.spec returns returns-2 (λ c κs. search needs) returns-3)

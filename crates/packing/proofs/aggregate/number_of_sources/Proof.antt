@@ -10,12 +10,6 @@ returns : tie.Need-returns
 unfolding sourcesIn
 returns c = rw (ne-eqb _ _ (c .if1 .taken))
 
-add-word : tie.Need-add-word
-add-word c = search needs
-
-word-requires : tie.Need-word-requires
-word-requires c κs = search needs
-
 returns-2 : tie.Need-returns-2
 unfolding sourcesIn
 returns-2 c = rw (eq-eqb _ _ (c .before .before .if1 .left), ← c .before .word .ensures, ne-eqb _ _ (c .if2 .taken))
@@ -26,4 +20,4 @@ returns-3 c = rw (eq-eqb _ _ (c .before .before .if1 .left), ← c .before .word
 
 pub number-of-sources-spec : {M : Type 1} → statement M
 number-of-sources-spec =
-    tie.close (tie.spec returns add-word word-requires returns-2 returns-3)
+    tie.close (tie.spec returns (λ c. search needs) (λ c κs. search needs) returns-2 returns-3)

@@ -19,9 +19,6 @@ Inv-loop address e from n d₀ start size i₀ at₀ out₀ d i at out = Rows (a
 abbrev μ-loop : tie.MeasureT-loop
 μ-loop address e from n d₀ start size i₀ at₀ out₀ d i at out = n - i
 
-address-size-requires : tie.Need-address-size-requires Inv-loop μ-loop
-address-size-requires c κs = search needs
-
 loop-holds : tie.Need-loop-holds Inv-loop μ-loop
 loop-holds c =
     let a = c .before .before .before .args in
@@ -62,7 +59,7 @@ put-addresses-spec =
     (tie.spec
     Inv-loop
     μ-loop
-    address-size-requires
+    (λ c κs. search needs)
     loop-holds
     put-address-requires
     add-at

@@ -19,9 +19,6 @@ use borrow.Author.Needs.{needs}
 use Rattle.packing.proofs.aggregate.put_group_record.Statement.{statement}
 use Rattle.packing.proofs.aggregate.put_group_record.Tie as tie
 
-number-of-sources-requires : tie.Need-number-of-sources-requires
-number-of-sources-requires c κs = search needs
-
 put-group-requires : tie.Need-put-group-requires
 put-group-requires c κs =
     let a = c .before .before .before .before .args in
@@ -45,9 +42,6 @@ put-addresses-requires c κs =
     let few = sources-range (now (a .e)) (a .from) (a .k) in
     (omega (arith, c .before .before .before .before .before .before .before .before .before .before .before .before .pre, p, few), omega (arith, c .before .before .before .before .before .before .before .before .before .before .before .before .pre, p, group-long (now (a .e)) (a .from) (a .k) (c .before .before .before .before .before .before .before .before .before .before .before .before .pre .0), c .before .before .before .before .before .before .before .put-group .kept, c .before .before .before .put-number .kept))
 
-same-length : tie.Need-same-length
-same-length c = search needs
-
 returns : tie.Need-returns
 returns c =
     let a = c .before .before .before .before .before .before .before .before .before .before .before .before .before .before .before .args in
@@ -65,11 +59,11 @@ pub put-group-record-spec : {M : Type 1} → statement M
 put-group-record-spec =
     tie.close
     (tie.spec
-    number-of-sources-requires
+    (λ c κs. search needs)
     put-group-requires
     add-put-number
     put-number-requires
     add-put-addresses
     put-addresses-requires
-    same-length
+    (λ c. search needs)
     returns)

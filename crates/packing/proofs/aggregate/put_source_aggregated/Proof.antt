@@ -43,9 +43,6 @@ add-put-addresses c = omega (arith, c .before .before .before .before .before .b
 put-addresses-requires : tie.Need-put-addresses-requires
 put-addresses-requires c κs = (c .before .before .before .before .before .before .before .before .before .before .before .before .before .before .before .pre .1, omega (arith, c .before .before .before .before .before .before .before .before .before .before .before .before .before .before .before .pre, source-long (now (c .before .before .before .before .before .before .before .before .before .before .before .before .before .before .before .args .e)) (c .before .before .before .before .before .before .before .before .before .before .before .before .before .before .before .args .from) (c .before .before .before .before .before .before .before .before .before .before .before .before .before .before .before .args .k) (c .before .before .before .before .before .before .before .before .before .before .before .before .before .before .before .pre .0) (c .before .before .before .before .before .before .before .before .before .before .before .before .before .before .before .pre .2), c .before .before .before .before .before .before .before .before .before .before .before .put-metric .kept, c .before .before .before .before .before .before .before .put-source .kept, c .before .before .before .put-number .kept))
 
-same-length : tie.Need-same-length
-same-length c = search needs
-
 returns : tie.Need-returns
 returns c =
     let a = c .before .before .before .before .before .before .before .before .before .before .before .before .before .before .before .before .before .before .args in
@@ -74,5 +71,5 @@ put-source-aggregated-spec =
     put-number-requires
     add-put-addresses
     put-addresses-requires
-    same-length
+    (λ c. search needs)
     returns)

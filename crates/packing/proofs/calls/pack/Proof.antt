@@ -35,18 +35,6 @@ asks c =
 inside : (c : tie.After-known-told2) → start c .args .start ≤ length (now (start c .args .e)) / entriesFor (start c .args .kind) .size
 inside c = let a = start c .args in asked-inside (a .kind) (now (a .e)) (a .start) (a .limit) (length (now (a .d))) (limit c) (asks c)
 
-asked-requires : tie.Need-asked-requires
-asked-requires c κs = search needs
-
-enum-known-x : tie.Need-enum-known-x
-enum-known-x c = search needs
-
-enum-known-x-2 : tie.Need-enum-known-x-2
-enum-known-x-2 c = search needs
-
-entry-size-requires : tie.Need-entry-size-requires
-entry-size-requires c κs = search needs
-
 mul-write-most : tie.Need-mul-write-most
 mul-write-most c =
     let r = c .before in
@@ -78,9 +66,6 @@ returns c =
     let call = call-refused (formFor (a .kind)) (now (a .e)) (a .start) (a .limit) (now (a .d)) (refusal .number) (refusal .place) (limit-refused asks (c .before .x .given .1) (c .before .before .before .asked .ensures)) in
     (sym (ap (λ x. x .answer) call), sym (ap (λ x. x .buffer) call))
 
-same-length : tie.Need-same-length
-same-length c = search needs
-
 returns-2 : tie.Need-returns-2
 unfolding packed
 returns-2 c =
@@ -96,14 +81,14 @@ pub pack-spec : {M : Type 1} → statement M
 pack-spec =
     tie.close
     (tie.spec
-    asked-requires
-    enum-known-x
-    enum-known-x-2
-    entry-size-requires
+    (λ c κs. search needs)
+    (λ c. search needs)
+    (λ c. search needs)
+    (λ c κs. search needs)
     mul-write-most
     div-write-most
     sub-write-most
     write-most-requires
     returns
-    same-length
+    (λ c. search needs)
     returns-2)

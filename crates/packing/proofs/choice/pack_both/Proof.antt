@@ -70,18 +70,6 @@ prefers c =
     let a = c .before .before .before .write-most2 .ensures .0 in
     c .prefers-aggregated .ensures ∙ preferred _ _ _ _ _ _ (s .0) (s .1) (a .0) (a .1)
 
-smaller-requires : tie.Need-smaller-requires
-smaller-requires c κs = search needs
-
-asked-requires : tie.Need-asked-requires
-asked-requires c κs = search needs
-
-enum-known-x : tie.Need-enum-known-x
-enum-known-x c = search needs
-
-enum-known-x-2 : tie.Need-enum-known-x-2
-enum-known-x-2 c = search needs
-
 sub-left : tie.Need-sub-left
 sub-left c = inside c
 
@@ -100,15 +88,6 @@ write-most-requires-2 : tie.Need-write-most-requires-2
 write-most-requires-2 c κs =
     let r = c .before .before .before .before .before in
     (packed-is Aggregated refl, there r, low r, omega (arith, asks r .enough))
-
-prefers-aggregated-requires : tie.Need-prefers-aggregated-requires
-prefers-aggregated-requires c κs = search needs
-
-same-length : tie.Need-same-length
-same-length c = search needs
-
-same-length-2 : tie.Need-same-length-2
-same-length-2 c = search needs
 
 returns : tie.Need-returns
 unfolding chosenBy
@@ -129,12 +108,6 @@ returns-2 c =
     let call = choice-refused (now (a .e)) (a .start) (a .limit) (now (a .simple)) (now (a .aggregated)) (refusal .number) (refusal .place) refused in
     (sym (ap (λ x. x .answer) call), (sym (ap (λ x. x .simpleBuffer) call), sym (ap (λ x. x .aggregatedBuffer) call)))
 
-same-length-3 : tie.Need-same-length-3
-same-length-3 c = search needs
-
-same-length-4 : tie.Need-same-length-4
-same-length-4 c = search needs
-
 returns-3 : tie.Need-returns-3
 unfolding chosenBy
 returns-3 c =
@@ -148,20 +121,20 @@ pub pack-both-spec : {M : Type 1} → statement M
 pack-both-spec =
     tie.close
     (tie.spec
-    smaller-requires
-    asked-requires
-    enum-known-x
-    enum-known-x-2
+    (λ c κs. search needs)
+    (λ c κs. search needs)
+    (λ c. search needs)
+    (λ c. search needs)
     sub-left
     mul-write-most
     write-most-requires
     mul-write-most-2
     write-most-requires-2
-    prefers-aggregated-requires
-    same-length
-    same-length-2
+    (λ c κs. search needs)
+    (λ c. search needs)
+    (λ c. search needs)
     returns
     returns-2
-    same-length-3
-    same-length-4
+    (λ c. search needs)
+    (λ c. search needs)
     returns-3)

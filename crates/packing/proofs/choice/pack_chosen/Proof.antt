@@ -8,18 +8,6 @@ use borrow.Author.Needs.{needs}
 use Rattle.packing.proofs.choice.pack_chosen.Statement.{statement}
 use Rattle.packing.proofs.choice.pack_chosen.Tie as tie
 
-pack-both-requires : tie.Need-pack-both-requires
-pack-both-requires c κs = search needs
-
-enum-told : tie.Need-enum-told
-enum-told c = search needs
-
-slice-aggregate-result : tie.Need-slice-aggregate-result
-slice-aggregate-result c = search needs
-
-enum-known-better : tie.Need-enum-known-better
-enum-known-better c = search needs
-
 slice-aggregate-result-2 : tie.Need-slice-aggregate-result-2
 unfolding chosenBy
 slice-aggregate-result-2 c = part-aggregated (now (c .before .before .before .before .before .before .before .before .before .before .before .before .before .before .before .args .e)) (c .before .before .before .before .before .before .before .before .before .before .before .before .before .before .before .args .start) (c .before .before .before .before .before .before .before .before .before .before .before .before .before .before .before .args .limit) (now (c .before .before .before .before .before .before .before .before .before .before .before .before .before .before .before .args .simple)) (now (c .before .before .before .before .before .before .before .before .before .before .before .before .before .before .before .args .aggregated)) (c .before .before .before .better .given .0 .0) (c .before .before .before .better .given .0 .1 .0) (c .before .before .before .better .given .0 .1 .1 .0) _ (sym (c .before .before .before .before .before .before .before .before .before .pack-both .ensures .0) ∙ ap chosenBy (c .before .before .before .better .given .1)) (c .before .if1 .taken) (c .before .before .before .before .before .before .before .before .before .pack-both .ensures .1 .1) .0
@@ -44,10 +32,10 @@ pub pack-chosen-spec : {M : Type 1} → statement M
 pack-chosen-spec =
     tie.close
     (tie.spec
-    pack-both-requires
-    enum-told
-    slice-aggregate-result
-    enum-known-better
+    (λ c κs. search needs)
+    (λ c. search needs)
+    (λ c. search needs)
+    (λ c. search needs)
     slice-aggregate-result-2
     returns
     slice-aggregate-result-3

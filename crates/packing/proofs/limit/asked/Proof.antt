@@ -17,15 +17,6 @@ use Rattle.packing.proofs.limit.asked.Tie as tie
 read : (c : tie.After-known-told) → readLimit (entriesFor (c .before .before .before .before .before .args .kind) .family) (c .before .before .before .before .before .args .limit) ≡ gives (c .before .x .given .0 .0)
 read c = read-gives (c .before .before .before .before .before .args .kind) (c .before .before .before .before .before .args .limit) (c .before .x .given .1) (c .before .before .before .read-limit .ensures)
 
-read-limit-requires : tie.Need-read-limit-requires
-read-limit-requires c κs = search needs
-
-enum-known-x : tie.Need-enum-known-x
-enum-known-x c = search needs
-
-enum-told : tie.Need-enum-told
-enum-told c = search needs
-
 returns : tie.Need-returns
 unfolding limitOf
 returns c =
@@ -33,14 +24,8 @@ returns c =
     let read = read-refuses (a .kind) (a .limit) (c .enum-told .given .1) (c .before .before .read-limit .ensures) in
     ap limitOf (c .enum-told .given .1) ∙ sym (ask-limit (entriesFor (a .kind)) (now (a .e)) (a .start) (a .limit) (a .room) _ _ read)
 
-entry-size-requires : tie.Need-entry-size-requires
-entry-size-requires c κs = search needs
-
 div-count : tie.Need-div-count
 div-count c = omega (arith, size-range (c .before .before .before .before .before .before .args .kind))
-
-refused-requires : tie.Need-refused-requires
-refused-requires c κs = search needs
 
 returns-2 : tie.Need-returns-2
 unfolding limitOf
@@ -54,9 +39,6 @@ returns-2 c =
 rem-if2 : tie.Need-rem-if2
 rem-if2 c = omega (arith, size-range (c .before .before .before .before .before .before .before .args .kind))
 
-refused-requires-2 : tie.Need-refused-requires-2
-refused-requires-2 c κs = search needs
-
 returns-3 : tie.Need-returns-3
 unfolding limitOf
 returns-3 c =
@@ -66,9 +48,6 @@ returns-3 c =
     let o = now (a .e) in
     rw (c .refused2 .ensures)
     (sym (ask-part E o (a .start) (a .limit) (a .room) _ (read r) (c .before .before .if1 .left) (rw (c .before .before .before .entry-size .ensures) at (c .before .if2 .taken))))
-
-refused-requires-3 : tie.Need-refused-requires-3
-refused-requires-3 c κs = search needs
 
 returns-4 : tie.Need-returns-4
 unfolding limitOf
@@ -80,18 +59,6 @@ returns-4 c =
     let size = c .before .before .before .before .entry-size .ensures in
     rw (c .refused3 .ensures)
     (sym (ask-start E o (a .start) (a .limit) (a .room) _ (read r) (c .before .before .before .if1 .left) (rw size at (c .before .before .if2 .left)) (rw size at (c .before .if3 .taken))))
-
-first-bad-requires : tie.Need-first-bad-requires
-first-bad-requires c κs = search needs
-
-enum-told-2 : tie.Need-enum-told-2
-enum-told-2 c = search needs
-
-enum-known-bad : tie.Need-enum-known-bad
-enum-known-bad c = search needs
-
-refused-requires-4 : tie.Need-refused-requires-4
-refused-requires-4 c κs = search needs
 
 returns-5 : tie.Need-returns-5
 unfolding limitOf
@@ -116,22 +83,22 @@ pub asked-spec : {M : Type 1} → statement M
 asked-spec =
     tie.close
     (tie.spec
-    read-limit-requires
-    enum-known-x
-    enum-told
+    (λ c κs. search needs)
+    (λ c. search needs)
+    (λ c. search needs)
     returns
-    entry-size-requires
+    (λ c κs. search needs)
     div-count
-    refused-requires
+    (λ c κs. search needs)
     returns-2
     rem-if2
-    refused-requires-2
+    (λ c κs. search needs)
     returns-3
-    refused-requires-3
+    (λ c κs. search needs)
     returns-4
-    first-bad-requires
-    enum-told-2
-    enum-known-bad
-    refused-requires-4
+    (λ c κs. search needs)
+    (λ c. search needs)
+    (λ c. search needs)
+    (λ c κs. search needs)
     returns-5
     returns-6)

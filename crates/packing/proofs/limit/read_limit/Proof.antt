@@ -12,15 +12,9 @@ returns : tie.Need-returns
 unfolding limitOf usualLimit
 returns c = sym (limit-usual (c .before .args .limit) (c .if1 .taken))
 
-refused-requires : tie.Need-refused-requires
-refused-requires c κs = search needs
-
 returns-2 : tie.Need-returns-2
 unfolding limitOf
 returns-2 c = rw (c .refused .ensures) (sym (limit-low (c .before .before .before .args .limit) (c .before .before .if1 .left) (c .before .if2 .taken)))
-
-refused-requires-2 : tie.Need-refused-requires-2
-refused-requires-2 c κs = search needs
 
 returns-3 : tie.Need-returns-3
 unfolding limitOf
@@ -32,4 +26,4 @@ returns-4 c = sym (limit-within (c .before .before .before .args .limit) (c .bef
 
 pub read-limit-spec : {M : Type 1} → statement M
 read-limit-spec =
-    tie.close (tie.spec returns refused-requires returns-2 refused-requires-2 returns-3 returns-4)
+    tie.close (tie.spec returns (λ c κs. search needs) returns-2 (λ c κs. search needs) returns-3 returns-4)

@@ -12,12 +12,6 @@ use Rattle.packing.proofs.ByKind.{front-long, front-short}
 use Rattle.packing.proofs.message.begin.Statement.{statement}
 use Rattle.packing.proofs.message.begin.Tie as tie
 
-layout-of-requires : tie.Need-layout-of-requires
-layout-of-requires c κs = search needs
-
-slice-write-d : tie.Need-slice-write-d
-slice-write-d c = search needs
-
 slice-write-d-2 : tie.Need-slice-write-d-2
 slice-write-d-2 c = simp length-set (omega arith)
 
@@ -49,9 +43,6 @@ returns c =
           (put-next (now (a .d)) 0 first (0 ∷ 0 ∷ 0 ∷ 0 ∷ []) (stores-put (now (a .d)) 0 first (omega (arith, s .pre))) (c .before .before .put-zeros .ensures) refl),
     )
 
-same-length-2 : tie.Need-same-length-2
-same-length-2 c = search needs
-
 returns-2 : tie.Need-returns-2
 returns-2 c =
     let l = c .before .before .layout-of in
@@ -66,13 +57,13 @@ pub begin-spec : {M : Type 1} → statement M
 begin-spec =
     tie.close
     (tie.spec
-    layout-of-requires
-    slice-write-d
+    (λ c κs. search needs)
+    (λ c. search needs)
     slice-write-d-2
     slice-write-d-3
     slice-write-d-4
     put-zeros-requires
     same-length
     returns
-    same-length-2
+    (λ c. search needs)
     returns-2)

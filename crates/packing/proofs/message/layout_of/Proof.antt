@@ -6,42 +6,6 @@ use Rattle.packing.specs.Kinds.{isAggregated, takesOne}
 use Rattle.packing.proofs.message.layout_of.Statement.{statement}
 use Rattle.packing.proofs.message.layout_of.Tie as tie
 
-enum-told : tie.Need-enum-told
-enum-told c = search needs
-
-laid-requires : tie.Need-laid-requires
-laid-requires c κs = search needs
-
-enum-told-2 : tie.Need-enum-told-2
-enum-told-2 c = search needs
-
-laid-requires-2 : tie.Need-laid-requires-2
-laid-requires-2 c κs = search needs
-
-enum-told-3 : tie.Need-enum-told-3
-enum-told-3 c = search needs
-
-laid-requires-3 : tie.Need-laid-requires-3
-laid-requires-3 c κs = search needs
-
-enum-told-4 : tie.Need-enum-told-4
-enum-told-4 c = search needs
-
-laid-requires-4 : tie.Need-laid-requires-4
-laid-requires-4 c κs = search needs
-
-enum-told-5 : tie.Need-enum-told-5
-enum-told-5 c = search needs
-
-laid-requires-5 : tie.Need-laid-requires-5
-laid-requires-5 c κs = search needs
-
-enum-told-6 : tie.Need-enum-told-6
-enum-told-6 c = search needs
-
-laid-requires-6 : tie.Need-laid-requires-6
-laid-requires-6 c κs = search needs
-
 returns : tie.Need-returns
 unfolding octet0 octet1 isAggregated takesOne
 returns c = rw (c .before .enum-told .given .1) (c .laid .ensures)
@@ -70,18 +34,18 @@ pub layout-of-spec : {M : Type 1} → statement M
 layout-of-spec =
     tie.close
     (tie.spec
-    enum-told
-    laid-requires
-    enum-told-2
-    laid-requires-2
-    enum-told-3
-    laid-requires-3
-    enum-told-4
-    laid-requires-4
-    enum-told-5
-    laid-requires-5
-    enum-told-6
-    laid-requires-6
+    (λ c. search needs)
+    (λ c κs. search needs)
+    (λ c. search needs)
+    (λ c κs. search needs)
+    (λ c. search needs)
+    (λ c κs. search needs)
+    (λ c. search needs)
+    (λ c κs. search needs)
+    (λ c. search needs)
+    (λ c κs. search needs)
+    (λ c. search needs)
+    (λ c κs. search needs)
     returns
     returns-2
     returns-3

@@ -9,29 +9,14 @@ use Rattle.octets.proofs.Laws.{stores-put}
 use Rattle.packing.proofs.message.put_zeros.Statement.{statement}
 use Rattle.packing.proofs.message.put_zeros.Tie as tie
 
-slice-write-d : tie.Need-slice-write-d
-slice-write-d c = search needs
-
-add-d : tie.Need-add-d
-add-d c = search needs
-
 slice-write-d-2 : tie.Need-slice-write-d-2
 slice-write-d-2 c = simp length-set (omega arith)
-
-add-d-2 : tie.Need-add-d-2
-add-d-2 c = search needs
 
 slice-write-d-3 : tie.Need-slice-write-d-3
 slice-write-d-3 c = simp length-set (omega arith)
 
-add-d-3 : tie.Need-add-d-3
-add-d-3 c = search needs
-
 slice-write-d-4 : tie.Need-slice-write-d-4
 slice-write-d-4 c = simp length-set (omega arith)
-
-same-length : tie.Need-same-length
-same-length c = search needs
 
 returns : tie.Need-returns
 returns c =
@@ -42,12 +27,12 @@ pub put-zeros-spec : {M : Type 1} → statement M
 put-zeros-spec =
     tie.close
     (tie.spec
-    slice-write-d
-    add-d
+    (λ c. search needs)
+    (λ c. search needs)
     slice-write-d-2
-    add-d-2
+    (λ c. search needs)
     slice-write-d-3
-    add-d-3
+    (λ c. search needs)
     slice-write-d-4
-    same-length
+    (λ c. search needs)
     returns)

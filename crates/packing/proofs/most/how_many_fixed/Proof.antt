@@ -9,23 +9,11 @@ use Rattle.packing.proofs.ByKind.{most-one, most-all}
 use Rattle.packing.proofs.most.how_many_fixed.Statement.{statement}
 use Rattle.packing.proofs.most.how_many_fixed.Tie as tie
 
-layout-of-requires : tie.Need-layout-of-requires
-layout-of-requires c κs = search needs
-
 sub-fit : tie.Need-sub-fit
 sub-fit c = omega (arith, c .before .layout-of .ensures .2, c .before .before .pre .2)
 
-entry-size-requires : tie.Need-entry-size-requires
-entry-size-requires c κs = search needs
-
 add-fit : tie.Need-add-fit
 add-fit c = omega (arith, size-range (c .before .before .before .args .kind))
-
-div-fit : tie.Need-div-fit
-div-fit c = search needs
-
-smaller-requires : tie.Need-smaller-requires
-smaller-requires c κs = search needs
 
 returns : tie.Need-returns
 unfolding fitting
@@ -34,9 +22,6 @@ returns c =
     let l = size .before .before .layout-of in
     let s = size .before .before .before in
     rw (most-one (s .args .n) (s .args .kind) (s .pre .1) (sym (l .ensures .4) ∙ c .before .if1 .taken), ← size .entry-size .ensures, ← l .ensures .2) (c .smaller .ensures)
-
-smaller-requires-2 : tie.Need-smaller-requires-2
-smaller-requires-2 c κs = search needs
 
 returns-2 : tie.Need-returns-2
 unfolding fitting
@@ -50,12 +35,12 @@ pub how-many-fixed-spec : {M : Type 1} → statement M
 how-many-fixed-spec =
     tie.close
     (tie.spec
-    layout-of-requires
+    (λ c κs. search needs)
     sub-fit
-    entry-size-requires
+    (λ c κs. search needs)
     add-fit
-    div-fit
-    smaller-requires
+    (λ c. search needs)
+    (λ c κs. search needs)
     returns
-    smaller-requires-2
+    (λ c κs. search needs)
     returns-2)

@@ -30,17 +30,11 @@ counted c =
     c .how-many-fixed .ensures
     ∙ sym (taken-fixed (a .kind) (c .before .before .before .before .before .pre .0) (fixed (c .before)) (a .limit) es (omega (arith, head-range (a .kind), c .before .before .before .before .before .pre .3)) ∙ ap (fitting (a .kind) (a .limit)) (length-entriesAt (entriesFor (a .kind)) (now (a .e)) (a .from) (a .n)))
 
-layout-of-requires : tie.Need-layout-of-requires
-layout-of-requires c κs = search needs
-
 put-within-requires : tie.Need-put-within-requires
 put-within-requires c κs =
     let a = c .before .before .before .before .before .args in
     let there = rw (aggregated-is (a .kind) (sym (c .before .before .layout-of .ensures .3) ∙ c .before .if1 .taken)) at (c .before .before .before .before .before .pre .2) in
     (there, omega (arith, head-range (a .kind), c .before .before .before .before .before .pre .3, c .before .before .before .before .before .pre .5), c .before .before .before .before .before .pre .4)
-
-same-length : tie.Need-same-length
-same-length c = search needs
 
 returns : tie.Need-returns
 unfolding recordsFor allOf
@@ -66,9 +60,6 @@ put-records-requires c κs =
     let fit = most-fits (a .kind) (now (a .e)) (a .from) (a .n) (a .limit) t e some in
     (omega (arith, few, c .before .before .before .before .before .before .pre .2), omega (arith, fit, length-is (a .kind) (c .before .before .before .before .before .before .pre .0) (entriesAt (entriesFor (a .kind)) (now (a .e)) (a .from) t), records-long (a .kind) (fixed (c .before .before)) (now (a .e)) (a .from) t, c .before .before .before .before .before .before .pre .4, c .before .before .before .before .before .before .pre .5))
 
-same-length-2 : tie.Need-same-length-2
-same-length-2 c = search needs
-
 returns-2 : tie.Need-returns-2
 returns-2 c =
     let a = c .before .before .before .before .before .before .before .before .before .args in
@@ -80,11 +71,11 @@ pub put-most-spec : {M : Type 1} → statement M
 put-most-spec =
     tie.close
     (tie.spec
-    layout-of-requires
+    (λ c κs. search needs)
     put-within-requires
-    same-length
+    (λ c. search needs)
     returns
     how-many-fixed-requires
     put-records-requires
-    same-length-2
+    (λ c. search needs)
     returns-2)

@@ -41,9 +41,6 @@ seal-requires c κs =
     let wrote = c .before .before .before in
     (omega (arith, size wrote), omega (arith, within wrote, c .before .before .before .before .before .before .before .before .before .before .before .pre .4, c .before .before .before .before .before .before .before .begin .kept, c .before .before .before .put-most .kept))
 
-same-length : tie.Need-same-length
-same-length c = search needs
-
 returns : tie.Need-returns
 unfolding unsealed
 returns c =
@@ -60,4 +57,4 @@ returns c =
 
 pub write-message-spec : {M : Type 1} → statement M
 write-message-spec =
-    tie.close (tie.spec begin-requires put-most-requires seal-requires same-length returns)
+    tie.close (tie.spec begin-requires put-most-requires seal-requires (λ c. search needs) returns)

@@ -20,9 +20,6 @@ returns c =
 write-message-requires : tie.Need-write-message-requires
 write-message-requires c κs = (c .before .before .before .before .pre .0, omega (arith, c .before .if1 .left), c .before .before .before .before .pre .1, c .before .before .before .before .pre .2, c .before .before .before .before .pre .3)
 
-same-length : tie.Need-same-length
-same-length c = search needs
-
 returns-2 : tie.Need-returns-2
 unfolding octetsOf tookOf
 returns-2 c =
@@ -32,4 +29,4 @@ returns-2 c =
     rw (most-some (a .kind) (now (a .e)) (a .from) (a .n) (a .limit) (c .before .before .write-message .result .taken) (wrote .0) some) ((wrote .1 .0, refl), wrote .1 .1)
 
 pub write-most-spec : {M : Type 1} → statement M
-write-most-spec = tie.close (tie.spec returns write-message-requires same-length returns-2)
+write-most-spec = tie.close (tie.spec returns write-message-requires (λ c. search needs) returns-2)

@@ -11,29 +11,14 @@ use Rattle.format.specs.Address.{groupOctets}
 use Rattle.packing.proofs.record.put_group.Statement.{statement}
 use Rattle.packing.proofs.record.put_group.Tie as tie
 
-slice-write-d : tie.Need-slice-write-d
-slice-write-d c = search needs
-
-add-d : tie.Need-add-d
-add-d c = search needs
-
 slice-write-d-2 : tie.Need-slice-write-d-2
 slice-write-d-2 c = simp length-set (omega arith)
-
-add-d-2 : tie.Need-add-d-2
-add-d-2 c = search needs
 
 slice-write-d-3 : tie.Need-slice-write-d-3
 slice-write-d-3 c = simp length-set (omega arith)
 
-add-d-3 : tie.Need-add-d-3
-add-d-3 c = search needs
-
 slice-write-d-4 : tie.Need-slice-write-d-4
 slice-write-d-4 c = simp length-set (omega arith)
-
-add-copy4 : tie.Need-add-copy4
-add-copy4 c = search needs
 
 copy4-requires : tie.Need-copy4-requires
 copy4-requires c κs = (omega arith, simp length-set (omega arith))
@@ -52,14 +37,14 @@ pub put-group-spec : {M : Type 1} → statement M
 put-group-spec =
     tie.close
     (tie.spec
-    slice-write-d
-    add-d
+    (λ c. search needs)
+    (λ c. search needs)
     slice-write-d-2
-    add-d-2
+    (λ c. search needs)
     slice-write-d-3
-    add-d-3
+    (λ c. search needs)
     slice-write-d-4
-    add-copy4
+    (λ c. search needs)
     copy4-requires
     same-length
     returns)

@@ -9,24 +9,6 @@ use borrow.Author.Needs.{needs}
 use Rattle.packing.proofs.record.put_metric.Statement.{statement}
 use Rattle.packing.proofs.record.put_metric.Tie as tie
 
-add-copy4 : tie.Need-add-copy4
-add-copy4 c = search needs
-
-copy4-requires : tie.Need-copy4-requires
-copy4-requires c κs = search needs
-
-add-copy4-2 : tie.Need-add-copy4-2
-add-copy4-2 c = search needs
-
-add-copy4-3 : tie.Need-add-copy4-3
-add-copy4-3 c = search needs
-
-copy4-requires-2 : tie.Need-copy4-requires-2
-copy4-requires-2 c κs = search needs
-
-same-length : tie.Need-same-length
-same-length c = search needs
-
 returns : tie.Need-returns
 returns c =
     let a = c .before .before .before .before .before .before .before .before .before .before .args in
@@ -37,10 +19,10 @@ pub put-metric-spec : {M : Type 1} → statement M
 put-metric-spec =
     tie.close
     (tie.spec
-    add-copy4
-    copy4-requires
-    add-copy4-2
-    add-copy4-3
-    copy4-requires-2
-    same-length
+    (λ c. search needs)
+    (λ c κs. search needs)
+    (λ c. search needs)
+    (λ c. search needs)
+    (λ c κs. search needs)
+    (λ c. search needs)
     returns)

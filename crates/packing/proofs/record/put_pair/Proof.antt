@@ -14,21 +14,6 @@ use Rattle.format.proofs.Lengths.{length-group}
 use Rattle.packing.proofs.record.put_pair.Statement.{statement}
 use Rattle.packing.proofs.record.put_pair.Tie as tie
 
-put-group-requires : tie.Need-put-group-requires
-put-group-requires c κs = search needs
-
-add-put-source : tie.Need-add-put-source
-add-put-source c = search needs
-
-add-put-source-2 : tie.Need-add-put-source-2
-add-put-source-2 c = search needs
-
-put-source-requires : tie.Need-put-source-requires
-put-source-requires c κs = search needs
-
-same-length : tie.Need-same-length
-same-length c = search needs
-
 returns : tie.Need-returns
 unfolding pairOctets pairAt
 returns c =
@@ -41,9 +26,9 @@ pub put-pair-spec : {M : Type 1} → statement M
 put-pair-spec =
     tie.close
     (tie.spec
-    put-group-requires
-    add-put-source
-    add-put-source-2
-    put-source-requires
-    same-length
+    (λ c κs. search needs)
+    (λ c. search needs)
+    (λ c. search needs)
+    (λ c κs. search needs)
+    (λ c. search needs)
     returns)

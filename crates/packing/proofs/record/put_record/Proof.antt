@@ -17,27 +17,12 @@ use Rattle.packing.proofs.record.put_record.Tie as tie
 put-pair-requires : tie.Need-put-pair-requires
 put-pair-requires c κs = omega (arith, size-range (c .before .before .before .args .kind))
 
-entry-size-requires : tie.Need-entry-size-requires
-entry-size-requires c κs = search needs
-
-add-put-metric : tie.Need-add-put-metric
-add-put-metric c = search needs
-
-put-metric-requires : tie.Need-put-metric-requires
-put-metric-requires c κs = search needs
-
-same-length : tie.Need-same-length
-same-length c = search needs
-
 returns : tie.Need-returns
 returns c =
     let a = c .before .before .before .before .before .before .before .before .before .before .before .before .args in
     let o = now (a .e) in
     rw (record-long o (a .at) (a .kind) (sym (c .before .before .before .before .before .entry-size .ensures) ∙ c .before .before .before .before .if1 .taken))
     (put-next (now (a .d)) (a .out) (pairOctets ipv4 (pairAt ipv4 o (a .at))) _ (c .before .before .before .before .before .before .before .before .put-pair .ensures) (c .before .before .put-metric .ensures) (omega (arith, length-pair ipv4 (pairAt ipv4 o (a .at)))))
-
-same-length-2 : tie.Need-same-length-2
-same-length-2 c = search needs
 
 returns-2 : tie.Need-returns-2
 returns-2 c =
@@ -49,10 +34,10 @@ put-record-spec =
     tie.close
     (tie.spec
     put-pair-requires
-    entry-size-requires
-    add-put-metric
-    put-metric-requires
-    same-length
+    (λ c κs. search needs)
+    (λ c. search needs)
+    (λ c κs. search needs)
+    (λ c. search needs)
     returns
-    same-length-2
+    (λ c. search needs)
     returns-2)

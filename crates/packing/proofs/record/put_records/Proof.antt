@@ -19,9 +19,6 @@ Inv-loop kind e from n d₀ start size i₀ at₀ out₀ d i at out = Rows (entr
 abbrev μ-loop : tie.MeasureT-loop
 μ-loop kind e from n d₀ start size i₀ at₀ out₀ d i at out = n - i
 
-entry-size-requires : tie.Need-entry-size-requires Inv-loop μ-loop
-entry-size-requires c κs = search needs
-
 loop-holds : tie.Need-loop-holds Inv-loop μ-loop
 loop-holds c =
     let s = c .before .before .before in
@@ -68,7 +65,7 @@ put-records-spec =
     (tie.spec
     Inv-loop
     μ-loop
-    entry-size-requires
+    (λ c κs. search needs)
     loop-holds
     put-record-requires
     add-at

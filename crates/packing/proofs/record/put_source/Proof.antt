@@ -11,17 +11,8 @@ use Rattle.format.specs.Address.{sourceOctets}
 use Rattle.packing.proofs.record.put_source.Statement.{statement}
 use Rattle.packing.proofs.record.put_source.Tie as tie
 
-slice-write-d : tie.Need-slice-write-d
-slice-write-d c = search needs
-
-add-d : tie.Need-add-d
-add-d c = search needs
-
 slice-write-d-2 : tie.Need-slice-write-d-2
 slice-write-d-2 c = simp length-set (omega arith)
-
-add-copy4 : tie.Need-add-copy4
-add-copy4 c = search needs
 
 copy4-requires : tie.Need-copy4-requires
 copy4-requires c κs = (omega arith, simp length-set (omega arith))
@@ -39,4 +30,4 @@ returns c =
 pub put-source-spec : {M : Type 1} → statement M
 put-source-spec =
     tie.close
-    (tie.spec slice-write-d add-d slice-write-d-2 add-copy4 copy4-requires same-length returns)
+    (tie.spec (λ c. search needs) (λ c. search needs) slice-write-d-2 (λ c. search needs) copy4-requires same-length returns)

@@ -9,23 +9,14 @@ use Rattle.packing.proofs.within.put_aggregated_within.Tie as tie
 add-r-bit : tie.Need-add-r-bit
 add-r-bit c = omega (arith, c .before .before .pre)
 
-r-bit-requires : tie.Need-r-bit-requires
-r-bit-requires c κs = search needs
-
 put-rp-within-requires : tie.Need-put-rp-within-requires
 put-rp-within-requires c κs = (c .before .before .before .before .before .pre .0, c .before .before .before .before .before .pre .1, c .before .before .before .before .before .pre .2, c .before .before .before .before .before .pre .3, sym (c .before .before .r-bit .ensures) ∙ c .before .if1 .taken)
-
-same-length : tie.Need-same-length
-same-length c = search needs
 
 returns : tie.Need-returns
 returns c = c .before .before .put-rp-within .ensures
 
 put-source-within-requires : tie.Need-put-source-within-requires
 put-source-within-requires c κs = (c .before .before .before .before .before .pre .0, c .before .before .before .before .before .pre .1, c .before .before .before .before .before .pre .2, c .before .before .before .before .before .pre .3, sym (c .before .before .r-bit .ensures) ∙ c .before .if1 .left)
-
-same-length-2 : tie.Need-same-length-2
-same-length-2 c = search needs
 
 returns-2 : tie.Need-returns-2
 returns-2 c = c .before .before .put-source-within .ensures
@@ -35,10 +26,10 @@ put-aggregated-within-spec =
     tie.close
     (tie.spec
     add-r-bit
-    r-bit-requires
+    (λ c κs. search needs)
     put-rp-within-requires
-    same-length
+    (λ c. search needs)
     returns
     put-source-within-requires
-    same-length-2
+    (λ c. search needs)
     returns-2)

@@ -16,12 +16,6 @@ found c =
     first-run (now (a .e)) (a .from) Group (a .n) (a .limit - a .out) (c .before .before .sources-within .result) (c .group-run .result) (c .before .before .before .before .before .pre .1) (c .before .before .sources-within .ensures) (omega (arith, c .before .if1 .left))
     (λ j some few. group-grows (now (a .e)) (a .from) j (c .before .before .sources-within .result) some few) (c .group-run .ensures)
 
-sub-sources-within : tie.Need-sub-sources-within
-sub-sources-within c = search needs
-
-sources-within-requires : tie.Need-sources-within-requires
-sources-within-requires c κs = search needs
-
 returns : tie.Need-returns
 returns c =
     let a = c .before .before .before .before .args in
@@ -37,9 +31,6 @@ put-group-record-requires c κs =
     let run = found (c .before) in
     (run .some, run .there, omega (arith, run .most .fits, c .before .before .before .before .before .before .pre .2, c .before .before .before .before .before .before .pre .3))
 
-same-length : tie.Need-same-length
-same-length c = search needs
-
 returns-2 : tie.Need-returns-2
 returns-2 c = (found (c .before .before .before .before) .most, c .before .before .put-group-record .ensures)
 
@@ -47,10 +38,10 @@ pub put-group-within-spec : {M : Type 1} → statement M
 put-group-within-spec =
     tie.close
     (tie.spec
-    sub-sources-within
-    sources-within-requires
+    (λ c. search needs)
+    (λ c κs. search needs)
     returns
     group-run-requires
     put-group-record-requires
-    same-length
+    (λ c. search needs)
     returns-2)

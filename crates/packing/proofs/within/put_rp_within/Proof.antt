@@ -47,19 +47,10 @@ most c =
     rp-fewer (now (a .e)) (a .from) (s .pre .4) (a .n) (a .limit - a .out) _ (s .pre .0) (omega (arith, e .if1 .left))
     (rp-most (now (a .e)) (a .from) (s .pre .4) _ (a .out) (a .limit) _ (omega (arith, e .if1 .left)) (rw (found (grouped c)) at (c .put-groups-within .ensures .0)))
 
-sub-if1 : tie.Need-sub-if1
-sub-if1 c = search needs
-
 returns : tie.Need-returns
 returns c =
     let a = c .before .before .before .args in
     (none-fit (now (a .e)) (a .from) Aggregated _ _ (omega (arith, c .if1 .taken, rp-least (now (a .e)) (a .from) 1 (omega arith))), none-written (now (a .e)) (a .from) Aggregated (a .out) refl)
-
-sub-smaller : tie.Need-sub-smaller
-sub-smaller c = search needs
-
-smaller-requires : tie.Need-smaller-requires
-smaller-requires c κs = search needs
 
 rp-run-requires : tie.Need-rp-run-requires
 rp-run-requires c κs =
@@ -77,9 +68,6 @@ put-groups-within-requires c κs =
     let a = s .args in
     let range = run-range Aggregated (now (a .e)) (a .from) (min (a .n) ((a .limit - a .out) / 6)) (omega (arith, e .if1 .left, s .pre .0)) in
     (omega (arith, found (c .before), range .1, s .pre .1), omega (arith, e .if1 .left), s .pre .3)
-
-same-length : tie.Need-same-length
-same-length c = search needs
 
 returns-2 : tie.Need-returns-2
 returns-2 c =
@@ -102,9 +90,6 @@ put-number-requires c κs =
     let g = some (c .before .before .before .before .before) in
     let e = ran (grouped g) in
     omega (arith, enter e .pre, e .if1 .left, g .put-groups-within .kept, c .before .before .before .put-metric .kept)
-
-same-length-2 : tie.Need-same-length-2
-same-length-2 c = search needs
 
 returns-3 : tie.Need-returns-3
 returns-3 c =
@@ -136,17 +121,17 @@ pub put-rp-within-spec : {M : Type 1} → statement M
 put-rp-within-spec =
     tie.close
     (tie.spec
-    sub-if1
+    (λ c. search needs)
     returns
-    sub-smaller
-    smaller-requires
+    (λ c. search needs)
+    (λ c κs. search needs)
     rp-run-requires
     add-put-groups-within
     put-groups-within-requires
-    same-length
+    (λ c. search needs)
     returns-2
     put-metric-requires
     add-put-number
     put-number-requires
-    same-length-2
+    (λ c. search needs)
     returns-3)

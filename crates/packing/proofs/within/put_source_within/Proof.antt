@@ -23,12 +23,6 @@ found c =
     first-run (now (a .e)) (a .from) Aggregated (a .n) (a .limit - a .out) (c .before .before .groups-within .result) (c .source-run .result) (c .before .before .before .before .before .pre .1) (room (c .before .before)) (omega (arith, c .before .if1 .left))
     (λ j some few. source-grows (now (a .e)) (a .from) (c .before .before .before .before .before .pre .4) j (c .before .before .groups-within .result) some few) (c .source-run .ensures)
 
-sub-groups-within : tie.Need-sub-groups-within
-sub-groups-within c = search needs
-
-groups-within-requires : tie.Need-groups-within-requires
-groups-within-requires c κs = search needs
-
 returns : tie.Need-returns
 returns c =
     let a = c .before .before .before .before .args in
@@ -44,9 +38,6 @@ put-source-aggregated-requires c κs =
     let run = found (c .before) in
     (run .some, run .there, c .before .before .before .before .before .before .pre .4, omega (arith, run .most .fits, c .before .before .before .before .before .before .pre .2, c .before .before .before .before .before .before .pre .3))
 
-same-length : tie.Need-same-length
-same-length c = search needs
-
 returns-2 : tie.Need-returns-2
 returns-2 c = (found (c .before .before .before .before) .most, c .before .before .put-source-aggregated .ensures)
 
@@ -54,10 +45,10 @@ pub put-source-within-spec : {M : Type 1} → statement M
 put-source-within-spec =
     tie.close
     (tie.spec
-    sub-groups-within
-    groups-within-requires
+    (λ c. search needs)
+    (λ c κs. search needs)
     returns
     source-run-requires
     put-source-aggregated-requires
-    same-length
+    (λ c. search needs)
     returns-2)

@@ -15,19 +15,10 @@ returns c =
     let a = c .before .before .args in
     none-fit (now (a .e)) (a .from) Group (a .n) (a .room) (omega (arith, c .if1 .taken, group-long (now (a .e)) (a .from) 1 (omega arith)))
 
-smaller-requires : tie.Need-smaller-requires
-smaller-requires c κs = search needs
-
 returns-2 : tie.Need-returns-2
 returns-2 c =
     let a = c .before .before .before .before .args in
     rw (c .smaller .ensures) (group-most (now (a .e)) (a .from) (a .n) (a .room) (c .before .before .before .before .pre .0) (c .before .if2 .taken))
-
-add-word : tie.Need-add-word
-add-word c = search needs
-
-word-requires : tie.Need-word-requires
-word-requires c κs = search needs
 
 returns-3 : tie.Need-returns-3
 returns-3 c =
@@ -45,9 +36,9 @@ sources-within-spec =
     tie.close
     (tie.spec
     returns
-    smaller-requires
+    (λ c κs. search needs)
     returns-2
-    add-word
-    word-requires
+    (λ c. search needs)
+    (λ c κs. search needs)
     returns-3
     returns-4)

@@ -6,18 +6,6 @@ use Rattle.pim.specs.Answers.{headerAnswer}
 use Rattle.pim.proofs.messages.header_answer.Statement.{statement}
 use Rattle.pim.proofs.messages.header_answer.Tie as tie
 
-enum-known-h : tie.Need-enum-known-h
-enum-known-h c = search needs
-
-accepted-requires : tie.Need-accepted-requires
-accepted-requires c κs = search needs
-
-kind-number-requires : tie.Need-kind-number-requires
-kind-number-requires c κs = search needs
-
-enum-known-h-2 : tie.Need-enum-known-h-2
-enum-known-h-2 c = search needs
-
 returns : tie.Need-returns
 unfolding headerAnswer headed
 returns c = rw (c .before .before .before .h .given .1, c .before .accepted .ensures, c .kind-number .ensures)
@@ -29,4 +17,4 @@ returns-2 c = rw (c .before .h2 .given .1)
 pub header-answer-spec : {M : Type 1} → statement M
 header-answer-spec =
     tie.close
-    (tie.spec enum-known-h accepted-requires kind-number-requires enum-known-h-2 returns returns-2)
+    (tie.spec (λ c. search needs) (λ c κs. search needs) (λ c κs. search needs) (λ c. search needs) returns returns-2)

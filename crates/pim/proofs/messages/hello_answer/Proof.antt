@@ -28,15 +28,6 @@ said x h e u =
     let z : zeroPriority h = rw (e) at u in
     rw (e) (ap (λ g. record { refusal = accepted; hello = g }) (whole (h .holdtime) (h .«has_priority») (h .priority) (h .packing) z))
 
-enum-known-h : tie.Need-enum-known-h
-enum-known-h c = search needs
-
-accepted-requires : tie.Need-accepted-requires
-accepted-requires c κs = search needs
-
-enum-known-h-2 : tie.Need-enum-known-h-2
-enum-known-h-2 c = search needs
-
 returns : tie.Need-returns
 returns c =
     let s = c .before .before .before .before in
@@ -48,4 +39,4 @@ returns-2 c = rw (c .before .h2 .given .1)
 
 pub hello-answer-spec : {M : Type 1} → statement M
 hello-answer-spec =
-    tie.close (tie.spec enum-known-h accepted-requires enum-known-h-2 returns returns-2)
+    tie.close (tie.spec (λ c. search needs) (λ c κs. search needs) (λ c. search needs) returns returns-2)

@@ -6,11 +6,8 @@ use borrow.Author.Needs.{needs}
 use Rattle.pim.proofs.messages.pim_body.Statement.{statement}
 use Rattle.pim.proofs.messages.pim_body.Tie as tie
 
-body-requires : tie.Need-body-requires
-body-requires c κs = search needs
-
 returns : tie.Need-returns
 returns c = ap length (c .body .ensures)
 
 pub pim-body-spec : {M : Type 1} → statement M
-pim-body-spec = tie.close (tie.spec body-requires returns)
+pim-body-spec = tie.close (tie.spec (λ c κs. search needs) returns)

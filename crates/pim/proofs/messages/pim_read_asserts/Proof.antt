@@ -6,15 +6,6 @@ use Rattle.pim.specs.Answers.{readAnswer}
 use Rattle.pim.proofs.messages.pim_read_asserts.Statement.{statement}
 use Rattle.pim.proofs.messages.pim_read_asserts.Tie as tie
 
-read-asserts-requires : tie.Need-read-asserts-requires
-read-asserts-requires c κs = search needs
-
-read-answer-requires : tie.Need-read-answer-requires
-read-answer-requires c κs = search needs
-
-same-length : tie.Need-same-length
-same-length c = search needs
-
 returns : tie.Need-returns
 returns c =
     let k = c .before .before .before in
@@ -22,4 +13,4 @@ returns c =
 
 pub pim-read-asserts-spec : {M : Type 1} → statement M
 pim-read-asserts-spec =
-    tie.close (tie.spec read-asserts-requires read-answer-requires same-length returns)
+    tie.close (tie.spec (λ c κs. search needs) (λ c κs. search needs) (λ c. search needs) returns)

@@ -6,14 +6,8 @@ use Rattle.pim.specs.Answers.{helloAnswer}
 use Rattle.pim.proofs.messages.pim_read_hello.Statement.{statement}
 use Rattle.pim.proofs.messages.pim_read_hello.Tie as tie
 
-read-hello-requires : tie.Need-read-hello-requires
-read-hello-requires c κs = search needs
-
-hello-answer-requires : tie.Need-hello-answer-requires
-hello-answer-requires c κs = search needs
-
 returns : tie.Need-returns
 returns c = c .hello-answer .ensures ∙ ap helloAnswer (c .before .read-hello .ensures .0)
 
 pub pim-read-hello-spec : {M : Type 1} → statement M
-pim-read-hello-spec = tie.close (tie.spec read-hello-requires hello-answer-requires returns)
+pim-read-hello-spec = tie.close (tie.spec (λ c κs. search needs) (λ c κs. search needs) returns)

@@ -8,24 +8,6 @@ use Rattle.pim.specs.Answers.{kindBy, recordOf, recordAnswer}
 use Rattle.pim.proofs.messages.pim_read_record.Statement.{statement}
 use Rattle.pim.proofs.messages.pim_read_record.Tie as tie
 
-kind-named-requires : tie.Need-kind-named-requires
-kind-named-requires c κs = search needs
-
-enum-known-k : tie.Need-enum-known-k
-enum-known-k c = search needs
-
-read-record-requires : tie.Need-read-record-requires
-read-record-requires c κs = search needs
-
-record-answer-requires : tie.Need-record-answer-requires
-record-answer-requires c κs = search needs
-
-enum-told : tie.Need-enum-told
-enum-told c = search needs
-
-no-record-requires : tie.Need-no-record-requires
-no-record-requires c κs = search needs
-
 returns : tie.Need-returns
 unfolding kindBy recordOf
 returns c =
@@ -47,11 +29,11 @@ pub pim-read-record-spec : {M : Type 1} → statement M
 pim-read-record-spec =
     tie.close
     (tie.spec
-    kind-named-requires
-    enum-known-k
-    read-record-requires
-    record-answer-requires
-    enum-told
-    no-record-requires
+    (λ c κs. search needs)
+    (λ c. search needs)
+    (λ c κs. search needs)
+    (λ c κs. search needs)
+    (λ c. search needs)
+    (λ c κs. search needs)
     returns
     returns-2)

@@ -6,15 +6,6 @@ use Rattle.pim.specs.Answers.{choiceAnswer}
 use Rattle.pim.proofs.packs.choice_answer.Statement.{statement}
 use Rattle.pim.proofs.packs.choice_answer.Tie as tie
 
-enum-known-c : tie.Need-enum-known-c
-enum-known-c c = search needs
-
-accepted-requires : tie.Need-accepted-requires
-accepted-requires c κs = search needs
-
-enum-known-c-2 : tie.Need-enum-known-c-2
-enum-known-c-2 c = search needs
-
 returns : tie.Need-returns
 unfolding choiceAnswer chosenBy
 returns c = rw (c .before .before .c .given .1, c .accepted .ensures)
@@ -25,4 +16,4 @@ returns-2 c = rw (c .before .c2 .given .1)
 
 pub choice-answer-spec : {M : Type 1} → statement M
 choice-answer-spec =
-    tie.close (tie.spec enum-known-c accepted-requires enum-known-c-2 returns returns-2)
+    tie.close (tie.spec (λ c. search needs) (λ c κs. search needs) (λ c. search needs) returns returns-2)

@@ -6,15 +6,6 @@ use Rattle.pim.specs.Answers.{packAnswer}
 use Rattle.pim.proofs.packs.pim_pack_simple.Statement.{statement}
 use Rattle.pim.proofs.packs.pim_pack_simple.Tie as tie
 
-pack-simple-requires : tie.Need-pack-simple-requires
-pack-simple-requires c κs = search needs
-
-pack-answer-requires : tie.Need-pack-answer-requires
-pack-answer-requires c κs = search needs
-
-same-length : tie.Need-same-length
-same-length c = search needs
-
 returns : tie.Need-returns
 returns c =
     let k = c .before .before .before in
@@ -22,4 +13,4 @@ returns c =
 
 pub pim-pack-simple-spec : {M : Type 1} → statement M
 pim-pack-simple-spec =
-    tie.close (tie.spec pack-simple-requires pack-answer-requires same-length returns)
+    tie.close (tie.spec (λ c κs. search needs) (λ c κs. search needs) (λ c. search needs) returns)

@@ -6,15 +6,6 @@ use Rattle.pim.specs.Stored.{lengthAnswer}
 use Rattle.pim.proofs.popcounts.merge_answer.Statement.{statement}
 use Rattle.pim.proofs.popcounts.merge_answer.Tie as tie
 
-enum-known-m : tie.Need-enum-known-m
-enum-known-m c = search needs
-
-accepted-requires : tie.Need-accepted-requires
-accepted-requires c κs = search needs
-
-enum-known-m-2 : tie.Need-enum-known-m-2
-enum-known-m-2 c = search needs
-
 returns : tie.Need-returns
 unfolding lengthAnswer lengthBy
 returns c = rw (c .before .before .m .given .1, c .accepted .ensures)
@@ -25,4 +16,4 @@ returns-2 c = rw (c .before .m2 .given .1)
 
 pub merge-answer-spec : {M : Type 1} → statement M
 merge-answer-spec =
-    tie.close (tie.spec enum-known-m accepted-requires enum-known-m-2 returns returns-2)
+    tie.close (tie.spec (λ c. search needs) (λ c κs. search needs) (λ c. search needs) returns returns-2)

@@ -6,15 +6,9 @@ use Rattle.pim.specs.Stored.{orderNumber}
 use Rattle.pim.proofs.popcounts.pim_popcount_compare_speeds.Statement.{statement}
 use Rattle.pim.proofs.popcounts.pim_popcount_compare_speeds.Tie as tie
 
-compare-speeds-requires : tie.Need-compare-speeds-requires
-compare-speeds-requires c κs = search needs
-
-order-number-requires : tie.Need-order-number-requires
-order-number-requires c κs = search needs
-
 returns : tie.Need-returns
 returns c = c .order-number .ensures ∙ ap orderNumber (c .before .compare-speeds .ensures)
 
 pub pim-popcount-compare-speeds-spec : {M : Type 1} → statement M
 pim-popcount-compare-speeds-spec =
-    tie.close (tie.spec compare-speeds-requires order-number-requires returns)
+    tie.close (tie.spec (λ c κs. search needs) (λ c κs. search needs) returns)

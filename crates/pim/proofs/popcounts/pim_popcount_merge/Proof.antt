@@ -5,15 +5,6 @@ use borrow.Author.Needs.{needs}
 use Rattle.pim.proofs.popcounts.pim_popcount_merge.Statement.{statement}
 use Rattle.pim.proofs.popcounts.pim_popcount_merge.Tie as tie
 
-merge-requires : tie.Need-merge-requires
-merge-requires c κs = search needs
-
-merge-answer-requires : tie.Need-merge-answer-requires
-merge-answer-requires c κs = search needs
-
-same-length : tie.Need-same-length
-same-length c = search needs
-
 returns : tie.Need-returns
 returns c =
     let k = c .before .before .before in
@@ -21,4 +12,4 @@ returns c =
 
 pub pim-popcount-merge-spec : {M : Type 1} → statement M
 pim-popcount-merge-spec =
-    tie.close (tie.spec merge-requires merge-answer-requires same-length returns)
+    tie.close (tie.spec (λ c κs. search needs) (λ c κs. search needs) (λ c. search needs) returns)

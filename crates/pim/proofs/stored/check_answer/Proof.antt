@@ -6,18 +6,6 @@ use Rattle.pim.specs.Stored.{checkAnswer}
 use Rattle.pim.proofs.stored.check_answer.Statement.{statement}
 use Rattle.pim.proofs.stored.check_answer.Tie as tie
 
-enum-known-c : tie.Need-enum-known-c
-enum-known-c c = search needs
-
-accepted-requires : tie.Need-accepted-requires
-accepted-requires c κs = search needs
-
-enum-known-c-2 : tie.Need-enum-known-c-2
-enum-known-c-2 c = search needs
-
-no-counts-requires : tie.Need-no-counts-requires
-no-counts-requires c κs = search needs
-
 returns : tie.Need-returns
 unfolding checkAnswer checkedBy
 returns c = rw (c .before .before .c .given .1, c .accepted .ensures)
@@ -28,4 +16,4 @@ returns-2 c = rw (c .before .before .c2 .given .1, c .no-counts .ensures)
 
 pub check-answer-spec : {M : Type 1} → statement M
 check-answer-spec =
-    tie.close (tie.spec enum-known-c accepted-requires enum-known-c-2 no-counts-requires returns returns-2)
+    tie.close (tie.spec (λ c. search needs) (λ c κs. search needs) (λ c. search needs) (λ c κs. search needs) returns returns-2)

@@ -6,15 +6,9 @@ use Rattle.pim.specs.Stored.{checkAnswer}
 use Rattle.pim.proofs.stored.pim_check_sheet.Statement.{statement}
 use Rattle.pim.proofs.stored.pim_check_sheet.Tie as tie
 
-check-sheet-requires : tie.Need-check-sheet-requires
-check-sheet-requires c κs = search needs
-
-check-answer-requires : tie.Need-check-answer-requires
-check-answer-requires c κs = search needs
-
 returns : tie.Need-returns
 returns c = c .check-answer .ensures ∙ ap checkAnswer (c .before .check-sheet .ensures)
 
 pub pim-check-sheet-spec : {M : Type 1} → statement M
 pim-check-sheet-spec =
-    tie.close (tie.spec check-sheet-requires check-answer-requires returns)
+    tie.close (tie.spec (λ c κs. search needs) (λ c κs. search needs) returns)

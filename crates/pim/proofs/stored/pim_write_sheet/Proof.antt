@@ -5,15 +5,6 @@ use borrow.Author.Needs.{needs}
 use Rattle.pim.proofs.stored.pim_write_sheet.Statement.{statement}
 use Rattle.pim.proofs.stored.pim_write_sheet.Tie as tie
 
-write-sheet-requires : tie.Need-write-sheet-requires
-write-sheet-requires c κs = search needs
-
-store-answer-requires : tie.Need-store-answer-requires
-store-answer-requires c κs = search needs
-
-same-length : tie.Need-same-length
-same-length c = search needs
-
 returns : tie.Need-returns
 returns c =
     let k = c .before .before .before in
@@ -21,4 +12,4 @@ returns c =
 
 pub pim-write-sheet-spec : {M : Type 1} → statement M
 pim-write-sheet-spec =
-    tie.close (tie.spec write-sheet-requires store-answer-requires same-length returns)
+    tie.close (tie.spec (λ c κs. search needs) (λ c κs. search needs) (λ c. search needs) returns)

@@ -6,15 +6,6 @@ use Rattle.pim.specs.Stored.{lengthAnswer}
 use Rattle.pim.proofs.stored.store_answer.Statement.{statement}
 use Rattle.pim.proofs.stored.store_answer.Tie as tie
 
-enum-known-s : tie.Need-enum-known-s
-enum-known-s c = search needs
-
-accepted-requires : tie.Need-accepted-requires
-accepted-requires c κs = search needs
-
-enum-known-s-2 : tie.Need-enum-known-s-2
-enum-known-s-2 c = search needs
-
 returns : tie.Need-returns
 unfolding lengthAnswer storedBy
 returns c = rw (c .before .before .s .given .1, c .accepted .ensures)
@@ -25,4 +16,4 @@ returns-2 c = rw (c .before .s2 .given .1)
 
 pub store-answer-spec : {M : Type 1} → statement M
 store-answer-spec =
-    tie.close (tie.spec enum-known-s accepted-requires enum-known-s-2 returns returns-2)
+    tie.close (tie.spec (λ c. search needs) (λ c κs. search needs) (λ c. search needs) returns returns-2)

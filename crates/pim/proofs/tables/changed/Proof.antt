@@ -4,11 +4,8 @@ use borrow.Author.Needs.{needs}
 use Rattle.pim.proofs.tables.changed.Statement.{statement}
 use Rattle.pim.proofs.tables.changed.Tie as tie
 
-accepted-requires : tie.Need-accepted-requires
-accepted-requires c κs = search needs
-
 returns : tie.Need-returns
 returns c = rw (c .accepted .ensures)
 
 pub changed-spec : {M : Type 1} → statement M
-changed-spec = tie.close (tie.spec accepted-requires returns)
+changed-spec = tie.close (tie.spec (λ c κs. search needs) returns)

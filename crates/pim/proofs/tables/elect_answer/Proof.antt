@@ -6,15 +6,6 @@ use Rattle.pim.specs.Answers.{electAnswer}
 use Rattle.pim.proofs.tables.elect_answer.Statement.{statement}
 use Rattle.pim.proofs.tables.elect_answer.Tie as tie
 
-enum-known-e : tie.Need-enum-known-e
-enum-known-e c = search needs
-
-accepted-requires : tie.Need-accepted-requires
-accepted-requires c κs = search needs
-
-enum-known-e-2 : tie.Need-enum-known-e-2
-enum-known-e-2 c = search needs
-
 returns : tie.Need-returns
 unfolding electAnswer electedBy
 returns c = rw (c .before .before .e .given .1, c .accepted .ensures)
@@ -25,4 +16,4 @@ returns-2 c = rw (c .before .e2 .given .1)
 
 pub elect-answer-spec : {M : Type 1} → statement M
 elect-answer-spec =
-    tie.close (tie.spec enum-known-e accepted-requires enum-known-e-2 returns returns-2)
+    tie.close (tie.spec (λ c. search needs) (λ c κs. search needs) (λ c. search needs) returns returns-2)

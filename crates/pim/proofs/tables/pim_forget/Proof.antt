@@ -5,14 +5,8 @@ use borrow.Author.Needs.{needs}
 use Rattle.pim.proofs.tables.pim_forget.Statement.{statement}
 use Rattle.pim.proofs.tables.pim_forget.Tie as tie
 
-forget-requires : tie.Need-forget-requires
-forget-requires c κs = search needs
-
-table-answer-requires : tie.Need-table-answer-requires
-table-answer-requires c κs = search needs
-
 returns : tie.Need-returns
 returns c = c .table-answer .ensures ∙ (rw (c .before .forget .ensures .0, c .before .forget .ensures .1))
 
 pub pim-forget-spec : {M : Type 1} → statement M
-pim-forget-spec = tie.close (tie.spec forget-requires table-answer-requires returns)
+pim-forget-spec = tie.close (tie.spec (λ c κs. search needs) (λ c κs. search needs) returns)

@@ -5,14 +5,8 @@ use borrow.Author.Needs.{needs}
 use Rattle.pim.proofs.tables.pim_hear.Statement.{statement}
 use Rattle.pim.proofs.tables.pim_hear.Tie as tie
 
-hear-requires : tie.Need-hear-requires
-hear-requires c κs = search needs
-
-table-answer-requires : tie.Need-table-answer-requires
-table-answer-requires c κs = search needs
-
 returns : tie.Need-returns
 returns c = c .table-answer .ensures ∙ (rw (c .before .hear .ensures .0, c .before .hear .ensures .1))
 
 pub pim-hear-spec : {M : Type 1} → statement M
-pim-hear-spec = tie.close (tie.spec hear-requires table-answer-requires returns)
+pim-hear-spec = tie.close (tie.spec (λ c κs. search needs) (λ c κs. search needs) returns)

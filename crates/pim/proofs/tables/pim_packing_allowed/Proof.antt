@@ -6,15 +6,9 @@ use Rattle.pim.specs.Answers.{allowedAnswer}
 use Rattle.pim.proofs.tables.pim_packing_allowed.Statement.{statement}
 use Rattle.pim.proofs.tables.pim_packing_allowed.Tie as tie
 
-packing-allowed-requires : tie.Need-packing-allowed-requires
-packing-allowed-requires c κs = search needs
-
-allowed-answer-requires : tie.Need-allowed-answer-requires
-allowed-answer-requires c κs = search needs
-
 returns : tie.Need-returns
 returns c = c .allowed-answer .ensures ∙ ap allowedAnswer (c .before .packing-allowed .ensures)
 
 pub pim-packing-allowed-spec : {M : Type 1} → statement M
 pim-packing-allowed-spec =
-    tie.close (tie.spec packing-allowed-requires allowed-answer-requires returns)
+    tie.close (tie.spec (λ c κs. search needs) (λ c κs. search needs) returns)

@@ -7,27 +7,6 @@ use Rattle.pim.specs.Answers.{tableAnswer, doneNumber}
 use Rattle.pim.proofs.tables.table_answer.Statement.{statement}
 use Rattle.pim.proofs.tables.table_answer.Tie as tie
 
-enum-told : tie.Need-enum-told
-enum-told c = search needs
-
-changed-requires : tie.Need-changed-requires
-changed-requires c κs = search needs
-
-enum-told-2 : tie.Need-enum-told-2
-enum-told-2 c = search needs
-
-changed-requires-2 : tie.Need-changed-requires-2
-changed-requires-2 c κs = search needs
-
-enum-told-3 : tie.Need-enum-told-3
-enum-told-3 c = search needs
-
-changed-requires-3 : tie.Need-changed-requires-3
-changed-requires-3 c κs = search needs
-
-enum-known-change : tie.Need-enum-known-change
-enum-known-change c = search needs
-
 returns : tie.Need-returns
 unfolding tableAnswer doneBy doneNumber
 returns c = c .changed .ensures ∙ (rw (c .before .enum-told .given .1))
@@ -48,13 +27,13 @@ pub table-answer-spec : {M : Type 1} → statement M
 table-answer-spec =
     tie.close
     (tie.spec
-    enum-told
-    changed-requires
-    enum-told-2
-    changed-requires-2
-    enum-told-3
-    changed-requires-3
-    enum-known-change
+    (λ c. search needs)
+    (λ c κs. search needs)
+    (λ c. search needs)
+    (λ c κs. search needs)
+    (λ c. search needs)
+    (λ c κs. search needs)
+    (λ c. search needs)
     returns
     returns-2
     returns-3

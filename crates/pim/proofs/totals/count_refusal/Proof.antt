@@ -6,15 +6,6 @@ use Rattle.pim.specs.Answers.{refusalOf}
 use Rattle.pim.proofs.totals.count_refusal.Statement.{statement}
 use Rattle.pim.proofs.totals.count_refusal.Tie as tie
 
-enum-told : tie.Need-enum-told
-enum-told c = search needs
-
-accepted-requires : tie.Need-accepted-requires
-accepted-requires c κs = search needs
-
-enum-known-a : tie.Need-enum-known-a
-enum-known-a c = search needs
-
 returns : tie.Need-returns
 unfolding refusalOf answerOf
 returns c = rw (c .before .enum-told .given .1, c .accepted .ensures)
@@ -25,4 +16,4 @@ returns-2 c = rw (c .before .a .given .1)
 
 pub count-refusal-spec : {M : Type 1} → statement M
 count-refusal-spec =
-    tie.close (tie.spec enum-told accepted-requires enum-known-a returns returns-2)
+    tie.close (tie.spec (λ c. search needs) (λ c κs. search needs) (λ c. search needs) returns returns-2)

@@ -8,50 +8,14 @@ use borrow.Author.Needs.{needs}
 use Rattle.reading.proofs.copy.copy4.Statement.{statement}
 use Rattle.reading.proofs.copy.copy4.Tie as tie
 
-shared-slice-read-a : tie.Need-shared-slice-read-a
-shared-slice-read-a c = search needs
-
-add-b : tie.Need-add-b
-add-b c = search needs
-
-shared-slice-read-b : tie.Need-shared-slice-read-b
-shared-slice-read-b c = search needs
-
-add-c : tie.Need-add-c
-add-c c = search needs
-
-shared-slice-read-c : tie.Need-shared-slice-read-c
-shared-slice-read-c c = search needs
-
-add-e : tie.Need-add-e
-add-e c = search needs
-
-shared-slice-read-e : tie.Need-shared-slice-read-e
-shared-slice-read-e c = search needs
-
-slice-write-d : tie.Need-slice-write-d
-slice-write-d c = search needs
-
-add-d : tie.Need-add-d
-add-d c = search needs
-
 slice-write-d-2 : tie.Need-slice-write-d-2
 slice-write-d-2 c = simp length-set (omega arith)
-
-add-d-2 : tie.Need-add-d-2
-add-d-2 c = search needs
 
 slice-write-d-3 : tie.Need-slice-write-d-3
 slice-write-d-3 c = simp length-set (omega arith)
 
-add-d-3 : tie.Need-add-d-3
-add-d-3 c = search needs
-
 slice-write-d-4 : tie.Need-slice-write-d-4
 slice-write-d-4 c = simp length-set (omega arith)
-
-same-length : tie.Need-same-length
-same-length c = search needs
 
 returns : tie.Need-returns
 returns c =
@@ -63,19 +27,19 @@ pub copy4-spec : {M : Type 1} → statement M
 copy4-spec =
     tie.close
     (tie.spec
-    shared-slice-read-a
-    add-b
-    shared-slice-read-b
-    add-c
-    shared-slice-read-c
-    add-e
-    shared-slice-read-e
-    slice-write-d
-    add-d
+    (λ c. search needs)
+    (λ c. search needs)
+    (λ c. search needs)
+    (λ c. search needs)
+    (λ c. search needs)
+    (λ c. search needs)
+    (λ c. search needs)
+    (λ c. search needs)
+    (λ c. search needs)
     slice-write-d-2
-    add-d-2
+    (λ c. search needs)
     slice-write-d-3
-    add-d-3
+    (λ c. search needs)
     slice-write-d-4
-    same-length
+    (λ c. search needs)
     returns)

@@ -10,33 +10,6 @@ use borrow.Author.Needs.{needs}
 use Rattle.reading.proofs.copy.copy_entry.Statement.{statement}
 use Rattle.reading.proofs.copy.copy_entry.Tie as tie
 
-copy4-requires : tie.Need-copy4-requires
-copy4-requires c κs = search needs
-
-add-copy4 : tie.Need-add-copy4
-add-copy4 c = search needs
-
-copy4-requires-2 : tie.Need-copy4-requires-2
-copy4-requires-2 c κs = search needs
-
-add-copy4-2 : tie.Need-add-copy4-2
-add-copy4-2 c = search needs
-
-copy4-requires-3 : tie.Need-copy4-requires-3
-copy4-requires-3 c κs = search needs
-
-add-copy4-3 : tie.Need-add-copy4-3
-add-copy4-3 c = search needs
-
-add-copy4-4 : tie.Need-add-copy4-4
-add-copy4-4 c = search needs
-
-copy4-requires-4 : tie.Need-copy4-requires-4
-copy4-requires-4 c κs = search needs
-
-same-length : tie.Need-same-length
-same-length c = search needs
-
 returns : tie.Need-returns
 unfolding assertEntryOctets
 returns c =
@@ -56,13 +29,13 @@ pub copy-entry-spec : {M : Type 1} → statement M
 copy-entry-spec =
     tie.close
     (tie.spec
-    copy4-requires
-    add-copy4
-    copy4-requires-2
-    add-copy4-2
-    copy4-requires-3
-    add-copy4-3
-    add-copy4-4
-    copy4-requires-4
-    same-length
+    (λ c κs. search needs)
+    (λ c. search needs)
+    (λ c κs. search needs)
+    (λ c. search needs)
+    (λ c κs. search needs)
+    (λ c. search needs)
+    (λ c. search needs)
+    (λ c κs. search needs)
+    (λ c. search needs)
     returns)

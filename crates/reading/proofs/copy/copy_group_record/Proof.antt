@@ -60,41 +60,8 @@ some c =
 room : (c : tie.Else1) → start (c .before) .args .out + 16 * c .before .number16 .result ≤ length (now (start (c .before) .args .d))
 room c = let e = some c in rw (e, length-like) at (start (c .before) .pre .1 .room)
 
-add-number16 : tie.Need-add-number16
-add-number16 c = search needs
-
-add-number16-2 : tie.Need-add-number16-2
-add-number16-2 c = search needs
-
-sub-number16 : tie.Need-sub-number16
-sub-number16 c = search needs
-
-part-number16-start : tie.Need-part-number16-start
-part-number16-start c = search needs
-
-part-number16-end : tie.Need-part-number16-end
-part-number16-end c = search needs
-
-number16-requires : tie.Need-number16-requires
-number16-requires c κs = search needs
-
-add-copy-entry : tie.Need-add-copy-entry
-add-copy-entry c = search needs
-
-slice-aggregate-copy-entry : tie.Need-slice-aggregate-copy-entry
-slice-aggregate-copy-entry c = search needs
-
 copy-entry-requires : tie.Need-copy-entry-requires
 copy-entry-requires c κs = let e = none (c .before .before) in (omega arith, omega arith, omega arith, omega (arith, rw e at (start (c .before .before .before) .pre .1 .room)))
-
-add-t16 : tie.Need-add-t16
-add-t16 c = search needs
-
-add-t21 : tie.Need-add-t21
-add-t21 c = search needs
-
-same-length : tie.Need-same-length
-same-length c = search needs
 
 returns : tie.Need-returns
 unfolding numberAt value
@@ -111,17 +78,8 @@ returns c =
       buffer = put-one (assertEntryOctets ipv4) (now (s .args .d)) (s .args .out) (b .copy-entry .ensures) refl;
     })
 
-add-copy-sources : tie.Need-add-copy-sources
-add-copy-sources c = search needs
-
-add-copy-sources-2 : tie.Need-add-copy-sources-2
-add-copy-sources-2 c = search needs
-
 copy-sources-requires : tie.Need-copy-sources-requires
 copy-sources-requires c κs = let n = count (c .before .before) in (omega arith, omega arith, omega arith, room (c .before))
-
-add-t11 : tie.Need-add-t11
-add-t11 c = search needs
 
 mul-t9 : tie.Need-mul-t9
 mul-t9 c = let n = count (c .before .before .before .before .before) in omega arith
@@ -134,9 +92,6 @@ mul-t25 c = let h = room (c .before .before .before .before) in omega arith
 
 add-t26 : tie.Need-add-t26
 add-t26 c = let h = room (c .before .before .before .before) in omega arith
-
-same-length-2 : tie.Need-same-length-2
-same-length-2 c = search needs
 
 returns-2 : tie.Need-returns-2
 returns-2 c =
@@ -153,26 +108,26 @@ pub copy-group-record-spec : {M : Type 1} → statement M
 copy-group-record-spec =
     tie.close
     (tie.spec
-    add-number16
-    add-number16-2
-    sub-number16
-    part-number16-start
-    part-number16-end
-    number16-requires
-    add-copy-entry
-    slice-aggregate-copy-entry
+    (λ c. search needs)
+    (λ c. search needs)
+    (λ c. search needs)
+    (λ c. search needs)
+    (λ c. search needs)
+    (λ c κs. search needs)
+    (λ c. search needs)
+    (λ c. search needs)
     copy-entry-requires
-    add-t16
-    add-t21
-    same-length
+    (λ c. search needs)
+    (λ c. search needs)
+    (λ c. search needs)
     returns
-    add-copy-sources
-    add-copy-sources-2
+    (λ c. search needs)
+    (λ c. search needs)
     copy-sources-requires
-    add-t11
+    (λ c. search needs)
     mul-t9
     add-t8
     mul-t25
     add-t26
-    same-length-2
+    (λ c. search needs)
     returns-2)

@@ -76,47 +76,17 @@ source-room c = let e = source (c .before .before) (groups c) .1 in rw (e, lengt
 add-r-bit : tie.Need-add-r-bit
 add-r-bit c = omega (arith, least (c .before .before))
 
-sub-r-bit : tie.Need-sub-r-bit
-sub-r-bit c = search needs
-
-part-r-bit-start : tie.Need-part-r-bit-start
-part-r-bit-start c = search needs
-
 part-r-bit-end : tie.Need-part-r-bit-end
 part-r-bit-end c = omega (arith, least (c .before .before))
 
-r-bit-requires : tie.Need-r-bit-requires
-r-bit-requires c κs = search needs
-
-add-number16 : tie.Need-add-number16
-add-number16 c = search needs
-
-add-number16-2 : tie.Need-add-number16-2
-add-number16-2 c = search needs
-
-sub-number16 : tie.Need-sub-number16
-sub-number16 c = search needs
-
-part-number16-start : tie.Need-part-number16-start
-part-number16-start c = search needs
-
 part-number16-end : tie.Need-part-number16-end
 part-number16-end c = omega (arith, least (start (c .before)))
-
-number16-requires : tie.Need-number16-requires
-number16-requires c κs = search needs
-
-add-copy-group-records : tie.Need-add-copy-group-records
-add-copy-group-records c = search needs
 
 copy-group-records-requires : tie.Need-copy-group-records-requires
 copy-group-records-requires c κs =
     let e = rp (c .before) in
     let s = start (c .before .before .before .before) in
     (omega (arith, least s), record { there = omega arith; room = rw (e .1) at (s .pre .room) })
-
-same-length : tie.Need-same-length
-same-length c = search needs
 
 returns : tie.Need-returns
 returns c =
@@ -129,37 +99,13 @@ returns c =
       buffer = rw (e .1) (r .buffer);
     }
 
-add-number16-3 : tie.Need-add-number16-3
-add-number16-3 c = search needs
-
-add-number16-4 : tie.Need-add-number16-4
-add-number16-4 c = search needs
-
-sub-number16-2 : tie.Need-sub-number16-2
-sub-number16-2 c = search needs
-
-part-number16-start-2 : tie.Need-part-number16-start-2
-part-number16-start-2 c = search needs
-
 part-number16-end-2 : tie.Need-part-number16-end-2
 part-number16-end-2 c = let z = source c refl .0 in omega arith
-
-number16-requires-2 : tie.Need-number16-requires-2
-number16-requires-2 c κs = search needs
-
-add-copy-groups : tie.Need-add-copy-groups
-add-copy-groups c = search needs
-
-add-copy-groups-2 : tie.Need-add-copy-groups-2
-add-copy-groups-2 c = search needs
 
 copy-groups-requires : tie.Need-copy-groups-requires
 copy-groups-requires c κs =
     let z = source (c .before .before .before) (groups (c .before)) .0 in
     (omega arith, omega arith, omega arith, source-room (c .before))
-
-add-t10 : tie.Need-add-t10
-add-t10 c = search needs
 
 mul-t22 : tie.Need-mul-t22
 mul-t22 c = let z = source (c .before .before .before .before .before .before) (groups (c .before .before .before .before)) .0 in omega arith
@@ -172,9 +118,6 @@ mul-t28 c = let h = source-room (c .before .before .before .before) in omega ari
 
 add-t29 : tie.Need-add-t29
 add-t29 c = let h = source-room (c .before .before .before .before) in omega arith
-
-same-length-2 : tie.Need-same-length-2
-same-length-2 c = search needs
 
 returns-2 : tie.Need-returns-2
 returns-2 c =
@@ -192,33 +135,33 @@ copy-record-spec =
     tie.close
     (tie.spec
     add-r-bit
-    sub-r-bit
-    part-r-bit-start
+    (λ c. search needs)
+    (λ c. search needs)
     part-r-bit-end
-    r-bit-requires
-    add-number16
-    add-number16-2
-    sub-number16
-    part-number16-start
+    (λ c κs. search needs)
+    (λ c. search needs)
+    (λ c. search needs)
+    (λ c. search needs)
+    (λ c. search needs)
     part-number16-end
-    number16-requires
-    add-copy-group-records
+    (λ c κs. search needs)
+    (λ c. search needs)
     copy-group-records-requires
-    same-length
+    (λ c. search needs)
     returns
-    add-number16-3
-    add-number16-4
-    sub-number16-2
-    part-number16-start-2
+    (λ c. search needs)
+    (λ c. search needs)
+    (λ c. search needs)
+    (λ c. search needs)
     part-number16-end-2
-    number16-requires-2
-    add-copy-groups
-    add-copy-groups-2
+    (λ c κs. search needs)
+    (λ c. search needs)
+    (λ c. search needs)
     copy-groups-requires
-    add-t10
+    (λ c. search needs)
     mul-t22
     add-t8
     mul-t28
     add-t29
-    same-length-2
+    (λ c. search needs)
     returns-2)

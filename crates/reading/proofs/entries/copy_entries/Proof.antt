@@ -10,27 +10,15 @@ use Rattle.reading.proofs.Delivered.{plain-entries, simple-entries, joi
 use Rattle.reading.proofs.entries.copy_entries.Statement.{statement}
 use Rattle.reading.proofs.entries.copy_entries.Tie as tie
 
-enum-told : tie.Need-enum-told
-enum-told c = search needs
-
-enum-told-2 : tie.Need-enum-told-2
-enum-told-2 c = search needs
-
 copy-asserts-requires : tie.Need-copy-asserts-requires
 copy-asserts-requires c κs =
     let a = c .before .before .before .before .before in
     (plain-entries (now (a .args .m)) (a .args .n) (rw (c .before .enum-told2 .given .1) at (a .pre .0)) .there, a .pre .1)
 
-enum-told-3 : tie.Need-enum-told-3
-enum-told-3 c = search needs
-
 copy-asserts-requires-2 : tie.Need-copy-asserts-requires-2
 copy-asserts-requires-2 c κs =
     let a = c .before .before .before .before .before in
     (simple-entries (now (a .args .m)) (a .args .n) (rw (c .before .enum-told3 .given .1) at (a .pre .0)) .there, a .pre .1)
-
-enum-told-4 : tie.Need-enum-told-4
-enum-told-4 c = search needs
 
 copy-aggregated-requires : tie.Need-copy-aggregated-requires
 copy-aggregated-requires c κs =
@@ -38,19 +26,10 @@ copy-aggregated-requires c κs =
     let j = joined-entries (now (a .args .m)) (a .args .n) (rw (c .before .enum-told4 .given .1) at (a .pre .0)) in
     (j .0, omega (arith, ap (λ (x : ℕ). 16 * x) (j .1), a .pre .1))
 
-enum-told-5 : tie.Need-enum-told-5
-enum-told-5 c = search needs
-
-enum-told-6 : tie.Need-enum-told-6
-enum-told-6 c = search needs
-
 returns : tie.Need-returns
 unfolding assertsBody
 returns c =
     absurd (none-counted (rw (c .enum-told .given .1) at (c .before .before .before .before .pre .0)))
-
-same-length : tie.Need-same-length
-same-length c = search needs
 
 returns-2 : tie.Need-returns-2
 returns-2 c =
@@ -58,17 +37,11 @@ returns-2 c =
     let p = plain-entries (now (a .args .m)) (a .args .n) (rw (c .before .before .before .before .enum-told2 .given .1) at (a .pre .0)) in
     rw (c .before .before .before .before .enum-told2 .given .1, p .entries) (c .before .before .copy-asserts .ensures)
 
-same-length-2 : tie.Need-same-length-2
-same-length-2 c = search needs
-
 returns-3 : tie.Need-returns-3
 returns-3 c =
     let a = c .before .before .before .before .before .before .before .before in
     let p = simple-entries (now (a .args .m)) (a .args .n) (rw (c .before .before .before .before .enum-told3 .given .1) at (a .pre .0)) in
     rw (c .before .before .before .before .enum-told3 .given .1, p .entries) (c .before .before .copy-asserts2 .ensures)
-
-same-length-3 : tie.Need-same-length-3
-same-length-3 c = search needs
 
 returns-4 : tie.Need-returns-4
 returns-4 c =
@@ -90,21 +63,21 @@ pub copy-entries-spec : {M : Type 1} → statement M
 copy-entries-spec =
     tie.close
     (tie.spec
-    enum-told
-    enum-told-2
+    (λ c. search needs)
+    (λ c. search needs)
     copy-asserts-requires
-    enum-told-3
+    (λ c. search needs)
     copy-asserts-requires-2
-    enum-told-4
+    (λ c. search needs)
     copy-aggregated-requires
-    enum-told-5
-    enum-told-6
+    (λ c. search needs)
+    (λ c. search needs)
     returns
-    same-length
+    (λ c. search needs)
     returns-2
-    same-length-2
+    (λ c. search needs)
     returns-3
-    same-length-3
+    (λ c. search needs)
     returns-4
     returns-5
     returns-6)

@@ -12,24 +12,6 @@ use Rattle.reading.proofs.Readings.{headed-refuses, headed-gives, count
 use Rattle.reading.proofs.entries.read_asserts.Statement.{statement}
 use Rattle.reading.proofs.entries.read_asserts.Tie as tie
 
-header-requires : tie.Need-header-requires
-header-requires c κs = search needs
-
-enum-known-h : tie.Need-enum-known-h
-enum-known-h c = search needs
-
-enum-known-h-2 : tie.Need-enum-known-h-2
-enum-known-h-2 c = search needs
-
-count-asserts-requires : tie.Need-count-asserts-requires
-count-asserts-requires c κs = search needs
-
-enum-known-c : tie.Need-enum-known-c
-enum-known-c c = search needs
-
-enum-known-c-2 : tie.Need-enum-known-c-2
-enum-known-c-2 c = search needs
-
 returns : tie.Need-returns
 unfolding answered
 returns c =
@@ -67,9 +49,6 @@ returns-3 c =
     let call = asserts-by o d ∙ read-bad (assertEntries ipv4) (assertsBody ipv4) o d e (counted-bad ((assertsBody ipv4) k o 4) (c .before .c .given .1) (c .before .before .before .count-asserts .ensures)) in
     (sym (ap (λ x. x .answer) call), sym (ap (λ x. x .lent) call))
 
-same-length : tie.Need-same-length
-same-length c = search needs
-
 returns-4 : tie.Need-returns-4
 unfolding answered
 returns-4 c =
@@ -86,15 +65,15 @@ pub read-asserts-spec : {M : Type 1} → statement M
 read-asserts-spec =
     tie.close
     (tie.spec
-    header-requires
-    enum-known-h
-    enum-known-h-2
-    count-asserts-requires
-    enum-known-c
-    enum-known-c-2
+    (λ c κs. search needs)
+    (λ c. search needs)
+    (λ c. search needs)
+    (λ c κs. search needs)
+    (λ c. search needs)
+    (λ c. search needs)
     returns
     copy-entries-requires
     returns-2
     returns-3
-    same-length
+    (λ c. search needs)
     returns-4)

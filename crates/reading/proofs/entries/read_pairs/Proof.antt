@@ -16,24 +16,6 @@ use Rattle.reading.proofs.Delivered.{pair-entries}
 use Rattle.reading.proofs.entries.read_pairs.Statement.{statement}
 use Rattle.reading.proofs.entries.read_pairs.Tie as tie
 
-header-requires : tie.Need-header-requires
-header-requires c κs = search needs
-
-enum-known-h : tie.Need-enum-known-h
-enum-known-h c = search needs
-
-enum-known-h-2 : tie.Need-enum-known-h-2
-enum-known-h-2 c = search needs
-
-count-pairs-requires : tie.Need-count-pairs-requires
-count-pairs-requires c κs = search needs
-
-enum-known-c : tie.Need-enum-known-c
-enum-known-c c = search needs
-
-enum-known-c-2 : tie.Need-enum-known-c-2
-enum-known-c-2 c = search needs
-
 returns : tie.Need-returns
 unfolding answered
 returns c =
@@ -72,9 +54,6 @@ returns-3 c =
     let call = pairs-by o d ∙ read-bad (pairEntries ipv4 false) (pairsBody ipv4) o d e (counted-bad ((pairsBody ipv4) k o 4) (c .before .c .given .1) (c .before .before .before .count-pairs .ensures)) in
     (sym (ap (λ x. x .answer) call), sym (ap (λ x. x .lent) call))
 
-same-length : tie.Need-same-length
-same-length c = search needs
-
 returns-4 : tie.Need-returns-4
 unfolding answered
 returns-4 c =
@@ -91,15 +70,15 @@ pub read-pairs-spec : {M : Type 1} → statement M
 read-pairs-spec =
     tie.close
     (tie.spec
-    header-requires
-    enum-known-h
-    enum-known-h-2
-    count-pairs-requires
-    enum-known-c
-    enum-known-c-2
+    (λ c κs. search needs)
+    (λ c. search needs)
+    (λ c. search needs)
+    (λ c κs. search needs)
+    (λ c. search needs)
+    (λ c. search needs)
     returns
     copy-pairs-requires
     returns-2
     returns-3
-    same-length
+    (λ c. search needs)
     returns-4)
