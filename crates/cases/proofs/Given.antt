@@ -3,13 +3,14 @@
 --     flows-given      they, and limit 49, are what demand 3 is given
 -- Assumes nothing.
 use mathlib.Core.Path.{refl}
+use mathlib.Core.Bool.{false}
 use Rattle.octets.specs.Octets.{Octets}
 use Rattle.records.specs.Records.{AssertRecord}
 use Rattle.format.specs.Family.{ipv4}
 use Rattle.format.specs.Entry.{assertEntries, assertEntryOctets, AllAllowed, entriesOctets}
 use Rattle.format.specs.Train.{Given}
 use Rattle.format.proofs.Lengths.{AreOctets, _then_, number, octets-each}
-use Rattle.format.proofs.Ipv4.{given}
+use Rattle.format.proofs.Families.{given}
 use Rattle.cases.specs.Computed.{computed}
 use Rattle.cases.specs.Marked.{flows}
 
@@ -23,4 +24,4 @@ flows-octets = octets-each (assertEntryOctets ipv4) entry-octets (flows 3) .belo
 
 pub flows-given : Given ipv4 (entriesOctets (assertEntries ipv4) (flows 3)) 49
 unfolding computed AllAllowed flows
-flows-given = given (entriesOctets (assertEntries ipv4) (flows 3)) 49 49 flows-octets refl (refl, (refl, (refl, tt))) refl
+flows-given = given false (entriesOctets (assertEntries ipv4) (flows 3)) 49 49 flows-octets refl (refl, (refl, (refl, tt))) refl

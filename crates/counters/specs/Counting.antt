@@ -1,6 +1,5 @@
 -- What a call on the counters answers, and what they hold after it (01, "Neighbours and election", its paragraph on counters).
 --     noTotals, noneByKind, noneCounted     counters to begin with
---     numberOf             the number that names a kind, in 01's order
 --     sum                  a sum that stays at the 64-bit maximum
 --     moreIf               one message more and so many records, if the kind is the one named
 --     moreAt, moreIn       the totals of one kind, of one direction and kind changed, every other one as it was
@@ -11,7 +10,7 @@ use Prim.Native.Nat.{ℕ, _+_, _-_, _^_, min}
 use mathlib.Core.Bool.{Bool, cond}
 use lib.Dec.{eqb, ltb}
 use Rattle.format.specs.Outcome.{Outcome, gives, refuses}
-use Rattle.format.specs.declared.Kind.{Kind}
+use Rattle.format.specs.Values.{kindNumber}
 use Rattle.format.specs.declared.Kind.the-variants.{Hello, Assert, Simple, Aggregated, NullRegister, RegisterStop}
 use Rattle.counters.specs.declared.Totals.{Totals}
 use Rattle.counters.specs.declared.ByKind.{ByKind}
@@ -38,14 +37,6 @@ noneByKind = record {
 abbrev pub noneCounted : Counters
 noneCounted = record { sent = noneByKind; received = noneByKind }
 
-unfoldable pub numberOf : Kind → ℕ
-numberOf Hello = 0
-numberOf Assert = 1
-numberOf Simple = 2
-numberOf Aggregated = 3
-numberOf NullRegister = 4
-numberOf RegisterStop = 5
-
 -- "each number stays at the 64-bit maximum"
 unfoldable pub sum : ℕ → ℕ → ℕ
 sum a b = min (a + b) (2 ^ 64 - 1)
@@ -56,12 +47,12 @@ moreIf named n t = cond named (record { messages = sum (t .messages) 1; records 
 
 unfoldable pub moreAt : ℕ → ℕ → ByKind → ByKind
 moreAt k n t = record {
-  hello = moreIf (eqb k (numberOf Hello)) n (t .hello);
-  assert = moreIf (eqb k (numberOf Assert)) n (t .assert);
-  simple = moreIf (eqb k (numberOf Simple)) n (t .simple);
-  aggregated = moreIf (eqb k (numberOf Aggregated)) n (t .aggregated);
-  «null_register» = moreIf (eqb k (numberOf NullRegister)) n (t .«null_register»);
-  «register_stop» = moreIf (eqb k (numberOf RegisterStop)) n (t .«register_stop»);
+  hello = moreIf (eqb k (kindNumber Hello)) n (t .hello);
+  assert = moreIf (eqb k (kindNumber Assert)) n (t .assert);
+  simple = moreIf (eqb k (kindNumber Simple)) n (t .simple);
+  aggregated = moreIf (eqb k (kindNumber Aggregated)) n (t .aggregated);
+  «null_register» = moreIf (eqb k (kindNumber NullRegister)) n (t .«null_register»);
+  «register_stop» = moreIf (eqb k (kindNumber RegisterStop)) n (t .«register_stop»);
 }
 
 -- "sent and received by kind"

@@ -10,11 +10,9 @@ mod sums;
 
 pub use calls::added;
 pub use calls::count;
-use format::Kind;
 use format::Refusal;
+pub use format::kind_number;
 pub use start::none;
-ghost use mathlib.Core.Path.{_≡_};
-ghost use Rattle.counters.specs.Counting.{numberOf};
 
 // How many messages, and how many records they had.
 #[repr(C)]
@@ -56,18 +54,4 @@ pub enum Answer {
 pub struct CountersAfter {
     pub answer: Answer,
     pub counters: Counters,
-}
-
-// The number that names a kind.
-pub fn kind_number(kind: Kind) -> u8
-    ensures { λ r. ⌜ r ≡ numberOf kind ⌝ }
-{
-    match kind {
-        Kind::Hello => 0,
-        Kind::Assert => 1,
-        Kind::Simple => 2,
-        Kind::Aggregated => 3,
-        Kind::NullRegister => 4,
-        Kind::RegisterStop => 5,
-    }
 }

@@ -28,7 +28,7 @@ use Rattle.format.proofs.Faithful.{Again, assert-again, pair-again, entries-aga
 use Rattle.format.proofs.Calls.{wrote-by}
 use Rattle.format.proofs.Reading.{read-gives, read-short}
 use Rattle.format.proofs.RoundTrip.{plain-trip, simple-trip, aggregated-trip, null-trip, stop-trip}
-use Rattle.format.proofs.Ipv4.{lawful}
+use Rattle.format.proofs.Families.{lawful}
 use Rattle.demands.specs.Calls.{ReadCall, Reads, Delivers}
 use Rattle.demands.specs.Demand2.{Demand2}
 
@@ -117,16 +117,16 @@ module _ (f : Family) where
       subst (Demand2 F) (fun-ext (λ m. fun-ext (λ d. same-pairs f (unpackPairs f m) d))) (trip F (unpackPairs f) back below (λ o h. pair-again f o h true))
 
 pub demand2-assert : Demand2 (plain ipv4) (readAsserts ipv4)
-demand2-assert = asserts-trip ipv4 (plain ipv4) (plain-trip ipv4 lawful) (λ n. omega arith)
+demand2-assert = asserts-trip ipv4 (plain ipv4) (plain-trip ipv4 (lawful false)) (λ n. omega arith)
 
 pub demand2-simple : Demand2 (simple ipv4) (readAsserts ipv4)
-demand2-simple = asserts-trip ipv4 (simple ipv4) (simple-trip ipv4 lawful) (λ n. omega arith)
+demand2-simple = asserts-trip ipv4 (simple ipv4) (simple-trip ipv4 (lawful false)) (λ n. omega arith)
 
 pub demand2-aggregated : Demand2 (aggregated ipv4) (readAsserts ipv4)
-demand2-aggregated = asserts-trip ipv4 (aggregated ipv4) (aggregated-trip ipv4 lawful) (λ n. omega arith)
+demand2-aggregated = asserts-trip ipv4 (aggregated ipv4) (aggregated-trip ipv4 (lawful false)) (λ n. omega arith)
 
 pub demand2-null-register : Demand2 (nullRegister ipv4) (readPairs ipv4)
-demand2-null-register = pairs-trip ipv4 false (nullRegister ipv4) (null-trip ipv4 lawful) (λ n. omega arith)
+demand2-null-register = pairs-trip ipv4 false (nullRegister ipv4) (null-trip ipv4 (lawful false)) (λ n. omega arith)
 
 pub demand2-register-stop : Demand2 (registerStop ipv4) (readPairs ipv4)
-demand2-register-stop = pairs-trip ipv4 true (registerStop ipv4) (stop-trip ipv4 lawful) (λ n. omega arith)
+demand2-register-stop = pairs-trip ipv4 true (registerStop ipv4) (stop-trip ipv4 (lawful false)) (λ n. omega arith)

@@ -11,6 +11,7 @@ use Prim.Native.Nat.{ℕ, _+_, _-_, _*_, _≤_}
 use native.Mathlib.Nat.{le-trans, mul-zero, mul-add, zero-div}
 use native.Mathlib.Omega.{arith}
 use mathlib.Core.Path.{_≡_, refl, sym, ap, ap₂, _∙_}
+use mathlib.Core.Bool.{false}
 use mathlib.Core.List.{List, [], _∷_, _++_, map}
 use lib.ListN.{length, take, drop, length-take, length-drop, length-append, length-map}
 use lib.Seq.{take-add, drop-drop, drop-at, take-nil, take-take, take-append-seam, drop-append-seam}
@@ -30,7 +31,7 @@ use Rattle.format.proofs.Faithful.{assert-again}
 use Rattle.format.proofs.Calls.{limit-itself, packing-read, packing-short}
 use Rattle.format.proofs.Trains
 use Rattle.format.proofs.Trains.{from-start, least-train, reaches, comparable}
-use Rattle.format.proofs.Ipv4.{lawful}
+use Rattle.format.proofs.Families.{lawful}
 use Rattle.packing.specs.Answers.{packed}
 use Rattle.packing.specs.declared.calls.Packing.{Packing}
 use Rattle.packing.specs.declared.calls.Packing.the-variants.{Wrote as Written, Refused}
@@ -239,7 +240,7 @@ module _ (f : Family) (law : Lawful f) where
       none-left (m ∷ ms) h = absurd (omega arith)
 
 pub demand3-ipv4 : (entries : List ℕ) (l : ℕ) → Given ipv4 entries l → (cs : List PackCall) → Calls ipv4 entries l 0 cs → Demand3 ipv4 entries l cs
-demand3-ipv4 = demand3 ipv4 lawful
+demand3-ipv4 = demand3 ipv4 (lawful false)
 
 pub complete-ipv4 : (entries : List ℕ) (l : ℕ) → Given ipv4 entries l → Complete ipv4 entries l
-complete-ipv4 = complete ipv4 lawful
+complete-ipv4 = complete ipv4 (lawful false)

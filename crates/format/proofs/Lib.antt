@@ -12,4 +12,4 @@ pub mod RoundTrip
 pub mod Reading
 pub mod Trains
 pub mod MostThatFit
-pub mod Ipv4
+pub mod Families

@@ -1,12 +1,13 @@
 -- The address family of a message. Every definition and theorem above is over a family; IPv4 is "the base", IPv6 comes with E7.
 --     Family            what tells one family from another
---     ipv4              address family 1 of RFC 7761, 4.9.1
+--     ipv4, ipv6        address families 1 and 2 of RFC 7761, 4.9.1
+--     familyOf          the family that code names by a bool
 --     mayBeSource       an address that a source field may hold
 --     Lawful            what the theorems ask of a family
 -- Assumes nothing: these are definitions.
-use Prim.Native.Nat.{ℕ, _*_, _<_}
+use Prim.Native.Nat.{ℕ, _*_, _/_, _^_, _<_}
 use mathlib.Core.Path.{_≡_}
-use mathlib.Core.Bool.{Bool, false, not, _&&_, _||_}
+use mathlib.Core.Bool.{Bool, true, false, not, _&&_, _||_}
 use lib.Dec.{leb, ltb, eqb}
 
 pub record Family : Type 0 where
@@ -30,6 +31,20 @@ ipv4 = record {
   isGroup = λ a. leb 0xe000_0000 a && ltb a 0xf000_0000;
   isSource = λ a. not (eqb a 0);
 }
+
+-- "family 2, addresses of 16 octets, mask 128, groups in ff00::/8" (E7)
+abbrev pub ipv6 : Family
+ipv6 = record {
+  width = 16;
+  family = 2;
+  isGroup = λ a. eqb (a / 2 ^ 120) 0xff;
+  isSource = λ a. not (eqb a 0);
+}
+
+-- whether it is IPv6
+abbrev pub familyOf : Bool → Family
+familyOf false = ipv4
+familyOf true = ipv6
 
 -- the address 0 where the place allows it, and any address that a source may have
 unfoldable pub mayBeSource : Family → Bool → ℕ → Bool

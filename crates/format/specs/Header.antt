@@ -3,6 +3,7 @@
 --     header                      the checks of every message: 1, 2, 3, 4 in that order
 --     body                        "The body past the header is handed back as a part of the message lent"
 --     message                     a message of a kind and a body, with its checksum
+--     pseudoHeader                octets that an IPv6 message is summed after, and that are not sent
 -- Assumes nothing: these are definitions.
 use Prim.Native.Nat.{ℕ, _/_, _%_}
 use mathlib.Core.Bool.{not, _||_, cond}
@@ -70,3 +71,7 @@ body o = bodyOf (header o) o
 -- "16-bit Internet checksum over the whole message, its own field as 0"
 unfoldable pub message : Kind → List ℕ → List ℕ
 message k rest = (octet0 k ∷ octet1 k ∷ []) & be 2 (checksum ((octet0 k ∷ octet1 k ∷ 0 ∷ 0 ∷ []) & rest)) & rest
+
+-- RFC 8200, 8.1: source, destination, length of the message, zero, next header 103 (E7)
+unfoldable pub pseudoHeader : ℕ → ℕ → ℕ → List ℕ
+pseudoHeader source destination n = be 16 source & be 16 destination & be 4 n & (0 ∷ 0 ∷ 0 ∷ 103 ∷ [])

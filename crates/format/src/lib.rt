@@ -1,5 +1,9 @@
-// The vocabulary that the crates above share: the kinds of message, a refusal, and the two records.
-// What each means in octets is in specs/, and so are the theorems' statements; there is hardly any code.
+// The vocabulary that the crates above share: the kinds of message with their numbers, a refusal, an address, the two
+// records and the R bit. What each means in octets is in specs/, and so are the theorems' statements; there is hardly any
+// code.
+ghost use mathlib.Core.Path.{_≡_};
+ghost use Rattle.records.specs.Records.{rBit};
+ghost use Rattle.format.specs.Values.{kindNumber, kindNamed, namedBy};
 
 // The six kinds of message, in 01's order.
 pub enum Kind {
@@ -9,6 +13,40 @@ pub enum Kind {
     Aggregated,
     NullRegister,
     RegisterStop,
+}
+
+// The kind that a number names.
+pub enum Named {
+    Is(Kind),
+    Nothing,
+}
+
+// The number that names a kind.
+pub fn kind_number(kind: Kind) -> u8
+    ensures { λ r. ⌜ r ≡ kindNumber kind ⌝ }
+{
+    match kind {
+        Kind::Hello => 0,
+        Kind::Assert => 1,
+        Kind::Simple => 2,
+        Kind::Aggregated => 3,
+        Kind::NullRegister => 4,
+        Kind::RegisterStop => 5,
+    }
+}
+
+pub fn kind_named(number: u8) -> Named
+    ensures { λ r. ⌜ namedBy r ≡ kindNamed number ⌝ }
+{
+    match number {
+        0 => Named::Is(Kind::Hello),
+        1 => Named::Is(Kind::Assert),
+        2 => Named::Is(Kind::Simple),
+        3 => Named::Is(Kind::Aggregated),
+        4 => Named::Is(Kind::NullRegister),
+        5 => Named::Is(Kind::RegisterStop),
+        _ => Named::Nothing,
+    }
 }
 
 // Limits run from the least to the greatest; limit 0 is read as the usual one.
@@ -23,6 +61,20 @@ pub const GREATEST_LIMIT: usize = 65515;
 pub struct Refusal {
     pub number: u8,
     pub place: usize,
+}
+
+// An address as a number, in two halves; an IPv4 address has 0 in the high one.
+#[repr(C)]
+pub struct Address {
+    pub high: u64,
+    pub low: u64,
+}
+
+// R, the highest bit of the word that it has with the metric preference.
+pub fn r_bit(word: u32) -> bool
+    ensures { λ r. ⌜ r ≡ rBit word ⌝ }
+{
+    0x8000_0000 <= word
 }
 
 // An assert record: group, source, the R bit with the 31-bit metric preference, metric.

@@ -2,7 +2,7 @@
 -- the place, and number 0 where nothing is refused; the other numbers are 0 where the call refuses.
 --     accepted, refusal               not refused; refused
 --     headerAnswer, readAnswer, helloAnswer     reading
---     kindNamed, kindBy, recordOf, recordAnswer     a record read singly, of a kind that a number names
+--     recordOf, recordAnswer          a record read singly, of a kind that a number names
 --     packAnswer, choiceAnswer        packing
 --     tableAnswer, allowedAnswer, electAnswer     neighbours
 --     directionOf, refusalOf          counters
@@ -16,6 +16,7 @@ use Rattle.format.specs.Outcome.{Outcome, gives, refuses}
 use Rattle.format.specs.Reader.{Read, got, bad}
 use Rattle.format.specs.Family.{ipv4}
 use Rattle.format.specs.Record.{Single, anAssert, aPair, recordAt}
+use Rattle.format.specs.Values.{kindNumber}
 use Rattle.format.specs.Reading.{Found, found}
 use Rattle.format.specs.Packing.{Wrote, wrote, Chosen, chosen}
 use Rattle.format.specs.declared.Kind.{Kind}
@@ -25,11 +26,8 @@ use Rattle.hello.specs.Hello.{Hello as HelloSaid, hello}
 use Rattle.hello.specs.declared.Hello.{Hello}
 use Rattle.neighbours.specs.Hearing.{Done, replaced, appended, forgotten}
 use Rattle.neighbours.specs.declared.Table.{Table}
-use Rattle.counters.specs.Counting.{numberOf}
 use Rattle.counters.specs.declared.Direction.{Direction}
 use Rattle.counters.specs.declared.Direction.the-variants.{Sent, Received}
-use Rattle.pim.specs.declared.messages.Named.{Named}
-use Rattle.pim.specs.declared.messages.Named.the-variants.{Is, Nothing}
 use Rattle.pim.specs.declared.messages.HeaderAnswer.{HeaderAnswer}
 use Rattle.pim.specs.declared.messages.RecordAnswer.{RecordAnswer}
 use Rattle.pim.specs.declared.messages.ReadAnswer.{ReadAnswer}
@@ -49,18 +47,8 @@ refusal n p = record { number = n; place = p }
 -- ---- reading
 
 unfoldable pub headerAnswer : Outcome Kind → HeaderAnswer
-headerAnswer (gives k) = record { refusal = accepted; kind = numberOf k }
+headerAnswer (gives k) = record { refusal = accepted; kind = kindNumber k }
 headerAnswer (refuses n p) = record { refusal = refusal n p; kind = 0 }
-
--- the kinds in 01's order
-unfoldable pub kindNamed : ℕ → Option Kind
-kindNamed k =
-    cond (eqb k 0) (some OfHello) (cond (eqb k 1) (some Assert) (cond (eqb k 2) (some Simple)
-    (cond (eqb k 3) (some Aggregated) (cond (eqb k 4) (some NullRegister) (cond (eqb k 5) (some RegisterStop) none)))))
-
-unfoldable pub kindBy : Named → Option Kind
-kindBy (Is k) = some k
-kindBy Nothing = none
 
 -- "kind not one that the call reads": 4
 unfoldable pub recordOf : Option Kind → List ℕ → ℕ → Read Single
@@ -98,7 +86,7 @@ recordAnswer (bad n p) = record {
 }
 
 unfoldable pub readAnswer : Outcome Found → ReadAnswer
-readAnswer (gives (found k n)) = record { refusal = accepted; count = n; kind = numberOf k }
+readAnswer (gives (found k n)) = record { refusal = accepted; count = n; kind = kindNumber k }
 readAnswer (refuses n p) = record { refusal = refusal n p; count = 0; kind = 0 }
 
 -- a priority that is not announced is 0

@@ -1,8 +1,9 @@
 // Reading messages.
-use counters::kind_number;
-use format::Kind;
+use format::Named;
 use format::Record;
 use format::Refusal;
+use format::kind_named;
+use format::kind_number;
 use hello::Hello;
 use hello::HelloRead;
 use reading::Headed;
@@ -13,12 +14,13 @@ ghost use lib.ListN.{length};
 ghost use Rattle.format.specs.Family.{ipv4};
 ghost use Rattle.format.specs.Header.{header, body};
 ghost use Rattle.format.specs.Reading.{readAsserts, readPairs};
+ghost use Rattle.format.specs.Values.{kindNamed};
 ghost use Rattle.headers.specs.Answers.{headed};
 ghost use Rattle.fields.specs.Answers.{single};
 ghost use Rattle.reading.specs.Calls.{answered};
 ghost use Rattle.hello.specs.Hello.{readHello};
 ghost use Rattle.hello.specs.Answers.{told, unannounced};
-ghost use Rattle.pim.specs.Answers.{accepted, headerAnswer, kindNamed, kindBy, recordOf, recordAnswer, readAnswer, helloAnswer};
+ghost use Rattle.pim.specs.Answers.{accepted, headerAnswer, recordOf, recordAnswer, readAnswer, helloAnswer};
 
 #[repr(C)]
 pub struct HeaderAnswer {
@@ -198,26 +200,6 @@ fn record_answer(s: Single) -> RecordAnswer
     match s {
         Single::Got { record, next } => got(record, next),
         Single::Refused(refusal) => no_record(refusal),
-    }
-}
-
-// The kind that a number names.
-enum Named {
-    Is(Kind),
-    Nothing,
-}
-
-fn kind_named(kind: u8) -> Named
-    ensures { λ r. ⌜ kindBy r ≡ kindNamed kind ⌝ }
-{
-    match kind {
-        0 => Named::Is(Kind::Hello),
-        1 => Named::Is(Kind::Assert),
-        2 => Named::Is(Kind::Simple),
-        3 => Named::Is(Kind::Aggregated),
-        4 => Named::Is(Kind::NullRegister),
-        5 => Named::Is(Kind::RegisterStop),
-        _ => Named::Nothing,
     }
 }
 

@@ -59,8 +59,8 @@ zeros w few short long g ss = record {
   only = λ z.
       groupRecords-elim w g ss (λ rs. rs ≡ replicate z (ofGroup g []) → (ss ≡ replicate z 0) × (z ≤ few))
       (λ all h e.
-        let n : length ss ≡ z = sym (length-replicate (length ss) (ofGroup g [])) ∙ ap length e ∙ length-replicate z (ofGroup g []) in
-        (all-zeros ss all ∙ ap (λ (k : ℕ). replicate k 0) n, omega (arith, long, h)))
+      let n : length ss ≡ z = sym (length-replicate (length ss) (ofGroup g [])) ∙ ap length e ∙ length-replicate z (ofGroup g []) in
+      (all-zeros ss all ∙ ap (λ (k : ℕ). replicate k 0) n, omega (arith, long, h)))
       (λ all h e. absurd (many z ss h e)) (λ none e. absurd (other z ss none e));
   all = λ not.
       groupRecords-elim w g ss (λ rs. rs ≡ ofGroup g ss ∷ [])

@@ -1,12 +1,13 @@
 -- `counters::sums::added_at` meets its contract: field by field.
 -- Assumes nothing.
-use Rattle.counters.specs.Counting.{moreAt, numberOf}
+use Rattle.counters.specs.Counting.{moreAt}
+use Rattle.format.specs.Values.{kindNumber}
 use borrow.Author.Needs.{needs}
 use Rattle.counters.proofs.sums.added_at.Statement.{statement}
 use Rattle.counters.proofs.sums.added_at.Tie as tie
 
 returns : tie.Need-returns
-unfolding moreAt numberOf
+unfolding moreAt kindNumber
 returns c = λ i. record {
   hello = c .before .before .before .before .before .added-if .ensures i;
   assert = c .before .before .before .before .added-if2 .ensures i;

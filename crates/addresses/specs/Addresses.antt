@@ -1,0 +1,19 @@
+-- Addresses by their octets, over the family.
+--     addressAt       the address at a place, or 0 where it is not there whole
+--     groupFirst      whether an address that begins with an octet is a group
+-- Assumes nothing: these are definitions.
+use Prim.Native.Nat.{ℕ, _+_, _/_}
+use mathlib.Core.Bool.{Bool, true, false, cond}
+use mathlib.Core.List.{List}
+use lib.ListN.{length}
+use lib.Dec.{eqb, leb}
+use Rattle.octets.specs.Octets.{numberAt}
+use Rattle.format.specs.Family.{Family}
+
+unfoldable pub addressAt : Family → List ℕ → ℕ → ℕ
+addressAt f o at = cond (leb (at + f .width) (length o)) (numberAt (f .width) o at) 0
+
+-- 224.0.0.0/4, ff00::/8
+abbrev pub groupFirst : Bool → ℕ → Bool
+groupFirst false x = eqb (x / 16) 14
+groupFirst true x = eqb x 255

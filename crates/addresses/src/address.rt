@@ -1,0 +1,91 @@
+// An address as a number in two halves, and as octets.
+use crate::family::width;
+use format::Address;
+use octets::copy4;
+use octets::copy16;
+use octets::number32;
+use octets::number64;
+ghost use mathlib.Core.Path.{_≡_};
+ghost use lib.Dec.{eqb, ltb};
+ghost use Rattle.octets.specs.Octets.{copied};
+ghost use Rattle.format.specs.Family.{familyOf};
+ghost use Rattle.format.specs.Values.{numberOf};
+ghost use Rattle.addresses.specs.Addresses.{addressAt};
+
+// The address at a place, or 0 where it is not there whole.
+pub fn address_at(ipv6: bool, s: &[u8], at: usize) -> Address
+    ensures { λ r. ⌜ numberOf r ≡ addressAt (familyOf ipv6) (now (s .entry)) at ⌝ }
+{
+    if s.len() < at {
+        return Address { high: 0, low: 0 };
+    }
+    if s.len() - at < width(ipv6) {
+        return Address { high: 0, low: 0 };
+    }
+    if ipv6 {
+        return Address {
+            high: number64(s, at),
+            low: number64(s, at + 8),
+        };
+    }
+    Address {
+        high: 0,
+        low: number32(s, at) as u64,
+    }
+}
+
+// Addresses compare unsigned.
+pub fn is_below(a: Address, b: Address) -> bool
+    ensures { λ r. ⌜ r ≡ ltb (numberOf a) (numberOf b) ⌝ }
+{
+    if a.high < b.high {
+        return true;
+    }
+    if b.high < a.high {
+        return false;
+    }
+    a.low < b.low
+}
+
+pub fn is_zero(a: Address) -> bool
+    ensures { λ r. ⌜ r ≡ eqb (numberOf a) 0 ⌝ }
+{
+    if a.high != 0 {
+        return false;
+    }
+    a.low == 0
+}
+
+// Whether an address is one that a group may have.
+pub fn is_group(ipv6: bool, a: Address) -> bool
+    ensures { λ r. ⌜ r ≡ familyOf ipv6 .isGroup (numberOf a) ⌝ }
+{
+    if ipv6 {
+        return a.high / 72057594037927936 == 255;
+    }
+    if a.high != 0 {
+        return false;
+    }
+    if a.low < 0xe000_0000 {
+        return false;
+    }
+    a.low < 0xf000_0000
+}
+
+// Whether an address other than 0 is one that a source may have.
+pub fn is_source(ipv6: bool, a: Address) -> bool
+    ensures { λ r. ⌜ r ≡ familyOf ipv6 .isSource (numberOf a) ⌝ }
+{
+    !is_zero(a)
+}
+
+// The octets of an address, from the start of one slice to the start of another. Lend parts of that length.
+pub fn copy_address(ipv6: bool, s: &[u8], d: &mut [u8])
+    ensures { λ _. ⌜ now (d .exit) ≡ copied (familyOf ipv6 .width) (now (s .entry)) (now (d .entry)) ⌝ }
+{
+    if ipv6 {
+        copy16(s, d);
+        return;
+    }
+    copy4(s, d);
+}

@@ -1,0 +1,23 @@
+// Addresses of both families: which octets each family has, an address as a number in two halves, and its octets copied.
+// Code names the family by a bool, `ipv6`. Every public call is total; what it answers is a definition of the crate
+// format.
+//
+// family.rt      what tells the two families apart, as numbers
+// address.rt     an address: read at a place, compared, whether it is a group or a source, copied
+// pseudo.rt      the sum of RFC 8200's pseudo-header
+mod address;
+mod family;
+mod pseudo;
+
+pub use address::address_at;
+pub use address::copy_address;
+pub use address::is_below;
+pub use address::is_group;
+pub use address::is_source;
+pub use address::is_zero;
+pub use family::family_number;
+pub use family::is_multicast;
+pub use family::least_limit;
+pub use family::mask_length;
+pub use family::width;
+pub use pseudo::pseudo_sum;
