@@ -2,7 +2,7 @@
 --     computed     a declaration that says `unfolding computed` sees through all of them
 -- Assumes nothing.
 use Rattle.octets.specs.Octets.{numberAt, value, be, put}
-use Rattle.checksum.specs.Sum.{words, add, sumFrom, sum, checksum, holds}
+use Rattle.checksum.specs.Sum.{words, add, sumFrom, sum, checksumFrom, holdsFrom, checksum, holds}
 use Rattle.records.specs.Joining.{together, sameGroup, allZero, groupRecords, allGroupRecords, aggregated as recordOf, joined}
 use Rattle.records.specs.Most.{most}
 use Rattle.records.specs.Records.{groupEntries, allGroupEntries, entries, allEntries}
@@ -24,5 +24,5 @@ use Rattle.format.specs.Outcome
 use Rattle.format.specs.Reader
 
 unfoldable pub computed : Unit {0}
-unfolding value be put words add sumFrom sum checksum holds together sameGroup allZero groupRecords allGroupRecords recordOf joined most groupEntries allGroupEntries entries allEntries ofRun glue runs groupForm groupField groupOctets sourceForm sourceField sourceOctets zeroReserved assertsBody pairsBody plainBody simpleBody aggregatedBody pairBody numberAt assertAt assertEntryOctets allowedAssert pairAt pairEntryOctets allowedPair count whole entriesAt entriesOf entriesOctets mayBeSource assertKind registerKind kindOf octet0 octet1 header bodyOf body message Outcome._>>=_ Outcome._>>_ Outcome.refuseIf usualLimit leastLimit readLimit canonical firstBadAt firstBad asked taken pack written packDue packing prefersAggregated chosenOf octetsOf tookOf bothWritten choiceOf choice Reader.continue Reader._>>=_ Reader._>>_ Reader.give Reader.here Reader.octets Reader.number Reader.must Reader.refuse Reader.placed Reader.handUp Reader.inRecord Reader.times Reader.toEnd Reader.records Reader.nothingMore Reader.outcome Reader.from roomFor delivered reading readAsserts readPairs each assertFields assertRecord assertOctets pairFields pairRecord pairOctets positive groupRecord groupRecordOctets sourceAggregated rpAggregated aggregatedFields aggregatedRecord aggregatedOctets recordAt takenBy messageOf calls takenOf messagesOf roomOf train unpackAsserts unpackPairs noRow isZero zeroRows allowed has sheetRows valid tableOf askedOf allHave candidate above better best elect electing
+unfolding value be put words add sumFrom sum checksumFrom holdsFrom checksum holds together sameGroup allZero groupRecords allGroupRecords recordOf joined most groupEntries allGroupEntries entries allEntries ofRun glue runs groupForm groupField groupOctets sourceForm sourceField sourceOctets zeroReserved assertsBody pairsBody plainBody simpleBody aggregatedBody pairBody numberAt assertAt assertEntryOctets allowedAssert pairAt pairEntryOctets allowedPair count whole entriesAt entriesOf entriesOctets mayBeSource assertKind registerKind kindOf octet0 octet1 header bodyOf body message Outcome._>>=_ Outcome._>>_ Outcome.refuseIf usualLimit leastLimit readLimit canonical firstBadAt firstBad asked taken pack written packDue packing prefersAggregated chosenOf octetsOf tookOf bothWritten choiceOf choice Reader.continue Reader._>>=_ Reader._>>_ Reader.give Reader.here Reader.octets Reader.number Reader.must Reader.refuse Reader.placed Reader.handUp Reader.inRecord Reader.times Reader.toEnd Reader.records Reader.nothingMore Reader.outcome Reader.from roomFor delivered reading readAsserts readPairs each assertFields assertRecord assertOctets pairFields pairRecord pairOctets positive groupRecord groupRecordOctets sourceAggregated rpAggregated aggregatedFields aggregatedRecord aggregatedOctets recordAt takenBy messageOf calls takenOf messagesOf roomOf train unpackAsserts unpackPairs noRow isZero zeroRows allowed has sheetRows valid tableOf askedOf allHave candidate above better best elect electing
 computed = tt
