@@ -3,7 +3,7 @@
 use crate::value::assert_at;
 use crate::value::pair_at;
 use crate::value::preference;
-use crate::value::r_bit;
+use crate::value::r_number;
 use crate::words::words;
 use format::AssertFields;
 use format::Kind;
@@ -72,7 +72,7 @@ fn pair_line(n: usize, x: PairFields) -> bool {
 fn assert_line(n: usize, x: AssertFields) -> bool {
     let w = x.r_preference;
     flow(n, x.source, x.group)
-        && number(b" R ", r_bit(w))
+        && number(b" R ", r_number(w))
         && number(b" pref ", preference(w))
         && named(b" metric ", x.metric as u64)
 }

@@ -1,6 +1,7 @@
 // The numbers of an entry.
 use format::AssertFields;
 use format::PairFields;
+use format::r_bit;
 use octets::number32;
 ghost use mathlib.Core.Path.{_≡_};
 ghost use mathlib.Core.Bool.{cond};
@@ -35,19 +36,19 @@ pub(crate) fn pair_at(e: &[u8], at: usize) -> PairFields
     }
 }
 
-// R of an R word, its highest bit.
-pub(crate) fn r_bit(w: u32) -> u64
+// R of an R word, as a number.
+pub(crate) fn r_number(w: u32) -> u64
     ensures { λ r. ⌜ r ≡ cond (rBit w) 1 0 ⌝ }
 {
-    if w < 2147483648 {
-        return 0;
+    if r_bit(w) {
+        return 1;
     }
-    1
+    0
 }
 
 // The metric preference of an R word, the 31 bits below.
 pub(crate) fn preference(w: u32) -> u64
     ensures { λ r. ⌜ r ≡ preferenceOf w ⌝ }
 {
-    (w % 2147483648) as u64
+    (w % 0x8000_0000) as u64
 }
