@@ -14,7 +14,8 @@ use lib.Dec.{leb}
 use lib.ListN.{length, take, drop}
 use Rattle.format.specs.Outcome.{gives, refuses}
 use Rattle.format.specs.Reader.{Read, got, bad, continue, _>>=_, _>>_, give, here, octets, number, refuse, handUp, inRecord, outcome, from}
-use Rattle.hello.specs.Options.{Said, nothing, against, optionValue, optionFields, option, options}
+use Rattle.hello.specs.declared.table.Known.{Known}
+use Rattle.hello.specs.Options.{Said, nothing, named, against, optionValue, optionFields, option, options}
 
 -- ---- where readers stop
 
@@ -49,17 +50,17 @@ unfolding refuse
 least-refuse true n p o at = tt
 least-refuse false n p o at = omega arith
 
-least-value : (first : ℕ) (s : Said) (t n : ℕ) (o : List ℕ) (at : ℕ) → AtLeast at (optionValue first s t n o at)
+least-value : (first : ℕ) (s : Said) (k : Known) (n : ℕ) (o : List ℕ) (at : ℕ) → AtLeast at (optionValue first s k n o at)
 unfolding optionValue _>>_ _>>=_ give
-least-value first s t n o at =
-    least-continue at at (refuse (against s t n) 13 first o at) _ (least-refuse (against s t n) 13 first o at)
+least-value first s k n o at =
+    least-continue at at (refuse (against s k n) 13 first o at) _ (least-refuse (against s k n) 13 first o at)
     (λ a i h. least-continue (i + n) at (octets n o i) _ (least-octets n o i) (λ v j l. omega arith))
 
 least-fields : (s : Said) (o : List ℕ) (at : ℕ) → AtLeast (at + 4) (optionFields s o at)
 unfolding optionFields here _>>=_ continue
 least-fields s o at =
     least-continue (at + 2) (at + 4) (number 2 o at) _ (least-number 2 o at)
-    (λ t i h. least-continue (i + 2) (at + 4) (number 2 o i) _ (least-number 2 o i) (λ n j l. least-less j (at + 4) (optionValue at s t n o j) (omega arith) (least-value at s t n o j)))
+    (λ t i h. least-continue (i + 2) (at + 4) (number 2 o i) _ (least-number 2 o i) (λ n j l. least-less j (at + 4) (optionValue at s (named t) n o j) (omega arith) (least-value at s (named t) n o j)))
 
 handed : {A : Type 0} (p first : ℕ) (r : Read A) → AtLeast p r → AtLeast p (handUp first r)
 unfolding handUp

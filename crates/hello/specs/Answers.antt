@@ -3,20 +3,22 @@
 --     stepped                       what reading one option finds
 --     helloBy, told                 a Hello, and what reading one finds
 --     zeroPriority, unannounced     a priority that is not announced is answered as 0
---     fourAt                        four octets at a place are those of a string
+--     fourAt, lengthFits            four octets at a place are those of a string; the length of an option there, as it is tested
 -- Assumes nothing: these are definitions.
 use Prim.Native.Nat.{ℕ, _+_}
 use mathlib.Core.Path.{_≡_}
 use mathlib.Core.Bool.{Bool, false, cond, _&&_}
-use mathlib.Core.List.{List}
+use mathlib.Core.List.{List, [], _∷_}
 use mathlib.Core.Option.{Option, none, some}
 use lib.ListN.{getD}
 use lib.Dec.{eqb}
 use Rattle.format.specs.Outcome.{Outcome, gives, refuses}
 use Rattle.format.specs.Reader.{Read, got, bad}
-use Rattle.hello.specs.Options.{Said, said}
+use Rattle.hello.specs.Options.{Said, said, lengthOf}
 use Rattle.hello.specs.Hello.{Hello as HelloSaid, hello}
-use Rattle.hello.specs.declared.Heard.{Heard}
+use Rattle.hello.specs.declared.table.Heard.{Heard}
+use Rattle.hello.specs.declared.table.Known.{Known}
+use Rattle.hello.specs.declared.table.Known.the-variants.{Holdtime, Priority, Packing, Other}
 use Rattle.hello.specs.declared.Hello.{Hello}
 use Rattle.hello.specs.declared.HelloRead.{HelloRead}
 use Rattle.hello.specs.declared.HelloRead.the-variants.{Is, Refused as NoHello}
@@ -60,3 +62,10 @@ fourAt o at s =
     && (eqb (getD o (at + 1) 0) (getD s 1 0)
     && (eqb (getD o (at + 2) 0) (getD s 2 0)
     && eqb (getD o (at + 3) 0) (getD s 3 0)))
+
+-- "packed assert capability is the four octets 00 28 00 00"
+unfoldable pub lengthFits : List ℕ → ℕ → Known → ℕ → Bool
+lengthFits o at Holdtime n = eqb n (lengthOf Holdtime n)
+lengthFits o at Priority n = eqb n (lengthOf Priority n)
+lengthFits o at Packing n = fourAt o at (0 ∷ 40 ∷ 0 ∷ 0 ∷ [])
+lengthFits o at Other n = eqb n (lengthOf Other n)

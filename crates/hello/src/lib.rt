@@ -1,29 +1,24 @@
 // Reading Hellos: holdtime, DR priority and the packing capability out of a Hello's options. First one
 // option, field by field; then the options up to the end; then the whole message, which is the public
-// call. It is total; what it answers is a definition of specs/.
-ghost use mathlib.Core.Path.{_≡_};
-ghost use mathlib.Core.Bool.{cond};
-ghost use mathlib.Core.List.{List};
-ghost use Prim.Native.Nat.{ℕ, _+_, _≤_};
-ghost use lib.ListN.{length};
-ghost use Rattle.octets.specs.Field.{fieldOf, placeOf};
-ghost use Rattle.format.specs.Reader.{bad, from};
-ghost use Rattle.hello.specs.Options.{nothing, optionValue, capable, skipped, optionFields, option, options};
-ghost use Rattle.hello.specs.Hello.{holdtimeOf, helloOf, helloOptions, readHello};
-ghost use Rattle.hello.specs.Answers.{ifGiven, saidBy, stepped, heard, helloBy, zeroPriority, told, unannounced, fourAt};
+// call. It is total; what it answers is a definition of specs/. The known options are in table.rt.
+mod table;
+
 use format::Kind;
 use format::Refusal;
 use headers::Headed;
 use octets::Field;
-
-// What a Hello says so far: each option with whether it was there.
-struct Heard {
-    has_holdtime: bool,
-    holdtime: u16,
-    has_priority: bool,
-    priority: u32,
-    packing: bool,
-}
+use table::Heard;
+use table::is_against;
+use table::option_named;
+use table::said_with;
+ghost use mathlib.Core.Path.{_≡_};
+ghost use mathlib.Core.Bool.{cond};
+ghost use lib.ListN.{length};
+ghost use Rattle.octets.specs.Field.{fieldOf, placeOf};
+ghost use Rattle.format.specs.Reader.{bad, from};
+ghost use Rattle.hello.specs.Options.{nothing, optionFields, option, options};
+ghost use Rattle.hello.specs.Hello.{holdtimeOf, helloOf, helloOptions, readHello};
+ghost use Rattle.hello.specs.Answers.{ifGiven, saidBy, stepped, heard, helloBy, zeroPriority, told, unannounced};
 
 // What reading options finds.
 enum OptionsRead {
@@ -67,88 +62,7 @@ fn cut(f: Field) -> Step
     bad(6, octets::place(f))
 }
 
-// Whether the four octets at a place are those of a string.
-fn four_at(m: &[u8], at: usize, s: &[u8]) -> bool
-    requires { ⌜ (at + 4 ≤ length (now m)) × (length (now s) ≡ 4) ⌝ }
-    ensures { λ r. ⌜ r ≡ fourAt (now (m .entry)) at (now (s .entry)) ⌝ }
-{
-    if m[at] != s[0] {
-        return false;
-    }
-    if m[at + 1] != s[1] {
-        return false;
-    }
-    if m[at + 2] != s[2] {
-        return false;
-    }
-    m[at + 3] == s[3]
-}
-
-// Holdtime, of a length, with its value at a place: 13 before the value is looked at.
-fn holdtime(m: &[u8], first: usize, len: u32, at: usize, h: Heard) -> Step
-    ensures { λ r. ⌜ stepped r ≡ optionValue first (saidBy h) 1 len (now (m .entry)) at ⌝ }
-{
-    if len != 2 {
-        return bad(13, first);
-    }
-    if h.has_holdtime {
-        return bad(13, first);
-    }
-    let f = octets::read16(m, at);
-    let Field::Got { value, next } = f else {
-        return cut(f);
-    };
-    let mut said = h;
-    said.has_holdtime = true;
-    said.holdtime = value as u16;
-    Step::Next(said, next)
-}
-
-// DR priority, in the same way.
-fn priority(m: &[u8], first: usize, len: u32, at: usize, h: Heard) -> Step
-    ensures { λ r. ⌜ stepped r ≡ optionValue first (saidBy h) 19 len (now (m .entry)) at ⌝ }
-{
-    if len != 4 {
-        return bad(13, first);
-    }
-    if h.has_priority {
-        return bad(13, first);
-    }
-    let f = octets::read32(m, at);
-    let Field::Got { value, next } = f else {
-        return cut(f);
-    };
-    let mut said = h;
-    said.has_priority = true;
-    said.priority = value;
-    Step::Next(said, next)
-}
-
-// The packing capability, which has no value: the place past it is known already.
-fn capability(first: usize, next: usize, h: Heard) -> Step
-    ensures { λ r. ⌜ ((o : List ℕ) → stepped r ≡ capable first (saidBy h) o next) ⌝ }
-{
-    if h.packing {
-        return bad(13, first);
-    }
-    let mut said = h;
-    said.packing = true;
-    Step::Next(said, next)
-}
-
-// An option that is not known is skipped by its length.
-fn skip(m: &[u8], at: usize, len: u32, h: Heard) -> Step
-    ensures { λ r. ⌜ stepped r ≡ skipped (saidBy h) len (now (m .entry)) at ⌝ }
-{
-    let f = octets::skip(m, at, len as usize);
-    let Field::Got { value: _, next } = f else {
-        return cut(f);
-    };
-    Step::Next(h, next)
-}
-
-// An option by its fields, each fault at the field's own place. The four octets 00 28 00 00 are the
-// capability, and another option of type 40 has a wrong length.
+// An option by its fields, each fault at the field's own place: 13 before the value is looked at.
 fn option_fields(m: &[u8], at: usize, h: Heard) -> Step
     ensures { λ r. ⌜ stepped r ≡ optionFields (saidBy h) (now (m .entry)) at ⌝ }
 {
@@ -161,22 +75,22 @@ fn option_fields(m: &[u8], at: usize, h: Heard) -> Step
         return cut(t);
     };
     let l = octets::read16(m, length_at);
-    let Field::Got { value: len, next } = l else {
+    let Field::Got {
+        value: len,
+        next: value_at,
+    } = l
+    else {
         return cut(l);
     };
-    if four_at(m, at, b"\x00\x28\x00\x00") {
-        return capability(at, next, h);
-    }
-    if kind == 40 {
+    let k = option_named(kind);
+    if is_against(m, at, k, len, h) {
         return bad(13, at);
     }
-    if kind == 1 {
-        return holdtime(m, at, len, next, h);
-    }
-    if kind == 19 {
-        return priority(m, at, len, next, h);
-    }
-    skip(m, next, len, h)
+    let v = octets::skip(m, value_at, len as usize);
+    let Field::Got { value: _, next } = v else {
+        return cut(v);
+    };
+    Step::Next(said_with(m, value_at, k, h), next)
 }
 
 // An option: a fault is handed up at the option's first octet.

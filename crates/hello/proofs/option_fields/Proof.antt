@@ -1,22 +1,27 @@
--- `hello::option_fields` meets its contract: cut in its type or length, the capability, another option of type 40, a known option, or another.
+-- `hello::option_fields` meets its contract: cut in its type or length, refused, cut in its value, or read.
 -- Assumes nothing.
-use mathlib.Core.Path.{refl, sym, _∙_}
+use mathlib.Core.Path.{refl, sym, ap, _∙_}
 use borrow.Author.Needs.{needs}
 use denote.Ref.{now}
-use Rattle.octets.proofs.Laws.{read-got, read-cut}
-use Rattle.hello.specs.Answers.{saidBy}
-use Rattle.hello.proofs.Laws.{stepped-bad, Head, head, no-type, no-length, head-capability, head-wrong, head-known, head-unknown}
+use Rattle.octets.proofs.Laws.{ignored-got, ignored-bad, read-got, read-cut}
+use Rattle.format.specs.Reader.{got}
+use Rattle.hello.specs.Answers.{saidBy, stepped}
+use Rattle.hello.proofs.Laws.{stepped-bad, no-type, no-length, Head, head, tested, value-refused, value-cut, value-read, own-length, value-there}
 use Rattle.hello.proofs.option_fields.Statement.{statement}
 use Rattle.hello.proofs.option_fields.Tie as tie
 
+abbrev start : tie.After-option-named → tie.Start
+start c = c .before .before .before .before .before .before .before .before .before .before
+
 -- once the type and the length are there
-found : (c : tie.After-known-told2)
-    → Head (now (c .before .before .before .before .before .before .before .before .before .args .m)) (c .before .before .before .before .before .before .before .before .before .args .at)
-    (c .before .before .before .before .before .t .given .0 .0) (c .before .l .given .0 .0) (c .before .l .given .0 .1 .0)
+found : (c : tie.After-option-named)
+    → Head (now (start c .args .m)) (start c .args .at) (c .option-named .result) (c .before .before .l .given .0 .0) (c .before .before .l .given .0 .1 .0)
 found c =
-    let l = c .before .before .before in
+    let l = c .before .before .before .before in
     let t = l .before .before in
-    head _ _ (read-got (t .before .before .read16 .ensures) (t .t .given .1)) (read-got (l .read162 .ensures) (c .before .l .given .1))
+    let s = t .before .before .before in
+    head _ _ (λ i. s .shared-slice-known .given i .fits) (read-got (t .before .before .read16 .ensures) (t .t .given .1))
+    (read-got (l .read162 .ensures) (c .before .before .l .given .1)) (c .option-named .ensures)
 
 returns : tie.Need-returns
 returns c =
@@ -35,44 +40,47 @@ returns-2 c =
     (no-length (saidBy (a .h)) (now (a .m)) (a .at) (read-got (t .before .before .read16 .ensures) (t .t .given .1))
     (read-cut (l .read162 .ensures) (c .before .enum-told2 .given .1) refl))
 
-four-at-requires : tie.Need-four-at-requires
-four-at-requires c κs = (found (c .before) .fits, refl)
+is-against-requires : tie.Need-is-against-requires
+is-against-requires c κs = found c .fits
 
 returns-3 : tie.Need-returns-3
 returns-3 c =
-    let k = c .before .before .before .before in
-    let a = k .before .before .before .before .before .before .before .before .before .args in
-    c .capability .ensures (now (a .m))
-    ∙ sym (head-capability (found k) (saidBy (a .h)) (sym (c .before .before .four-at .ensures) ∙ c .before .if1 .taken))
+    let g = c .before .before in
+    let k = g .before in
+    let s = saidBy (start k .args .h) in
+    stepped-bad (c .bad .ensures)
+    ∙ sym (found k .reads s ∙ value-refused _ s _ _ _ _ (tested (found k) s (g .is-against .ensures) (c .before .if1 .taken)))
 
 returns-4 : tie.Need-returns-4
 returns-4 c =
-    let k = c .before .before .before .before .before in
-    let l = k .before .before .before .before .before .before .before .before in
-    stepped-bad (c .bad .ensures)
-    ∙ sym
-    (head-wrong (found k) (saidBy (l .before .args .h)) (λ i. l .shared-slice-known .given i .fits) (c .before .if2 .taken)
-    (sym (c .before .before .before .four-at .ensures) ∙ c .before .before .if1 .left))
+    let v = c .before .before .before in
+    let g = v .before .before in
+    let k = g .before in
+    let s = saidBy (start k .args .h) in
+    let x = read-cut (v .skip .ensures) (c .before .enum-told3 .given .1) refl in
+    c .cut3 .ensures
+    ∙ sym (found k .reads s ∙ value-cut _ s _ _ _ _ (tested (found k) s (g .is-against .ensures) (v .before .if1 .left)) (ignored-bad _ _ _ x))
+
+said-with-requires : tie.Need-said-with-requires
+said-with-requires c κs =
+    let v = c .before .before .before in
+    let g = v .before .before in
+    let k = g .before in
+    let s = saidBy (start k .args .h) in
+    value-there s _ _ _ _ (tested (found k) s (g .is-against .ensures) (v .before .if1 .left))
+    (ignored-got _ _ _ (read-got (v .skip .ensures) (c .before .v .given .1)))
 
 returns-5 : tie.Need-returns-5
+unfolding stepped
 returns-5 c =
-    let k = c .before .before .before .before .before .before in
-    let a = k .before .before .before .before .before .before .before .before .before .args in
-    c .holdtime .ensures ∙ sym (head-known (found k) (saidBy (a .h)) (c .before .if3 .taken))
-
-returns-6 : tie.Need-returns-6
-returns-6 c =
-    let k = c .before .before .before .before .before .before .before in
-    let a = k .before .before .before .before .before .before .before .before .before .args in
-    c .priority .ensures ∙ sym (head-known (found k) (saidBy (a .h)) (c .before .if4 .taken))
-
-returns-7 : tie.Need-returns-7
-returns-7 c =
-    let e = c .before .before .before in
-    let k = e .before .before .before .before in
-    let a = k .before .before .before .before .before .before .before .before .before .args in
-    c .skip .ensures
-    ∙ sym (head-unknown (found k) (saidBy (a .h)) (e .if2 .left) (c .before .before .if3 .left) (c .before .if4 .left))
+    let v = c .before .before .before .before in
+    let g = v .before .before in
+    let k = g .before in
+    let s = saidBy (start k .args .h) in
+    let f = tested (found k) s (g .is-against .ensures) (v .before .if1 .left) in
+    let x = read-got (v .skip .ensures) (c .before .before .v .given .1) in
+    ap (λ h. got h (c .before .before .v .given .0 .1 .0)) (c .said-with .ensures _ (own-length s _ _ f))
+    ∙ sym (found k .reads s ∙ value-read _ s _ _ _ _ f (ignored-got _ _ _ x))
 
 pub option-fields-spec : {M : Type 1} → statement M
 option-fields-spec =
@@ -88,15 +96,15 @@ option-fields-spec =
     (λ c. search needs)
     (λ c κs. search needs)
     returns-2
-    (λ c. search needs)
-    four-at-requires
+    (λ c κs. search needs)
+    is-against-requires
     (λ c κs. search needs)
     returns-3
+    (λ c. search needs)
+    (λ c κs. search needs)
+    (λ c. search needs)
+    (λ c. search needs)
     (λ c κs. search needs)
     returns-4
-    (λ c κs. search needs)
-    returns-5
-    (λ c κs. search needs)
-    returns-6
-    (λ c κs. search needs)
-    returns-7)
+    said-with-requires
+    returns-5)

@@ -1,10 +1,10 @@
--- `hello::four_at` meets its contract, by the octets that were found equal.
+-- `hello::table::four_at` meets its contract, by the octets that were found equal.
 -- Assumes nothing.
 use borrow.Author.Tests.{eq-eqb, ne-eqb}
 use borrow.Author.Needs.{needs}
 use Rattle.hello.specs.Answers.{fourAt}
-use Rattle.hello.proofs.four_at.Statement.{statement}
-use Rattle.hello.proofs.four_at.Tie as tie
+use Rattle.hello.proofs.table.four_at.Statement.{statement}
+use Rattle.hello.proofs.table.four_at.Tie as tie
 
 returns : tie.Need-returns
 unfolding fourAt
