@@ -17,8 +17,8 @@ use Rattle.format.specs.Outcome.{gives, refuses, refuseIf, _>>_}
 use Rattle.neighbours.specs.declared.election.Candidate.{Candidate}
 use Rattle.neighbours.specs.declared.Neighbour.{Neighbour}
 use Rattle.neighbours.specs.declared.election.Scan.{Scan}
-use Rattle.neighbours.specs.Rows.{has}
-use Rattle.neighbours.specs.Election.{allHave, candidate, above, better, best}
+use Rattle.neighbours.specs.Rows.{addressOf, has}
+use Rattle.neighbours.specs.Election.{candidateAddress, allHave, candidate, above, better, best}
 use Rattle.neighbours.specs.Highest.{candidates, Highest}
 use Rattle.neighbours.proofs.Highest.{best-highest}
 use Rattle.neighbours.specs.Among.{electingAmong, first, looking, seen, chosen, answering}
@@ -42,7 +42,7 @@ none-after s (n ∷ l) e = none-after (looking s n) l refl
 zero-after : (s : Scan) (l : List Neighbour) → seen s l .zero ≡ cond (has 0 l) true (s .zero)
 unfolding seen looking has
 zero-after s [] = refl
-zero-after s (n ∷ l) = zero-after (looking s n) l ∙ go (eqb (n .address) 0) (has 0 l) (s .zero)
+zero-after s (n ∷ l) = zero-after (looking s n) l ∙ go (eqb (addressOf n) 0) (has 0 l) (s .zero)
   where
     go : (a b z : Bool) → cond b true (cond a true z) ≡ cond (a || b) true z
     go true true z = refl
@@ -73,17 +73,17 @@ by-address-after s (n ∷ l) = by-address-after (looking s n) l
 abbrev nobody : Candidate
 nobody = record { address = 0; priority = 0 }
 
-up : (p : Bool) (n : Neighbour) → eqb (n .address) 0 ≡ false → better p nobody (candidate n) ≡ candidate n
+up : (p : Bool) (n : Neighbour) → eqb (addressOf n) 0 ≡ false → better p nobody (candidate n) ≡ candidate n
 unfolding better above candidate
-up false n e = let k = eqb-false (n .address) 0 e in rw (lt-ltb 0 (n .address) (omega arith))
+up false n e = let k = eqb-false (addressOf n) 0 e in rw (lt-ltb 0 (addressOf n) (omega arith))
 up true n e = go (ltb 0 (n .priority)) refl
   where
-    go : (b : Bool) → ltb 0 (n .priority) ≡ b → cond (b || (eqb 0 (n .priority) && ltb 0 (n .address))) (candidate n) nobody ≡ candidate n
+    go : (b : Bool) → ltb 0 (n .priority) ≡ b → cond (b || (eqb 0 (n .priority) && ltb 0 (addressOf n))) (candidate n) nobody ≡ candidate n
     go true h = refl
     go false h =
-        let k = eqb-false (n .address) 0 e in
+        let k = eqb-false (addressOf n) 0 e in
         let m = ltb-false 0 (n .priority) h in
-        rw (eq-eqb 0 (n .priority) (omega arith), lt-ltb 0 (n .address) (omega arith))
+        rw (eq-eqb 0 (n .priority) (omega arith), lt-ltb 0 (addressOf n) (omega arith))
 
 no-first : (a b : Bool) → (a || b) ≡ false → a ≡ false
 no-first false b e = refl
@@ -123,6 +123,6 @@ seen-elects (n ∷ l) = answers (seen first (n ∷ l)) _ (none-after (looking fi
 
 -- what is elected is a row, and none ranks above it
 pub among-highest : (n : Neighbour) (l : List Neighbour) → has 0 (n ∷ l) ≡ false
-    → (c : Candidate) × (Highest (allHave (n ∷ l)) (map candidate (n ∷ l)) c × (electingAmong (n ∷ l) ≡ gives (c .address)))
+    → (c : Candidate) × (Highest (allHave (n ∷ l)) (map candidate (n ∷ l)) c × (electingAmong (n ∷ l) ≡ gives (candidateAddress c)))
 unfolding electingAmong refuseIf _>>_ candidates
 among-highest n l e = (best (allHave (n ∷ l)) (candidate n) l, (best-highest (allHave (n ∷ l)) (candidate n) l, rw e refl))

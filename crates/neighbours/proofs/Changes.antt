@@ -17,7 +17,7 @@ use lib.ListN.{length, take, drop, set, replicate, length-append, length-set, le
 use lib.Seq.{append-snoc, set-append-left, set-at, take-append-le, drop-append-le, take-at, drop-at, length-take-le}
 use Rattle.neighbours.specs.declared.Neighbour.{Neighbour}
 use Rattle.neighbours.specs.declared.Table.{Table}
-use Rattle.neighbours.specs.Rows.{most, noRow, isZero, allZero, place, used, tableOf, closedUp}
+use Rattle.neighbours.specs.Rows.{addressOf, most, noRow, isZero, allZero, place, used, tableOf, closedUp}
 use Rattle.neighbours.specs.Hearing.{entered, without}
 use Rattle.neighbours.proofs.Rows.{used-long}
 use Rattle.neighbours.proofs.Tables.{and-true, Valid}
@@ -35,7 +35,7 @@ is-none n e =
     let q = and-true _ _ (p .1) in
     let r = and-true _ _ (q .1) in
     let s = and-true _ _ (r .1) in
-    let a = eqb-true (n .address) 0 (p .0) in
+    let a = eqb-true (addressOf n) 0 (p .0) in
     let b = eqb-true (n .priority) 0 (q .0) in
     let c = not-true (n .«has_priority») (r .0) in
     let d = not-true (n .packs) (s .0) in
@@ -67,22 +67,22 @@ module _ (t : Table) (full : length (t .rows) ≡ most) (v : Valid t) where
 
 -- ---- rows entered and forgotten
 
-pub entered-old : (n : Neighbour) (l : List Neighbour) → place (n .address) l < length l → entered n l ≡ set l (place (n .address) l) n
+pub entered-old : (n : Neighbour) (l : List Neighbour) → place (addressOf n) l < length l → entered n l ≡ set l (place (addressOf n) l) n
 unfolding entered place
 entered-old n [] h = absurd (omega arith)
-entered-old n (m ∷ l) h = go (eqb (m .address) (n .address)) h (entered-old n l)
+entered-old n (m ∷ l) h = go (eqb (addressOf m) (addressOf n)) h (entered-old n l)
   where
-    go : (b : Bool) → cond b 0 (suc (place (n .address) l)) < suc (length l) → (place (n .address) l < length l → entered n l ≡ set l (place (n .address) l) n)
-        → cond b (n ∷ l) (m ∷ entered n l) ≡ set (m ∷ l) (cond b 0 (suc (place (n .address) l))) n
+    go : (b : Bool) → cond b 0 (suc (place (addressOf n) l)) < suc (length l) → (place (addressOf n) l < length l → entered n l ≡ set l (place (addressOf n) l) n)
+        → cond b (n ∷ l) (m ∷ entered n l) ≡ set (m ∷ l) (cond b 0 (suc (place (addressOf n) l))) n
     go true g k = refl
     go false g k = ap (λ x. m ∷ x) (k (omega arith))
 
-pub entered-new : (n : Neighbour) (l : List Neighbour) → length l ≤ place (n .address) l → entered n l ≡ l ++ (n ∷ [])
+pub entered-new : (n : Neighbour) (l : List Neighbour) → length l ≤ place (addressOf n) l → entered n l ≡ l ++ (n ∷ [])
 unfolding entered place
 entered-new n [] h = refl
-entered-new n (m ∷ l) h = go (eqb (m .address) (n .address)) h (entered-new n l)
+entered-new n (m ∷ l) h = go (eqb (addressOf m) (addressOf n)) h (entered-new n l)
   where
-    go : (b : Bool) → suc (length l) ≤ cond b 0 (suc (place (n .address) l)) → (length l ≤ place (n .address) l → entered n l ≡ l ++ (n ∷ []))
+    go : (b : Bool) → suc (length l) ≤ cond b 0 (suc (place (addressOf n) l)) → (length l ≤ place (addressOf n) l → entered n l ≡ l ++ (n ∷ []))
         → cond b (n ∷ l) (m ∷ entered n l) ≡ m ∷ (l ++ (n ∷ []))
     go true g k = absurd (omega arith)
     go false g k = ap (λ x. m ∷ x) (k (omega arith))
@@ -90,7 +90,7 @@ entered-new n (m ∷ l) h = go (eqb (m .address) (n .address)) h (entered-new n 
 pub without-is : (a : ℕ) (l : List Neighbour) → place a l < length l → without a l ≡ take (place a l) l ++ drop (suc (place a l)) l
 unfolding without place
 without-is a [] h = absurd (omega arith)
-without-is a (m ∷ l) h = go (eqb (m .address) a) h (without-is a l)
+without-is a (m ∷ l) h = go (eqb (addressOf m) a) h (without-is a l)
   where
     go : (b : Bool) → cond b 0 (suc (place a l)) < suc (length l) → (place a l < length l → without a l ≡ take (place a l) l ++ drop (suc (place a l)) l)
         → cond b l (m ∷ without a l) ≡ take (cond b 0 (suc (place a l))) (m ∷ l) ++ drop (suc (cond b 0 (suc (place a l)))) (m ∷ l)
@@ -100,7 +100,7 @@ without-is a (m ∷ l) h = go (eqb (m .address) a) h (without-is a l)
 -- ---- the array after each
 
 module _ (t : Table) (full : length (t .rows) ≡ most) (v : Valid t) where
-  pub replaces : (n : Neighbour) (at : ℕ) → at ≡ place (n .address) (used t) → at < t .count → record { rows = set (t .rows) at n; count = t .count } ≡ tableOf (entered n (used t))
+  pub replaces : (n : Neighbour) (at : ℕ) → at ≡ place (addressOf n) (used t) → at < t .count → record { rows = set (t .rows) at n; count = t .count } ≡ tableOf (entered n (used t))
   replaces n at e h =
       let l = used t in
       let w : at < length l = omega (arith, long t full v) in
@@ -112,7 +112,7 @@ module _ (t : Table) (full : length (t .rows) ≡ most) (v : Valid t) where
       (sym (long t full v) ∙ sym (length-set l at n))
       (let q : length (set l at n) ≡ t .count = length-set l at n ∙ long t full v in omega (arith, q, v .within)))
 
-  pub appends : (n : Neighbour) (at : ℕ) → at ≡ place (n .address) (used t) → t .count ≤ at → at ≡ t .count → t .count < most
+  pub appends : (n : Neighbour) (at : ℕ) → at ≡ place (addressOf n) (used t) → t .count ≤ at → at ≡ t .count → t .count < most
       → record { rows = set (t .rows) at n; count = at + 1 } ≡ tableOf (entered n (used t))
   appends n at e h f g =
       let l = used t in

@@ -13,7 +13,7 @@ use Rattle.neighbours.specs.declared.Change.the-variants.{Replaced, Appe
 use Rattle.neighbours.specs.declared.Changed.{Changed}
 use Rattle.neighbours.specs.declared.Neighbour.{Neighbour}
 use Rattle.neighbours.specs.declared.Table.{Table}
-use Rattle.neighbours.specs.Rows.{most, place, has, used, valid, closedUp}
+use Rattle.neighbours.specs.Rows.{addressOf, most, place, has, used, valid, closedUp}
 use Rattle.neighbours.specs.Hearing.{entering, leaving}
 use Rattle.neighbours.specs.Answers.{doneBy, doneOf, tableAfter}
 use Rattle.neighbours.proofs.Rows.{place-all, has-place, has-none}
@@ -25,16 +25,16 @@ module _ (t : Table) (full : length (t .rows) ≡ most) (ok : valid t ≡ true) 
   used-is : length (used t) ≡ t .count
   used-is = long t full (valid-parts t ok)
 
-  module _ (n : Neighbour) (at : ℕ) (e : at ≡ 0 + place (n .address) (used t)) where
+  module _ (n : Neighbour) (at : ℕ) (e : at ≡ 0 + place (addressOf n) (used t)) where
     pub enter-old : at < t .count → Answered t (entering n (used t)) (record { table = record { rows = set (t .rows) at n; count = t .count }; change = Replaced })
     unfolding entering tableAfter doneBy doneOf
     enter-old h =
-        let y : has (n .address) (used t) ≡ true = has-place (n .address) (used t) (omega (arith, used-is)) in
+        let y : has (addressOf n) (used t) ≡ true = has-place (addressOf n) (used t) (omega (arith, used-is)) in
         record { table = rw y (replaces t full (valid-parts t ok) n at (omega arith) h); done = rw y }
 
     module _ (h : t .count ≤ at) where
-      absent : has (n .address) (used t) ≡ false
-      absent = has-none (n .address) (used t) (omega (arith, used-is))
+      absent : has (addressOf n) (used t) ≡ false
+      absent = has-none (addressOf n) (used t) (omega (arith, used-is))
 
       pub enter-full : {r : Changed} → t .count ≡ most → r ≡ record { table = t; change = Refused (record { number = 11; place = 0 }) } → Answered t (entering n (used t)) r
       unfolding entering refuseIf _>>_
@@ -43,7 +43,7 @@ module _ (t : Table) (full : length (t .rows) ≡ most) (ok : valid t ≡ true) 
       pub enter-new : t .count < most → Answered t (entering n (used t)) (record { table = record { rows = set (t .rows) at n; count = at + 1 }; change = Appended })
       unfolding entering refuseIf _>>_ tableAfter doneBy doneOf
       enter-new c =
-          let f : at ≡ t .count = omega (arith, used-is, place-all (n .address) (used t)) in
+          let f : at ≡ t .count = omega (arith, used-is, place-all (addressOf n) (used t)) in
           let m = lt-leb most (length (used t)) (omega (arith, used-is)) in
           record { table = rw (absent, m) (appends t full (valid-parts t ok) n at (omega arith) h f c); done = rw (absent, m) }
 

@@ -18,7 +18,7 @@ use lib.Dec.{ltb, eqb}
 use Rattle.records.specs.Every.{Every}
 use Rattle.neighbours.specs.declared.election.Candidate.{Candidate}
 use Rattle.neighbours.specs.declared.Neighbour.{Neighbour}
-use Rattle.neighbours.specs.Election.{allHave, candidate, above, better, best, elect}
+use Rattle.neighbours.specs.Election.{candidateAddress, allHave, candidate, above, better, best, elect}
 use Rattle.neighbours.specs.Highest.{In, candidates, NotAbove, Highest}
 
 -- ---- ranking
@@ -26,13 +26,13 @@ use Rattle.neighbours.specs.Highest.{In, candidates, NotAbove, Highest}
 pub not-above : (p : Bool) (d c : Candidate) → above p d c ≡ false → NotAbove p d c
 unfolding above NotAbove
 not-above false d c e = ltb-false _ _ e
-not-above true d c e = go (ltb (c .priority) (d .priority)) refl (eqb (c .priority) (d .priority)) refl (ltb (c .address) (d .address)) refl e
+not-above true d c e = go (ltb (c .priority) (d .priority)) refl (eqb (c .priority) (d .priority)) refl (ltb (candidateAddress c) (candidateAddress d)) refl e
   where
-    go : (x : Bool) → ltb (c .priority) (d .priority) ≡ x → (y : Bool) → eqb (c .priority) (d .priority) ≡ y → (z : Bool) → ltb (c .address) (d .address) ≡ z → (x || (y && z)) ≡ false
-        → (d .priority < c .priority) ⊎ ((d .priority ≡ c .priority) × (d .address ≤ c .address))
+    go : (x : Bool) → ltb (c .priority) (d .priority) ≡ x → (y : Bool) → eqb (c .priority) (d .priority) ≡ y → (z : Bool) → ltb (candidateAddress c) (candidateAddress d) ≡ z → (x || (y && z)) ≡ false
+        → (d .priority < c .priority) ⊎ ((d .priority ≡ c .priority) × (candidateAddress d ≤ candidateAddress c))
     go true a y b z k f = absurd (let q : _≡_ {A = ℕ} 0 1 = cc in omega arith)
     go false a true b true k f = absurd (let q : _≡_ {A = ℕ} 0 1 = cc in omega arith)
-    go false a true b false k f = inr (sym (eqb-true (c .priority) (d .priority) b), ltb-false (c .address) (d .address) k)
+    go false a true b false k f = inr (sym (eqb-true (c .priority) (d .priority) b), ltb-false (candidateAddress c) (candidateAddress d) k)
     go false a false b z k f =
         let u = ltb-false (c .priority) (d .priority) a in
         let w = eqb-false (c .priority) (d .priority) b in
@@ -40,13 +40,13 @@ not-above true d c e = go (ltb (c .priority) (d .priority)) refl (eqb (c .priori
 
 pub above-not : (p : Bool) (d c : Candidate) → above p d c ≡ true → NotAbove p c d
 unfolding above NotAbove
-above-not false d c e = let h = ltb-true (c .address) (d .address) e in omega arith
-above-not true d c e = go (ltb (c .priority) (d .priority)) refl (eqb (c .priority) (d .priority)) refl (ltb (c .address) (d .address)) refl e
+above-not false d c e = let h = ltb-true (candidateAddress c) (candidateAddress d) e in omega arith
+above-not true d c e = go (ltb (c .priority) (d .priority)) refl (eqb (c .priority) (d .priority)) refl (ltb (candidateAddress c) (candidateAddress d)) refl e
   where
-    go : (x : Bool) → ltb (c .priority) (d .priority) ≡ x → (y : Bool) → eqb (c .priority) (d .priority) ≡ y → (z : Bool) → ltb (c .address) (d .address) ≡ z → (x || (y && z)) ≡ true
-        → (c .priority < d .priority) ⊎ ((c .priority ≡ d .priority) × (c .address ≤ d .address))
+    go : (x : Bool) → ltb (c .priority) (d .priority) ≡ x → (y : Bool) → eqb (c .priority) (d .priority) ≡ y → (z : Bool) → ltb (candidateAddress c) (candidateAddress d) ≡ z → (x || (y && z)) ≡ true
+        → (c .priority < d .priority) ⊎ ((c .priority ≡ d .priority) × (candidateAddress c ≤ candidateAddress d))
     go true a y b z k f = inl (ltb-true (c .priority) (d .priority) a)
-    go false a true b true k f = inr (eqb-true (c .priority) (d .priority) b, (let h = ltb-true (c .address) (d .address) k in omega arith))
+    go false a true b true k f = inr (eqb-true (c .priority) (d .priority) b, (let h = ltb-true (candidateAddress c) (candidateAddress d) k in omega arith))
     go false a true b false k f = absurd (let q : _≡_ {A = ℕ} 0 1 = cc in omega arith)
     go false a false b z k f = absurd (let q : _≡_ {A = ℕ} 0 1 = cc in omega arith)
 
@@ -63,7 +63,7 @@ rank-trans true c d e (inl h) (inr k) = inl (omega (arith, k .0))
 rank-trans true c d e (inr h) (inl k) = inl (omega (arith, h .0))
 rank-trans true c d e (inr h) (inr k) = inr (h .0 ∙ k .0, omega (arith, h .1, k .1))
 
-pub rank-same : (p : Bool) (c d : Candidate) → NotAbove p c d → NotAbove p d c → c .address ≡ d .address
+pub rank-same : (p : Bool) (c d : Candidate) → NotAbove p c d → NotAbove p d c → candidateAddress c ≡ candidateAddress d
 unfolding NotAbove
 rank-same false c d h k = omega arith
 rank-same true c d (inl h) (inl k) = omega arith
@@ -120,13 +120,13 @@ unfolding elect
 elect-highest ours l = best-highest (allHave l) ours l
 
 -- "the highest address if any row has no priority"
-pub elect-by-address : (ours : Candidate) (l : List Neighbour) → allHave l ≡ false → Every (λ d. d .address ≤ elect ours l .address) (candidates ours l)
+pub elect-by-address : (ours : Candidate) (l : List Neighbour) → allHave l ≡ false → Every (λ d. candidateAddress d ≤ candidateAddress (elect ours l)) (candidates ours l)
 unfolding elect NotAbove
 elect-by-address ours l e = rw e (none-above false ours l)
 
 -- "else the highest priority, then address"
 pub elect-by-priority : (ours : Candidate) (l : List Neighbour) → allHave l ≡ true
-    → Every (λ d. (d .priority < elect ours l .priority) ⊎ ((d .priority ≡ elect ours l .priority) × (d .address ≤ elect ours l .address))) (candidates ours l)
+    → Every (λ d. (d .priority < elect ours l .priority) ⊎ ((d .priority ≡ elect ours l .priority) × (candidateAddress d ≤ candidateAddress (elect ours l)))) (candidates ours l)
 unfolding elect NotAbove
 elect-by-priority ours l e = rw e (none-above true ours l)
 
@@ -159,7 +159,7 @@ unfolding Every In
 every-in P (b ∷ l) a h (inl e) = subst P (sym e) (h .0)
 every-in P (b ∷ l) a h (inr k) = every-in P l a (h .1) k
 
-pub elect-order : (ours : Candidate) {l m : List Neighbour} → List·Permᴰ l m → elect ours l .address ≡ elect ours m .address
+pub elect-order : (ours : Candidate) {l m : List Neighbour} → List·Permᴰ l m → candidateAddress (elect ours l) ≡ candidateAddress (elect ours m)
 unfolding elect
 elect-order ours {l} {m} d =
     let p = allHave m in

@@ -20,7 +20,7 @@ use Rattle.format.specs.Outcome.{Outcome, gives, refuses, refuseIf, _>>_}
 use Rattle.hello.specs.declared.Hello.{Hello}
 use Rattle.neighbours.specs.declared.Neighbour.{Neighbour}
 use Rattle.neighbours.specs.declared.Table.{Table}
-use Rattle.neighbours.specs.Rows.{most, noRow, isZero, allZero, allowed, has, sheetRows, used, valid, tableOf}
+use Rattle.neighbours.specs.Rows.{addressOf, most, noRow, isZero, allZero, allowed, has, sheetRows, used, valid, tableOf}
 use Rattle.neighbours.specs.Hearing.{rowOf, entered, without, After, after, replaced, appended, forgotten, asked, entering, leaving, hearing, forgetting}
 use Rattle.neighbours.specs.Election.{mayPack, electing}
 use Rattle.neighbours.specs.Answers.{tableAfter}
@@ -60,7 +60,7 @@ both e f = rw (e, f)
 
 record Sheet (n : Neighbour) (l : List Neighbour) : Type 0 where
   fit : allowed n ≡ true
-  once : has (n .address) l ≡ false
+  once : has (addressOf n) l ≡ false
   others : sheetRows l ≡ true
 
 sheet-parts : (n : Neighbour) (l : List Neighbour) → sheetRows (n ∷ l) ≡ true → Sheet n l
@@ -83,31 +83,31 @@ or-twice : (a c : Bool) → (a || (a || c)) ≡ (a || c)
 or-twice true c = refl
 or-twice false c = refl
 
-pub has-entered : (a : ℕ) (n : Neighbour) (l : List Neighbour) → has a (entered n l) ≡ (eqb (n .address) a || has a l)
+pub has-entered : (a : ℕ) (n : Neighbour) (l : List Neighbour) → has a (entered n l) ≡ (eqb (addressOf n) a || has a l)
 unfolding has entered
 has-entered a n [] = refl
-has-entered a n (m ∷ l) = go (eqb (m .address) (n .address)) refl (has-entered a n l)
+has-entered a n (m ∷ l) = go (eqb (addressOf m) (addressOf n)) refl (has-entered a n l)
   where
-    go : (b : Bool) → eqb (m .address) (n .address) ≡ b → has a (entered n l) ≡ (eqb (n .address) a || has a l)
-        → has a (cond b (n ∷ l) (m ∷ entered n l)) ≡ (eqb (n .address) a || (eqb (m .address) a || has a l))
-    go true e h = rw (eqb-true (m .address) (n .address) e) (sym (or-twice (eqb (n .address) a) (has a l)))
-    go false e h = rw h (or-comm-3 (eqb (m .address) a) (eqb (n .address) a) (has a l))
+    go : (b : Bool) → eqb (addressOf m) (addressOf n) ≡ b → has a (entered n l) ≡ (eqb (addressOf n) a || has a l)
+        → has a (cond b (n ∷ l) (m ∷ entered n l)) ≡ (eqb (addressOf n) a || (eqb (addressOf m) a || has a l))
+    go true e h = rw (eqb-true (addressOf m) (addressOf n) e) (sym (or-twice (eqb (addressOf n) a) (has a l)))
+    go false e h = rw h (or-comm-3 (eqb (addressOf m) a) (eqb (addressOf n) a) (has a l))
 
 pub entered-sheet : (n : Neighbour) (l : List Neighbour) → allowed n ≡ true → sheetRows l ≡ true → sheetRows (entered n l) ≡ true
 unfolding entered has
 entered-sheet n [] e s = sheet-join n [] (record { fit = e; once = refl; others = s })
-entered-sheet n (m ∷ l) e s = go (eqb (m .address) (n .address)) refl (sheet-parts m l s) (entered-sheet n l e)
+entered-sheet n (m ∷ l) e s = go (eqb (addressOf m) (addressOf n)) refl (sheet-parts m l s) (entered-sheet n l e)
   where
-    go : (b : Bool) → eqb (m .address) (n .address) ≡ b → Sheet m l → (sheetRows l ≡ true → sheetRows (entered n l) ≡ true) → sheetRows (cond b (n ∷ l) (m ∷ entered n l)) ≡ true
-    go true q p k = sheet-join n l (record { fit = e; once = rw (← eqb-true (m .address) (n .address) q) (p .once); others = p .others })
-    go false q p k = sheet-join m (entered n l) (record { fit = p .fit; once = has-entered (m .address) n l ∙ (rw (ne-eqb (n .address) (m .address) (λ x. eqb-false _ _ q (sym x)), p .once)); others = k (p .others) })
+    go : (b : Bool) → eqb (addressOf m) (addressOf n) ≡ b → Sheet m l → (sheetRows l ≡ true → sheetRows (entered n l) ≡ true) → sheetRows (cond b (n ∷ l) (m ∷ entered n l)) ≡ true
+    go true q p k = sheet-join n l (record { fit = e; once = rw (← eqb-true (addressOf m) (addressOf n) q) (p .once); others = p .others })
+    go false q p k = sheet-join m (entered n l) (record { fit = p .fit; once = has-entered (addressOf m) n l ∙ (rw (ne-eqb (addressOf n) (addressOf m) (λ x. eqb-false _ _ q (sym x)), p .once)); others = k (p .others) })
 
-entered-length : (n : Neighbour) (l : List Neighbour) → length (entered n l) ≡ cond (has (n .address) l) (length l) (length l + 1)
+entered-length : (n : Neighbour) (l : List Neighbour) → length (entered n l) ≡ cond (has (addressOf n) l) (length l) (length l + 1)
 unfolding entered has
 entered-length n [] = refl
-entered-length n (m ∷ l) = go (eqb (m .address) (n .address)) (has (n .address) l) refl (entered-length n l)
+entered-length n (m ∷ l) = go (eqb (addressOf m) (addressOf n)) (has (addressOf n) l) refl (entered-length n l)
   where
-    go : (b c : Bool) → has (n .address) l ≡ c → length (entered n l) ≡ cond (has (n .address) l) (length l) (length l + 1)
+    go : (b c : Bool) → has (addressOf n) l ≡ c → length (entered n l) ≡ cond (has (addressOf n) l) (length l) (length l + 1)
         → length (cond b (n ∷ l) (m ∷ entered n l)) ≡ cond (b || c) (suc (length l)) (suc (length l) + 1)
     go true c q h = refl
     go false true q h = rw (h, q)
@@ -118,9 +118,9 @@ entered-length n (m ∷ l) = go (eqb (m .address) (n .address)) (has (n .address
 without-has : (a b : ℕ) (l : List Neighbour) → has b l ≡ false → has b (without a l) ≡ false
 unfolding has without
 without-has a b [] e = refl
-without-has a b (m ∷ l) e = go (eqb (m .address) a) (eqb (m .address) b) refl e (without-has a b l)
+without-has a b (m ∷ l) e = go (eqb (addressOf m) a) (eqb (addressOf m) b) refl e (without-has a b l)
   where
-    go : (x y : Bool) → eqb (m .address) b ≡ y → (y || has b l) ≡ false → (has b l ≡ false → has b (without a l) ≡ false) → has b (cond x l (m ∷ without a l)) ≡ false
+    go : (x y : Bool) → eqb (addressOf m) b ≡ y → (y || has b l) ≡ false → (has b l ≡ false → has b (without a l) ≡ false) → has b (cond x l (m ∷ without a l)) ≡ false
     go x true q f k = never f
     go true false q f k = f
     go false false q f k = rw (q) (k f)
@@ -128,16 +128,16 @@ without-has a b (m ∷ l) e = go (eqb (m .address) a) (eqb (m .address) b) refl 
 pub without-sheet : (a : ℕ) (l : List Neighbour) → sheetRows l ≡ true → sheetRows (without a l) ≡ true
 unfolding without
 without-sheet a [] s = s
-without-sheet a (m ∷ l) s = go (eqb (m .address) a) (sheet-parts m l s) (without-sheet a l)
+without-sheet a (m ∷ l) s = go (eqb (addressOf m) a) (sheet-parts m l s) (without-sheet a l)
   where
     go : (b : Bool) → Sheet m l → (sheetRows l ≡ true → sheetRows (without a l) ≡ true) → sheetRows (cond b l (m ∷ without a l)) ≡ true
     go true p k = p .others
-    go false p k = sheet-join m (without a l) (record { fit = p .fit; once = without-has a (m .address) l (p .once); others = k (p .others) })
+    go false p k = sheet-join m (without a l) (record { fit = p .fit; once = without-has a (addressOf m) l (p .once); others = k (p .others) })
 
 without-length : (a : ℕ) (l : List Neighbour) → length (without a l) ≤ length l
 unfolding without
 without-length a [] = omega arith
-without-length a (m ∷ l) = go (eqb (m .address) a) (without-length a l)
+without-length a (m ∷ l) = go (eqb (addressOf m) a) (without-length a l)
   where
     go : (b : Bool) → length (without a l) ≤ length l → length (cond b l (m ∷ without a l)) ≤ suc (length l)
     go true h = omega arith
@@ -168,9 +168,9 @@ leaving-keeps a l h s =
 
 entering-keeps : (n : Neighbour) (l : List Neighbour) → length l ≤ most → sheetRows l ≡ true → allowed n ≡ true → Keeps (entering n l)
 unfolding entering refuseIf _>>_
-entering-keeps n l h s e = go (has (n .address) l) refl (leb most (length l)) refl
+entering-keeps n l h s e = go (has (addressOf n) l) refl (leb most (length l)) refl
   where
-    go : (b : Bool) → has (n .address) l ≡ b → (c : Bool) → leb most (length l) ≡ c
+    go : (b : Bool) → has (addressOf n) l ≡ b → (c : Bool) → leb most (length l) ≡ c
         → Keeps (cond b (gives (after replaced (entered n l))) (refuseIf c 11 0 >> gives (after appended (entered n l))))
     go true q c r = (let m : length (entered n l) ≡ length l = entered-length n l ∙ (rw q) in omega arith, entered-sheet n l e s)
     go false q true r = tt
@@ -226,38 +226,38 @@ refused-14 t e = record { of-hearing = λ a h. rw e; of-forgetting = λ a. rw e;
 -- ---- a new neighbour
 
 -- an address that stands among no rows but the last
-entered-last : (n : Neighbour) (l : List Neighbour) → has (n .address) l ≡ false → entered n l ≡ l ++ (n ∷ [])
+entered-last : (n : Neighbour) (l : List Neighbour) → has (addressOf n) l ≡ false → entered n l ≡ l ++ (n ∷ [])
 unfolding entered has
 entered-last n [] e = refl
-entered-last n (m ∷ l) e = go (eqb (m .address) (n .address)) e (entered-last n l)
+entered-last n (m ∷ l) e = go (eqb (addressOf m) (addressOf n)) e (entered-last n l)
   where
-    go : (b : Bool) → (b || has (n .address) l) ≡ false → (has (n .address) l ≡ false → entered n l ≡ l ++ (n ∷ [])) → cond b (n ∷ l) (m ∷ entered n l) ≡ m ∷ (l ++ (n ∷ []))
+    go : (b : Bool) → (b || has (addressOf n) l) ≡ false → (has (addressOf n) l ≡ false → entered n l ≡ l ++ (n ∷ [])) → cond b (n ∷ l) (m ∷ entered n l) ≡ m ∷ (l ++ (n ∷ []))
     go true f k = never f
     go false f k = ap (λ x. m ∷ x) (k f)
 
-without-last : (n : Neighbour) (l : List Neighbour) → has (n .address) l ≡ false → without (n .address) (l ++ (n ∷ [])) ≡ l
+without-last : (n : Neighbour) (l : List Neighbour) → has (addressOf n) l ≡ false → without (addressOf n) (l ++ (n ∷ [])) ≡ l
 unfolding without has
-without-last n [] e = rw (eq-eqb (n .address) (n .address) refl)
-without-last n (m ∷ l) e = go (eqb (m .address) (n .address)) e (without-last n l)
+without-last n [] e = rw (eq-eqb (addressOf n) (addressOf n) refl)
+without-last n (m ∷ l) e = go (eqb (addressOf m) (addressOf n)) e (without-last n l)
   where
-    go : (b : Bool) → (b || has (n .address) l) ≡ false → (has (n .address) l ≡ false → without (n .address) (l ++ (n ∷ [])) ≡ l)
-        → cond b (l ++ (n ∷ [])) (m ∷ without (n .address) (l ++ (n ∷ []))) ≡ m ∷ l
+    go : (b : Bool) → (b || has (addressOf n) l) ≡ false → (has (addressOf n) l ≡ false → without (addressOf n) (l ++ (n ∷ [])) ≡ l)
+        → cond b (l ++ (n ∷ [])) (m ∷ without (addressOf n) (l ++ (n ∷ []))) ≡ m ∷ l
     go true f k = never f
     go false f k = ap (λ x. m ∷ x) (k f)
 
-has-last : (n : Neighbour) (l : List Neighbour) → has (n .address) (l ++ (n ∷ [])) ≡ true
+has-last : (n : Neighbour) (l : List Neighbour) → has (addressOf n) (l ++ (n ∷ [])) ≡ true
 unfolding has
-has-last n [] = rw (eq-eqb (n .address) (n .address) refl)
-has-last n (m ∷ l) = rw (has-last n l) (go (eqb (m .address) (n .address)))
+has-last n [] = rw (eq-eqb (addressOf n) (addressOf n) refl)
+has-last n (m ∷ l) = rw (has-last n l) (go (eqb (addressOf m) (addressOf n)))
   where
     go : (b : Bool) → (b || true) ≡ true
     go true = refl
     go false = refl
 
-forgets-last : (n : Neighbour) (l : List Neighbour) → valid (tableOf (l ++ (n ∷ []))) ≡ true → (n .address ≡ 0 → ⊥) → has (n .address) l ≡ false
-    → tableAfter (tableOf (l ++ (n ∷ []))) (forgetting (tableOf (l ++ (n ∷ []))) (n .address)) ≡ tableOf l
+forgets-last : (n : Neighbour) (l : List Neighbour) → valid (tableOf (l ++ (n ∷ []))) ≡ true → (addressOf n ≡ 0 → ⊥) → has (addressOf n) l ≡ false
+    → tableAfter (tableOf (l ++ (n ∷ []))) (forgetting (tableOf (l ++ (n ∷ []))) (addressOf n)) ≡ tableOf l
 unfolding forgetting leaving refuseIf _>>_ tableAfter
-forgets-last n l ok some new = rw (ask-fine (tableOf (l ++ (n ∷ []))) (n .address) ok some, used-of (l ++ (n ∷ [])), has-last n l, without-last n l new)
+forgets-last n l ok some new = rw (ask-fine (tableOf (l ++ (n ∷ []))) (addressOf n) ok some, used-of (l ++ (n ∷ [])), has-last n l, without-last n l new)
 
 module _ (t : Table) (s : Sound t) (a : ℕ) (h : Hello) (some : a ≡ 0 → ⊥) (stays : h .holdtime ≡ 0 → ⊥) (new : has a (used t) ≡ false) (room : t .count < most) where
   pub hearing-new : hearing t a h ≡ gives (after appended (used t ++ (rowOf a h ∷ [])))
@@ -280,7 +280,7 @@ module _ (t : Table) (s : Sound t) (a : ℕ) (h : Hello) (some : a ≡ 0 → ⊥
 -- ---- every valid table is reached
 
 record Fits (n : Neighbour) : Type 0 where
-  some : n .address ≡ 0 → ⊥
+  some : addressOf n ≡ 0 → ⊥
   stays : n .holdtime ≡ 0 → ⊥
   none : (n .«has_priority» || eqb (n .priority) 0) ≡ true
 
@@ -290,15 +290,15 @@ not-zero x e f = never (sym (rw (eq-eqb x 0 f) at e))
 allowed-parts : (n : Neighbour) → allowed n ≡ true → Fits n
 unfolding allowed
 allowed-parts n e =
-    let p = and-true (not (eqb (n .address) 0)) (not (eqb (n .holdtime) 0) && (n .«has_priority» || eqb (n .priority) 0)) e in
+    let p = and-true (not (eqb (addressOf n) 0)) (not (eqb (n .holdtime) 0) && (n .«has_priority» || eqb (n .priority) 0)) e in
     let q = and-true (not (eqb (n .holdtime) 0)) (n .«has_priority» || eqb (n .priority) 0) (p .1) in
-    record { some = not-zero (n .address) (p .0); stays = not-zero (n .holdtime) (q .0); none = q .1 }
+    record { some = not-zero (addressOf n) (p .0); stays = not-zero (n .holdtime) (q .0); none = q .1 }
 
-row-back : (n : Neighbour) → allowed n ≡ true → rowOf (n .address) (saidOf n) ≡ n
+row-back : (n : Neighbour) → allowed n ≡ true → rowOf (addressOf n) (saidOf n) ≡ n
 unfolding rowOf saidOf
 row-back n e =
     let q = go (n .«has_priority») (allowed-parts n e .none) in
-    λ i. record { address = n .address; priority = q i; «has_priority» = n .«has_priority»; packs = n .packs; holdtime = n .holdtime }
+    λ i. record { address = addressOf n; priority = q i; «has_priority» = n .«has_priority»; packs = n .packs; holdtime = n .holdtime }
   where
     go : (b : Bool) → (b || eqb (n .priority) 0) ≡ true → cond b (n .priority) 0 ≡ n .priority
     go true f = refl
@@ -307,16 +307,16 @@ row-back n e =
 has-front : (a : ℕ) (k l : List Neighbour) → has a (k ++ l) ≡ false → has a k ≡ false
 unfolding has
 has-front a [] l e = refl
-has-front a (m ∷ k) l e = go (eqb (m .address) a) e (has-front a k l)
+has-front a (m ∷ k) l e = go (eqb (addressOf m) a) e (has-front a k l)
   where
     go : (b : Bool) → (b || has a (k ++ l)) ≡ false → (has a (k ++ l) ≡ false → has a k ≡ false) → (b || has a k) ≡ false
     go true f q = never f
     go false f q = q f
 
-has-middle : (a : ℕ) (k : List Neighbour) (n : Neighbour) (l : List Neighbour) → has a (k ++ n ∷ l) ≡ false → n .address ≡ a → ⊥
+has-middle : (a : ℕ) (k : List Neighbour) (n : Neighbour) (l : List Neighbour) → has a (k ++ n ∷ l) ≡ false → addressOf n ≡ a → ⊥
 unfolding has
-has-middle a [] n l e f = never (rw (eq-eqb (n .address) a f) at e)
-has-middle a (m ∷ k) n l e f = go (eqb (m .address) a) e (λ q. has-middle a k n l q f)
+has-middle a [] n l e f = never (rw (eq-eqb (addressOf n) a f) at e)
+has-middle a (m ∷ k) n l e f = go (eqb (addressOf m) a) e (λ q. has-middle a k n l q f)
   where
     go : (b : Bool) → (b || has a (k ++ n ∷ l)) ≡ false → (has a (k ++ n ∷ l) ≡ false → ⊥) → ⊥
     go true q g = never q
@@ -327,30 +327,30 @@ unfolding sheetRows
 sheet-front [] l e = refl
 sheet-front (m ∷ k) l e =
     let p = sheet-parts m (k ++ l) e in
-    sheet-join m k (record { fit = p .fit; once = has-front (m .address) k l (p .once); others = sheet-front k l (p .others) })
+    sheet-join m k (record { fit = p .fit; once = has-front (addressOf m) k l (p .once); others = sheet-front k l (p .others) })
 
 -- a row among others: it is allowed, and its address does not stand before it
-sheet-middle : (k : List Neighbour) (n : Neighbour) (l : List Neighbour) → sheetRows (k ++ n ∷ l) ≡ true → (allowed n ≡ true) × (has (n .address) k ≡ false)
+sheet-middle : (k : List Neighbour) (n : Neighbour) (l : List Neighbour) → sheetRows (k ++ n ∷ l) ≡ true → (allowed n ≡ true) × (has (addressOf n) k ≡ false)
 unfolding has
 sheet-middle [] n l e = (sheet-parts n l e .fit, refl)
 sheet-middle (m ∷ k) n l e =
     let p = sheet-parts m (k ++ n ∷ l) e in
     let q = sheet-middle k n l (p .others) in
-    (q .0, rw (ne-eqb (m .address) (n .address) (λ f. has-middle (m .address) k n l (p .once) (sym f)), q .1))
+    (q .0, rw (ne-eqb (addressOf m) (addressOf n) (λ f. has-middle (addressOf m) k n l (p .once) (sym f)), q .1))
 
 count-of : (k : List Neighbour) → length k < most → tableOf k .count < most
 unfolding tableOf
 count-of k h = h
 
 heard-next : (k : List Neighbour) (n : Neighbour) (l : List Neighbour) → sheetRows (k ++ n ∷ l) ≡ true → length (k ++ n ∷ l) ≤ most
-    → tableAfter (tableOf k) (hearing (tableOf k) (n .address) (saidOf n)) ≡ tableOf (k ++ (n ∷ []))
+    → tableAfter (tableOf k) (hearing (tableOf k) (addressOf n) (saidOf n)) ≡ tableOf (k ++ (n ∷ []))
 unfolding saidOf
 heard-next k n l e h =
     let m = sheet-middle k n l e in
     let f = allowed-parts n (m .0) in
     let w : length k < most = let q = length-append k (n ∷ l) in omega arith in
     let s : Sound (tableOf k) = record { full = full-of k (omega arith); ok = valid-of k (omega arith) (sheet-front k (n ∷ l) e) } in
-    rw (used-of k, row-back n (m .0)) at (heard-is (tableOf k) s (n .address) (saidOf n) (f .some) (f .stays) (rw (used-of k) (m .1)) (count-of k w))
+    rw (used-of k, row-back n (m .0)) at (heard-is (tableOf k) s (addressOf n) (saidOf n) (f .some) (f .stays) (rw (used-of k) (m .1)) (count-of k w))
 
 heard-on : (k l : List Neighbour) → sheetRows (k ++ l) ≡ true → length (k ++ l) ≤ most → heardAll (tableOf k) l ≡ tableOf (k ++ l)
 unfolding heardAll

@@ -16,7 +16,7 @@ use lib.Dec.{eqb}
 use lib.ListN.{length, getD, take, drop, length-map, drop-of-length-le}
 use lib.Seq.{drop-cons, getD-take, length-take-le}
 use Rattle.neighbours.specs.declared.Neighbour.{Neighbour}
-use Rattle.neighbours.specs.Rows.{place, has}
+use Rattle.neighbours.specs.Rows.{addressOf, place, has}
 use Rattle.neighbours.proofs.Neighbour as neighbour
 
 one-more : (i : ℕ) → i + 1 ≡ suc i
@@ -57,14 +57,14 @@ module _ (f : List Neighbour → Bool) (l : List Neighbour) (i : ℕ) {w : Bool}
 
 module _ (a : ℕ) (l : List Neighbour) (i : ℕ) {w : ℕ} (so : i + place a (drop i l) ≡ w) where
   module _ {x : Neighbour} (here : drop i l ≡ x ∷ drop (suc i) l) where
-    pub place-here : x .address ≡ a → i ≡ w
+    pub place-here : addressOf x ≡ a → i ≡ w
     unfolding place
-    place-here e = sym (add-zero i) ∙ (rw (here, eq-eqb (x .address) a e) at so)
+    place-here e = sym (add-zero i) ∙ (rw (here, eq-eqb (addressOf x) a e) at so)
 
-    pub place-next : (x .address ≡ a → ⊥) → i + 1 + place a (drop (i + 1) l) ≡ w
+    pub place-next : (addressOf x ≡ a → ⊥) → i + 1 + place a (drop (i + 1) l) ≡ w
     unfolding place
     place-next e =
-        let s = rw (here, ne-eqb (x .address) a e) at so in
+        let s = rw (here, ne-eqb (addressOf x) a e) at so in
         rw (one-more i) (omega arith)
 
   pub place-none : drop i l ≡ [] → i ≡ w
@@ -74,7 +74,7 @@ module _ (a : ℕ) (l : List Neighbour) (i : ℕ) {w : ℕ} (so : i + place a (d
 pub place-all : (a : ℕ) (l : List Neighbour) → place a l ≤ length l
 unfolding place
 place-all a [] = omega arith
-place-all a (x ∷ l) = go (eqb (x .address) a) (place-all a l)
+place-all a (x ∷ l) = go (eqb (addressOf x) a) (place-all a l)
   where
     go : (b : Bool) → place a l ≤ length l → cond b 0 (suc (place a l)) ≤ suc (length l)
     go true h = omega arith
@@ -83,7 +83,7 @@ place-all a (x ∷ l) = go (eqb (x .address) a) (place-all a l)
 pub has-place : (a : ℕ) (l : List Neighbour) → place a l < length l → has a l ≡ true
 unfolding place has
 has-place a [] h = absurd (omega arith)
-has-place a (x ∷ l) h = go (eqb (x .address) a) (has-place a l) h
+has-place a (x ∷ l) h = go (eqb (addressOf x) a) (has-place a l) h
   where
     go : (b : Bool) → (place a l < length l → has a l ≡ true) → cond b 0 (suc (place a l)) < suc (length l) → (b || has a l) ≡ true
     go true k g = refl
@@ -92,7 +92,7 @@ has-place a (x ∷ l) h = go (eqb (x .address) a) (has-place a l) h
 pub has-none : (a : ℕ) (l : List Neighbour) → length l ≤ place a l → has a l ≡ false
 unfolding place has
 has-none a [] h = refl
-has-none a (x ∷ l) h = go (eqb (x .address) a) (has-none a l) h
+has-none a (x ∷ l) h = go (eqb (addressOf x) a) (has-none a l) h
   where
     go : (b : Bool) → (length l ≤ place a l → has a l ≡ false) → suc (length l) ≤ cond b 0 (suc (place a l)) → (b || has a l) ≡ false
     go true k g = absurd (omega arith)

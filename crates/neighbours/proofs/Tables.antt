@@ -17,7 +17,7 @@ use lib.ListN.{length, getD, take, drop, length-drop}
 use Rattle.format.specs.Outcome.{gives, refuses, refuseIf, _>>_}
 use Rattle.neighbours.specs.declared.Neighbour.{Neighbour}
 use Rattle.neighbours.specs.declared.Table.{Table}
-use Rattle.neighbours.specs.Rows.{most, noRow, allowed, place, has, used, sheetRows, allZero, valid}
+use Rattle.neighbours.specs.Rows.{addressOf, most, noRow, allowed, place, has, used, sheetRows, allZero, valid}
 use Rattle.neighbours.specs.Hearing.{asked}
 use Rattle.neighbours.proofs.Rows.{used-long, place-all, has-place, has-none}
 
@@ -36,18 +36,18 @@ same-row (x ∷ l) zero d e h = refl
 same-row (x ∷ l) (suc i) d e h = same-row l i d e (omega arith)
 
 module _ (rows : List Neighbour) (n : ℕ) (within : n ≤ length rows) (i : ℕ) (d : Neighbour) (here : i < n) where
-  pub holds-not : allowed (getD rows i d) ≡ false → false ≡ (allowed (getD rows i noRow) && not (has (getD rows i noRow .address) (drop (suc i) (take n rows))))
+  pub holds-not : allowed (getD rows i d) ≡ false → false ≡ (allowed (getD rows i noRow) && not (has (addressOf (getD rows i noRow)) (drop (suc i) (take n rows))))
   holds-not e = rw (same-row rows i noRow d (omega arith), e)
 
   after : length (drop (suc i) (take n rows)) + suc i ≡ n
   after = rw (length-drop, used-long rows n within) (omega arith)
 
-  pub holds-is : (r : ℕ) → allowed (getD rows i d) ≡ true → r ≡ i + 1 + place (getD rows i d .address) (drop (i + 1) (take n rows))
-      → eqb r n ≡ (allowed (getD rows i noRow) && not (has (getD rows i noRow .address) (drop (suc i) (take n rows))))
+  pub holds-is : (r : ℕ) → allowed (getD rows i d) ≡ true → r ≡ i + 1 + place (addressOf (getD rows i d)) (drop (i + 1) (take n rows))
+      → eqb r n ≡ (allowed (getD rows i noRow) && not (has (addressOf (getD rows i noRow)) (drop (suc i) (take n rows))))
   holds-is r e f = rw (same-row rows i noRow d (omega arith), e) (go (ltb (place a l) (length l)) refl)
     where
       a : ℕ
-      a = getD rows i d .address
+      a = addressOf (getD rows i d)
 
       l : List Neighbour
       l = drop (suc i) (take n rows)

@@ -9,7 +9,7 @@ use mathlib.Core.Bool.{true, false, cond}
 use mathlib.Core.List.{List, [], _∷_}
 use lib.Dec.{eqb}
 use Rattle.format.specs.Outcome.{Outcome, gives, refuses, refuseIf, _>>_}
-use Rattle.neighbours.specs.Rows.{has}
+use Rattle.neighbours.specs.Rows.{addressOf, has}
 use Rattle.neighbours.specs.Election.{allHave, candidate, better, best}
 use Rattle.neighbours.specs.declared.Neighbour.{Neighbour}
 use Rattle.neighbours.specs.declared.election.Scan.{Scan}
@@ -26,7 +26,7 @@ first = record { none = true; zero = false; «all_have» = true; «by_priority»
 unfoldable pub looking : Scan → Neighbour → Scan
 looking s n = record {
   none = false;
-  zero = cond (eqb (n .address) 0) true (s .zero);
+  zero = cond (eqb (addressOf n) 0) true (s .zero);
   «all_have» = cond (n .«has_priority») (s .«all_have») false;
   «by_priority» = better true (s .«by_priority») (candidate n);
   «by_address» = better false (s .«by_address») (candidate n);

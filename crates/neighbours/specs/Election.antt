@@ -1,7 +1,8 @@
 -- Packing and the designated router (01, "Neighbours and election"; RFC 7761, 4.3.2).
 --     allPack, mayPack          "Packing is allowed exactly if every neighbour announced it"
 --     allHave                   every row has a priority
---     candidate, above, better  a candidate, whether one ranks above another, and the higher of two
+--     candidate, candidateAddress   a candidate, and its address as a number
+--     above, better             whether one ranks above another, and the higher of two
 --     best                      the candidate that ranks highest, row after row
 --     elect, electing           the address elected, and the call
 -- Assumes nothing: these are definitions.
@@ -32,10 +33,14 @@ allHave (n ∷ l) = n .«has_priority» && allHave l
 unfoldable pub candidate : Neighbour → Candidate
 candidate n = record { address = n .address; priority = n .priority }
 
+-- the address of a candidate as a number, as `addressOf` is that of a row
+abbrev pub candidateAddress : Candidate → ℕ
+candidateAddress c = c .address
+
 -- By address alone, "if any row has no priority"; else (true) by "the highest priority, then address".
 unfoldable pub above : Bool → Candidate → Candidate → Bool
-above false c d = ltb (d .address) (c .address)
-above true c d = ltb (d .priority) (c .priority) || (eqb (d .priority) (c .priority) && ltb (d .address) (c .address))
+above false c d = ltb (candidateAddress d) (candidateAddress c)
+above true c d = ltb (d .priority) (c .priority) || (eqb (d .priority) (c .priority) && ltb (candidateAddress d) (candidateAddress c))
 
 unfoldable pub better : Bool → Candidate → Candidate → Candidate
 better p c d = cond (above p d c) d c

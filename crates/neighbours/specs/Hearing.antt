@@ -13,7 +13,7 @@ use lib.ListN.{length}
 use lib.Dec.{eqb, leb}
 use Rattle.format.specs.Outcome.{Outcome, gives, refuseIf, _>>_}
 use Rattle.hello.specs.declared.Hello.{Hello}
-use Rattle.neighbours.specs.Rows.{most, has, used, valid}
+use Rattle.neighbours.specs.Rows.{addressOf, most, has, used, valid}
 use Rattle.neighbours.specs.declared.Neighbour.{Neighbour}
 use Rattle.neighbours.specs.declared.Table.{Table}
 
@@ -31,12 +31,12 @@ rowOf a h =
 -- "Hearing an address again replaces its row; a new one goes last"
 unfoldable pub entered : Neighbour → List Neighbour → List Neighbour
 entered n [] = n ∷ []
-entered n (m ∷ l) = cond (eqb (m .address) (n .address)) (n ∷ l) (m ∷ entered n l)
+entered n (m ∷ l) = cond (eqb (addressOf m) (addressOf n)) (n ∷ l) (m ∷ entered n l)
 
 -- "forgets it and the rows after it move up"
 unfoldable pub without : ℕ → List Neighbour → List Neighbour
 without a [] = []
-without a (m ∷ l) = cond (eqb (m .address) a) l (m ∷ without a l)
+without a (m ∷ l) = cond (eqb (addressOf m) a) l (m ∷ without a l)
 
 pub data Done : Type 0 where
   replaced : Done
@@ -56,7 +56,7 @@ asked t a = do
 -- 11: "a new neighbour and 16 rows in use"
 unfoldable pub entering : Neighbour → List Neighbour → Outcome After
 entering n l =
-    cond (has (n .address) l) (gives (after replaced (entered n l)))
+    cond (has (addressOf n) l) (gives (after replaced (entered n l)))
     (refuseIf (leb most (length l)) 11 0 >> gives (after appended (entered n l)))
 
 -- 12: "forgetting an absent neighbour"

@@ -10,7 +10,7 @@ use mathlib.Core.Bool.{Bool, true, false}
 use mathlib.Core.List.{List, [], _∷_, map}
 use mathlib.Core.Logic.{_⊎_}
 use Rattle.records.specs.Every.{Every}
-use Rattle.neighbours.specs.Election.{candidate}
+use Rattle.neighbours.specs.Election.{candidateAddress, candidate}
 use Rattle.neighbours.specs.declared.election.Candidate.{Candidate}
 use Rattle.neighbours.specs.declared.Neighbour.{Neighbour}
 
@@ -24,8 +24,8 @@ candidates ours l = ours ∷ map candidate l
 
 -- by address alone, or (true) by priority and then address
 unfoldable pub NotAbove : Bool → Candidate → Candidate → Type 0
-NotAbove false d c = d .address ≤ c .address
-NotAbove true d c = (d .priority < c .priority) ⊎ ((d .priority ≡ c .priority) × (d .address ≤ c .address))
+NotAbove false d c = candidateAddress d ≤ candidateAddress c
+NotAbove true d c = (d .priority < c .priority) ⊎ ((d .priority ≡ c .priority) × (candidateAddress d ≤ candidateAddress c))
 
 pub record Highest (p : Bool) (all : List Candidate) (c : Candidate) : Type 0 where
   pub among : In c all

@@ -8,7 +8,7 @@ use mathlib.Core.Bool.{true}
 use mathlib.Core.List.{List, [], _∷_}
 use lib.ListN.{length}
 use Rattle.hello.specs.declared.Hello.{Hello}
-use Rattle.neighbours.specs.Rows.{most, valid}
+use Rattle.neighbours.specs.Rows.{addressOf, most, valid}
 use Rattle.neighbours.specs.Hearing.{hearing}
 use Rattle.neighbours.specs.Answers.{tableAfter}
 use Rattle.neighbours.specs.declared.Neighbour.{Neighbour}
@@ -24,4 +24,4 @@ saidOf n = record { holdtime = n .holdtime; «has_priority» = n .«has_priority
 
 unfoldable pub heardAll : Table → List Neighbour → Table
 heardAll t [] = t
-heardAll t (n ∷ l) = heardAll (tableAfter t (hearing t (n .address) (saidOf n))) l
+heardAll t (n ∷ l) = heardAll (tableAfter t (hearing t (addressOf n) (saidOf n))) l

@@ -1,5 +1,6 @@
 -- The neighbour table (01, "Neighbours and election"): "The table holds at most 16 neighbours as a state by value with its array inside."
 --     most                      how many rows there are, as `ROWS` of src/ says it of the code
+--     addressOf                 the address of a row, as a number
 --     noRow, isZero, allZero    "rows not in use are all 0"
 --     allowed                   a row that a sheet may hold (01, "The sheet")
 --     place, has                where an address stands, and whether it does
@@ -19,12 +20,16 @@ use Rattle.neighbours.specs.declared.Table.{Table}
 abbrev pub most : ℕ
 most = 16
 
+-- the address of a row as a number: tests and orders ask it here
+abbrev pub addressOf : Neighbour → ℕ
+addressOf n = n .address
+
 -- a row that is not in use
 unfoldable pub noRow : Neighbour
 noRow = record { address = 0; priority = 0; «has_priority» = false; packs = false; holdtime = 0 }
 
 unfoldable pub isZero : Neighbour → Bool
-isZero n = eqb (n .address) 0 && (eqb (n .priority) 0 && (not (n .«has_priority») && (not (n .packs) && eqb (n .holdtime) 0)))
+isZero n = eqb (addressOf n) 0 && (eqb (n .priority) 0 && (not (n .«has_priority») && (not (n .packs) && eqb (n .holdtime) 0)))
 
 unfoldable pub allZero : List Neighbour → Bool
 allZero [] = true
@@ -32,21 +37,21 @@ allZero (n ∷ l) = isZero n && allZero l
 
 -- "address, priority (0 if none), flags (1 has priority, 2 packs), a zero octet, holdtime (not 0)"; "no neighbour address 0"
 unfoldable pub allowed : Neighbour → Bool
-allowed n = not (eqb (n .address) 0) && (not (eqb (n .holdtime) 0) && (n .«has_priority» || eqb (n .priority) 0))
+allowed n = not (eqb (addressOf n) 0) && (not (eqb (n .holdtime) 0) && (n .«has_priority» || eqb (n .priority) 0))
 
 -- the number of the first row with an address; how many rows there are if none has it
 unfoldable pub place : ℕ → List Neighbour → ℕ
 place a [] = 0
-place a (n ∷ l) = cond (eqb (n .address) a) 0 (suc (place a l))
+place a (n ∷ l) = cond (eqb (addressOf n) a) 0 (suc (place a l))
 
 unfoldable pub has : ℕ → List Neighbour → Bool
 has a [] = false
-has a (n ∷ l) = eqb (n .address) a || has a l
+has a (n ∷ l) = eqb (addressOf n) a || has a l
 
 -- each row is allowed, and "no neighbour address .. twice"
 unfoldable pub sheetRows : List Neighbour → Bool
 sheetRows [] = true
-sheetRows (n ∷ l) = (allowed n && not (has (n .address) l)) && sheetRows l
+sheetRows (n ∷ l) = (allowed n && not (has (addressOf n) l)) && sheetRows l
 
 abbrev pub used : Table → List Neighbour
 used t = take (t .count) (t .rows)
@@ -59,7 +64,7 @@ unfoldable pub tableOf : List Neighbour → Table
 tableOf l = record { rows = l ++ replicate (most - length l) noRow; count = length l }
 
 abbrev pub holdsAt : Table → ℕ → Bool
-holdsAt t i = allowed (getD (t .rows) i noRow) && not (has (getD (t .rows) i noRow .address) (drop (suc i) (used t)))
+holdsAt t i = allowed (getD (t .rows) i noRow) && not (has (addressOf (getD (t .rows) i noRow)) (drop (suc i) (used t)))
 
 abbrev pub gone : ℕ → List Neighbour → List Neighbour
 gone at l = take at l ++ drop (suc at) l
