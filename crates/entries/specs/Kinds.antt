@@ -1,37 +1,49 @@
--- Entries by the kind of message, in IPv4.
---     entriesFor     the entries of a kind
---     zeroFor        whether the source of an entry may be 0
---     listedBy       01's number and values for each answer about a list
+-- Entries by the kind of message, over the family.
+--     isAssert, isStop           the kinds with asserts, and the one whose source may always be 0
+--     entriesBy, zeroBy          entries by both: what they are, and whether the source of one may be 0
+--     entriesFor                 the entries of a kind
+--     listedBy                   01's number and values for each answer about a list
 -- A hello has no entries, and no call packs one. Assumes nothing: these are definitions.
-use Prim.Native.Nat.{ℕ, _+_}
+use Prim.Native.Nat.{ℕ, _+_, _*_}
 use mathlib.Core.Bool.{Bool, true, false}
 use mathlib.Core.List.{List}
 use Rattle.octets.specs.Octets.{numberAt}
 use Rattle.records.specs.Records.{rBit}
 use Rattle.format.specs.Outcome.{Outcome, gives, refuses}
-use Rattle.format.specs.Family.{ipv4}
+use Rattle.format.specs.Family.{Family, familyOf}
 use Rattle.format.specs.Entry.{Entries, assertEntries, pairEntries}
 use Rattle.format.specs.declared.Kind.{Kind}
 use Rattle.format.specs.declared.Kind.the-variants.{Hello, Assert, Simple, Aggregated, NullRegister, RegisterStop}
 use Rattle.entries.specs.declared.Listed.{Listed}
 use Rattle.entries.specs.declared.Listed.the-variants.{Allowed, Bad}
 
-abbrev pub entriesFor : Kind → Entries
-entriesFor Hello = assertEntries ipv4
-entriesFor Assert = assertEntries ipv4
-entriesFor Simple = assertEntries ipv4
-entriesFor Aggregated = assertEntries ipv4
-entriesFor NullRegister = pairEntries ipv4 false
-entriesFor RegisterStop = pairEntries ipv4 true
+abbrev pub isAssert : Kind → Bool
+isAssert Hello = true
+isAssert Assert = true
+isAssert Simple = true
+isAssert Aggregated = true
+isAssert NullRegister = false
+isAssert RegisterStop = false
 
--- of an assert by its R bit, at octet 8 of the entry
-unfoldable pub zeroFor : Kind → List ℕ → ℕ → Bool
-zeroFor Hello o at = rBit (numberAt 4 o (at + 8))
-zeroFor Assert o at = rBit (numberAt 4 o (at + 8))
-zeroFor Simple o at = rBit (numberAt 4 o (at + 8))
-zeroFor Aggregated o at = rBit (numberAt 4 o (at + 8))
-zeroFor NullRegister o at = false
-zeroFor RegisterStop o at = true
+abbrev pub isStop : Kind → Bool
+isStop Hello = false
+isStop Assert = false
+isStop Simple = false
+isStop Aggregated = false
+isStop NullRegister = false
+isStop RegisterStop = true
+
+abbrev pub entriesBy : Family → Bool → Bool → Entries
+entriesBy f true stop = assertEntries f
+entriesBy f false stop = pairEntries f stop
+
+abbrev pub entriesFor : Bool → Kind → Entries
+entriesFor ipv6 k = entriesBy (familyOf ipv6) (isAssert k) (isStop k)
+
+-- of an assert by its R bit, past its group and its source
+unfoldable pub zeroBy : Family → Bool → Bool → List ℕ → ℕ → Bool
+zeroBy f true stop o at = rBit (numberAt 4 o (at + 2 * f .width))
+zeroBy f false stop o at = stop
 
 -- "7 with the number of the first bad entry"
 unfoldable pub listedBy : Listed → Outcome (Unit {0})

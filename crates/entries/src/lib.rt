@@ -1,19 +1,18 @@
-// Entries by the kind of message that is made of them: their size, the R bit, which are allowed, and the first that is
-// not. Octets past the last whole entry are not looked at.
+// Entries by the kind of message that is made of them: their size, which are allowed, and the first that is not. Octets
+// past the last whole entry are not looked at.
+use addresses::address_at;
+use addresses::is_multicast;
+use addresses::is_source;
+use addresses::width;
 use format::Kind;
+use format::r_bit;
 use octets::number32;
 ghost use mathlib.Core.Path.{_≡_};
 ghost use Prim.Native.Nat.{_+_, _≤_};
 ghost use lib.ListN.{length};
-ghost use Rattle.octets.specs.Octets.{numberAt};
-ghost use Rattle.records.specs.Records.{rBit};
+ghost use Rattle.format.specs.Family.{familyOf};
 ghost use Rattle.format.specs.Packing.{firstBad};
-ghost use Rattle.entries.specs.Kinds.{entriesFor, zeroFor, listedBy};
-
-// Groups lie in 224.0.0.0/4.
-const FIRST_GROUP: u32 = 0xe000_0000;
-
-const PAST_GROUPS: u32 = 0xf000_0000;
+ghost use Rattle.entries.specs.Kinds.{isAssert, isStop, entriesFor, zeroBy, listedBy};
 
 // Whether the entries of a list are allowed.
 pub enum Listed {
@@ -22,65 +21,76 @@ pub enum Listed {
     Bad(usize),
 }
 
-// The octets of an entry.
-pub fn entry_size(kind: Kind) -> usize
-    ensures { λ r. ⌜ r ≡ entriesFor kind .size ⌝ }
+// Whether entries are asserts: R with preference and metric stand past group and source.
+pub fn is_assert(kind: Kind) -> bool
+    ensures { λ r. ⌜ r ≡ isAssert kind ⌝ }
 {
     match kind {
-        Kind::Hello => 16,
-        Kind::Assert => 16,
-        Kind::Simple => 16,
-        Kind::Aggregated => 16,
-        Kind::NullRegister => 8,
-        Kind::RegisterStop => 8,
+        Kind::Hello => true,
+        Kind::Assert => true,
+        Kind::Simple => true,
+        Kind::Aggregated => true,
+        Kind::NullRegister => false,
+        Kind::RegisterStop => false,
     }
 }
 
-// R is the highest bit of the word at a place.
-pub fn r_bit(e: &[u8], at: usize) -> bool
-    ensures { λ r. ⌜ r ≡ rBit (numberAt 4 (now (e .entry)) at) ⌝ }
-{
-    0x8000_0000 <= number32(e, at)
-}
-
-// Whether the source of an entry may be 0.
-fn zero_allowed(kind: Kind, e: &[u8], at: usize) -> bool
-    requires { ⌜ at + entriesFor kind .size ≤ length (now e) ⌝ }
-    ensures { λ r. ⌜ r ≡ zeroFor kind (now (e .entry)) at ⌝ }
+fn is_stop(kind: Kind) -> bool
+    ensures { λ r. ⌜ r ≡ isStop kind ⌝ }
 {
     match kind {
-        Kind::Hello => r_bit(e, at + 8),
-        Kind::Assert => r_bit(e, at + 8),
-        Kind::Simple => r_bit(e, at + 8),
-        Kind::Aggregated => r_bit(e, at + 8),
+        Kind::Hello => false,
+        Kind::Assert => false,
+        Kind::Simple => false,
+        Kind::Aggregated => false,
         Kind::NullRegister => false,
         Kind::RegisterStop => true,
     }
 }
 
-// Whether an entry is allowed: by its group, and by its source, which is not 0 where it may not be.
-fn allowed(kind: Kind, e: &[u8], at: usize) -> bool
-    requires { ⌜ at + entriesFor kind .size ≤ length (now e) ⌝ }
-    ensures { λ r. ⌜ r ≡ entriesFor kind .allowedAt (now (e .entry)) at ⌝ }
+// The octets of an entry.
+pub fn entry_size(ipv6: bool, kind: Kind) -> usize
+    ensures { λ r. ⌜ r ≡ entriesFor ipv6 kind .size ⌝ }
 {
-    let g = number32(&e[at..at + 4], 0);
-    if g < FIRST_GROUP {
+    let pair = 2 * width(ipv6);
+    if is_assert(kind) {
+        return pair + 8;
+    }
+    pair
+}
+
+// Whether the source of an entry may be 0: of an assert by its R bit, of a pair by the kind.
+fn zero_allowed(ipv6: bool, kind: Kind, e: &[u8], at: usize) -> bool
+    requires { ⌜ at + entriesFor ipv6 kind .size ≤ length (now e) ⌝ }
+    ensures { λ r. ⌜ r ≡ zeroBy (familyOf ipv6) (isAssert kind) (isStop kind) (now (e .entry)) at ⌝ }
+{
+    if is_assert(kind) {
+        return r_bit(number32(e, at + 2 * width(ipv6)));
+    }
+    is_stop(kind)
+}
+
+// Whether an entry is allowed: by its group, and by its source, which is not 0 where it may not be.
+fn allowed(ipv6: bool, kind: Kind, e: &[u8], at: usize) -> bool
+    requires { ⌜ at + entriesFor ipv6 kind .size ≤ length (now e) ⌝ }
+    ensures { λ r. ⌜ r ≡ entriesFor ipv6 kind .allowedAt (now (e .entry)) at ⌝ }
+{
+    if !is_multicast(ipv6, e[at]) {
         return false;
     }
-    if PAST_GROUPS <= g {
-        return false;
-    }
-    if number32(&e[at + 4..at + 8], 0) != 0 {
+    let w = width(ipv6);
+    let source = address_at(ipv6, &e[at + w..at + 2 * w], 0);
+    if is_source(ipv6, source) {
         return true;
     }
-    zero_allowed(kind, e, at)
+    zero_allowed(ipv6, kind, e, at)
 }
 
 // The first entry from a number on that a message of a kind may not have.
-pub fn first_bad(kind: Kind, e: &[u8], start: usize) -> Listed
-    ensures { λ r. ⌜ listedBy r ≡ firstBad (entriesFor kind) (now (e .entry)) start ⌝ }
+pub fn first_bad(ipv6: bool, kind: Kind, e: &[u8], start: usize) -> Listed
+    ensures { λ r. ⌜ listedBy r ≡ firstBad (entriesFor ipv6 kind) (now (e .entry)) start ⌝ }
 {
-    let size = entry_size(kind);
+    let size = entry_size(ipv6, kind);
     let count = e.len() / size;
     if count < start {
         return Listed::Allowed;
@@ -88,7 +98,7 @@ pub fn first_bad(kind: Kind, e: &[u8], start: usize) -> Listed
     let mut i = start;
     let mut at = size * start;
     while i < count {
-        if !allowed(kind, e, at) {
+        if !allowed(ipv6, kind, e, at) {
             return Listed::Bad(i);
         }
         i += 1;

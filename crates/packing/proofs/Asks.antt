@@ -3,6 +3,7 @@
 --     limit-usual, limit-low, limit-high, limit-within     the limit as read
 --     ask-limit, ask-room, ask-part, ask-start, ask-bad, ask-fine     the call is refused with 9, 8, 10, 7, or goes on
 -- Assumes nothing.
+use mathlib.Core.Bool.{false}
 use Prim.Native.Nat.{ℕ, _-_, _/_, _%_, _≤_, _<_}
 use mathlib.Core.Path.{_≡_, sym, ap, _∙_}
 use mathlib.Core.List.{List}
@@ -26,13 +27,13 @@ use Rattle.entries.proofs.ByKind.{family-is}
 
 -- what the answer about the limit says
 module _ (k : Kind) (limit : ℕ) {x : Limit} where
-  pub read-gives : {l : ℕ} → x ≡ Is l → limitOf x ≡ readLimit ipv4 limit → readLimit (entriesFor k .family) limit ≡ gives l
+  pub read-gives : {l : ℕ} → x ≡ Is l → limitOf x ≡ readLimit ipv4 limit → readLimit (entriesFor false k .family) limit ≡ gives l
   unfolding limitOf
-  read-gives p q = rw (family-is k) (sym q ∙ ap limitOf p)
+  read-gives p q = rw (family-is false k) (sym q ∙ ap limitOf p)
 
-  pub read-refuses : {r : Refusal} → x ≡ Refused r → limitOf x ≡ readLimit ipv4 limit → readLimit (entriesFor k .family) limit ≡ refuses (r .number) (r .place)
+  pub read-refuses : {r : Refusal} → x ≡ Refused r → limitOf x ≡ readLimit ipv4 limit → readLimit (entriesFor false k .family) limit ≡ refuses (r .number) (r .place)
   unfolding limitOf
-  read-refuses p q = rw (family-is k) (sym q ∙ ap limitOf p)
+  read-refuses p q = rw (family-is false k) (sym q ∙ ap limitOf p)
 
 module _ (limit : ℕ) where
   pub limit-usual : limit ≡ 0 → readLimit ipv4 limit ≡ gives usualLimit

@@ -32,8 +32,8 @@ unfolding assertOctets pairOctets assertAt pairAt
 assert-is o at = let e : at + 8 + 4 ≡ at + 12 = omega arith in rw (append-assoc, e)
 
 module _ (o : List ℕ) (at : ℕ) where
-  pub record-long : (k : Kind) → entriesFor k .size ≡ 16
-      → recordOctets k (entriesFor k .entryAt o at) ≡ pairOctets ipv4 (pairAt ipv4 o at) ++ (be 4 (numberAt 4 o (at + 8)) ++ be 4 (numberAt 4 o (at + 12)))
+  pub record-long : (k : Kind) → entriesFor false k .size ≡ 16
+      → recordOctets k (entriesFor false k .entryAt o at) ≡ pairOctets ipv4 (pairAt ipv4 o at) ++ (be 4 (numberAt 4 o (at + 8)) ++ be 4 (numberAt 4 o (at + 12)))
   unfolding recordOctets
   record-long Hello h = assert-is o at
   record-long Assert h = assert-is o at
@@ -42,7 +42,7 @@ module _ (o : List ℕ) (at : ℕ) where
   record-long NullRegister h = absurd (omega arith)
   record-long RegisterStop h = absurd (omega arith)
 
-  pub record-short : (k : Kind) → (entriesFor k .size ≡ 16 → ⊥) → recordOctets k (entriesFor k .entryAt o at) ≡ pairOctets ipv4 (pairAt ipv4 o at)
+  pub record-short : (k : Kind) → (entriesFor false k .size ≡ 16 → ⊥) → recordOctets k (entriesFor false k .entryAt o at) ≡ pairOctets ipv4 (pairAt ipv4 o at)
   unfolding recordOctets
   record-short Hello h = absurd (h refl)
   record-short Assert h = absurd (h refl)
@@ -51,7 +51,7 @@ module _ (o : List ℕ) (at : ℕ) where
   record-short NullRegister h = refl
   record-short RegisterStop h = refl
 
-pub record-sized : (k : Kind) (e : entriesFor k .Entry) → length (recordOctets k e) ≡ recordSize k
+pub record-sized : (k : Kind) (e : entriesFor false k .Entry) → length (recordOctets k e) ≡ recordSize k
 unfolding recordOctets
 record-sized Hello e = length-assert ipv4 e
 record-sized Assert e = length-assert ipv4 e
@@ -167,7 +167,7 @@ aggregated-is Aggregated h = refl
 aggregated-is NullRegister h = cc
 aggregated-is RegisterStop h = cc
 
-pub each-record : (k : Kind) → isAggregated k ≡ false → (es : List (entriesFor k .Entry)) → recordsFor k es ≡ each (recordOctets k) es
+pub each-record : (k : Kind) → isAggregated k ≡ false → (es : List (entriesFor false k .Entry)) → recordsFor k es ≡ each (recordOctets k) es
 unfolding isAggregated recordsFor
 each-record Hello h es = refl
 each-record Assert h es = refl

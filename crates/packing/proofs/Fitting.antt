@@ -25,25 +25,25 @@ use Rattle.entries.specs.Kinds.{entriesFor}
 use Rattle.packing.specs.Kinds.{formFor, recordSize, recordOctets, isAggregated, recordsFor, frontOf, headSize, Packs, fitting}
 use Rattle.packing.proofs.ByKind.{record-sized, kind-is, most-is, each-record}
 
-pub records-long : (k : Kind) → isAggregated k ≡ false → (o : List ℕ) (from n : ℕ) → length (recordsFor k (entriesAt (entriesFor k) o from n)) ≡ recordSize k * n
+pub records-long : (k : Kind) → isAggregated k ≡ false → (o : List ℕ) (from n : ℕ) → length (recordsFor k (entriesAt (entriesFor false k) o from n)) ≡ recordSize k * n
 records-long k fixed o from n =
-    ap length (each-record k fixed (entriesAt (entriesFor k) o from n))
-    ∙ length-each (recordOctets k) (recordSize k) (record-sized k) (entriesAt (entriesFor k) o from n)
-    ∙ ap (λ m. recordSize k * m) (length-entriesAt (entriesFor k) o from n)
+    ap length (each-record k fixed (entriesAt (entriesFor false k) o from n))
+    ∙ length-each (recordOctets k) (recordSize k) (record-sized k) (entriesAt (entriesFor false k) o from n)
+    ∙ ap (λ m. recordSize k * m) (length-entriesAt (entriesFor false k) o from n)
 
 module _ (k : Kind) (packs : Packs k) where
-  pub canonical-is : (es : List (entriesFor k .Entry)) → canonical (formFor k) es ≡ message k (frontOf k ++ recordsFor k es)
+  pub canonical-is : (es : List (entriesFor false k .Entry)) → canonical (formFor k) es ≡ message k (frontOf k ++ recordsFor k es)
   unfolding canonical
   canonical-is es = rw (kind-is k, packs .body es)
 
-  pub length-is : (es : List (entriesFor k .Entry)) → length (canonical (formFor k) es) ≡ headSize k + length (recordsFor k es)
+  pub length-is : (es : List (entriesFor false k .Entry)) → length (canonical (formFor k) es) ≡ headSize k + length (recordsFor k es)
   length-is es = rw (canonical-is es, length-message, length-append) (omega arith)
 
   module _ (fixed : isAggregated k ≡ false) where
-    length-fixed : (es : List (entriesFor k .Entry)) → length (canonical (formFor k) es) ≡ headSize k + recordSize k * length es
+    length-fixed : (es : List (entriesFor false k .Entry)) → length (canonical (formFor k) es) ≡ headSize k + recordSize k * length es
     length-fixed es = length-is es ∙ ap (λ n. headSize k + n) (ap length (each-record k fixed es) ∙ length-each (recordOctets k) (recordSize k) (record-sized k) es)
 
-    module _ (l : ℕ) (es : List (entriesFor k .Entry)) (room : headSize k ≤ l) where
+    module _ (l : ℕ) (es : List (entriesFor false k .Entry)) (room : headSize k ≤ l) where
       fits : ℕ → Bool
       fits n = leb (length (canonical (formFor k) (take n es))) l
 
@@ -71,6 +71,6 @@ module _ (k : Kind) (packs : Packs k) where
           le-leb _ l (omega (arith, prefix n inside, mul-div-le (l - headSize k) (recordSize k))))
           (λ less.
           let all : n ≡ (l - headSize k) / recordSize k = omega arith in
-          let past : l - headSize k < recordSize k * ((l - headSize k) / recordSize k + 1) = lt-mul-div-succ (l - headSize k) {b = recordSize k} (omega (arith, size-range k)) in
+          let past : l - headSize k < recordSize k * ((l - headSize k) / recordSize k + 1) = lt-mul-div-succ (l - headSize k) {b = recordSize k} (omega (arith, size-range false k)) in
           let same : recordSize k * suc n ≡ recordSize k * ((l - headSize k) / recordSize k + 1) = ap (λ m. recordSize k * m) (omega arith) in
           lt-leb _ l (omega (arith, prefix (suc n) (omega arith))))

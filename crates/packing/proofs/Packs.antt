@@ -3,6 +3,7 @@
 --     asked-limit, asked-inside, asked-there     the limit, and the entries from the start on
 --     call-refused, call-packs       the call is refused, or packs them
 -- Assumes nothing.
+use mathlib.Core.Bool.{false}
 use Prim.Native.Nat.{ℕ, _+_, _-_, _*_, _/_, _≤_}
 use native.Mathlib.Omega.{arith}
 use mathlib.Core.Path.{_≡_, refl, sym, ap, ap₂, _∙_}
@@ -46,23 +47,23 @@ unfolding packing written Outcome._>>=_
 call-refused F o start limit d n p e = rw e
 
 -- the limit that was read, and the entries from the start on are there
-module _ (k : Kind) (o : List ℕ) (start limit : ℕ) (room l : ℕ) (h : Asked (entriesFor k) o start limit room l) where
+module _ (k : Kind) (o : List ℕ) (start limit : ℕ) (room l : ℕ) (h : Asked (entriesFor false k) o start limit room l) where
   pub asked-limit : 38 ≤ l
   unfolding leastLimit usualLimit
-  asked-limit = limit-range ipv4 limit l (rw (family-is k) at (h .limitRead)) .0 (omega arith)
+  asked-limit = limit-range ipv4 limit l (rw (family-is false k) at (h .limitRead)) .0 (omega arith)
 
-  pub asked-inside : start ≤ length o / entriesFor k .size
+  pub asked-inside : start ≤ length o / entriesFor false k .size
   unfolding count
   asked-inside = h .inside
 
-  pub asked-there : entriesFor k .size * start + entriesFor k .size * (length o / entriesFor k .size - start) ≤ length o
-  asked-there = rest-there (entriesFor k) o start asked-inside
+  pub asked-there : entriesFor false k .size * start + entriesFor false k .size * (length o / entriesFor false k .size - start) ≤ length o
+  asked-there = rest-there (entriesFor false k) o start asked-inside
 
 -- a call that is not refused packs the entries from the start on
-pub call-packs : (k : Kind) (o : List ℕ) (start limit l : ℕ) (d : List ℕ) (p : Packed) → Asked (entriesFor k) o start limit (length d) l
-    → p ≡ pack (formFor k) l (entriesAt (entriesFor k) o (entriesFor k .size * start) (length o / entriesFor k .size - start))
+pub call-packs : (k : Kind) (o : List ℕ) (start limit l : ℕ) (d : List ℕ) (p : Packed) → Asked (entriesFor false k) o start limit (length d) l
+    → p ≡ pack (formFor k) l (entriesAt (entriesFor false k) o (entriesFor false k .size * start) (length o / entriesFor false k .size - start))
     → packing (formFor k) o start limit d ≡ record { answer = gives (wrote (length (octetsOf p)) (tookOf p)); buffer = put d 0 (octetsOf p) }
 unfolding packing packDue written count Outcome._>>=_
 call-packs k o start limit l d p h e =
-    let left : drop start (entriesOf (entriesFor k) o) ≡ entriesAt (entriesFor k) o (entriesFor k .size * start) (length o / entriesFor k .size - start) = drop-entries (entriesFor k) o start (h .inside) in
-    rw (asked-gives (entriesFor k) o start limit (length d) l h, left, ← e)
+    let left : drop start (entriesOf (entriesFor false k) o) ≡ entriesAt (entriesFor false k) o (entriesFor false k .size * start) (length o / entriesFor false k .size - start) = drop-entries (entriesFor false k) o start (h .inside) in
+    rw (asked-gives (entriesFor false k) o start limit (length d) l h, left, ← e)

@@ -75,33 +75,33 @@ fixed-some Aggregated packs fixed n limit some room = let never : _≡_ {A = ℕ
 fixed-some NullRegister packs fixed n limit some room = omega arith
 fixed-some RegisterStop packs fixed n limit some room = omega arith
 
-pub taken-some : (k : Kind) → Packs k → (o : List ℕ) (from n limit : ℕ) → 0 < n → 38 ≤ limit → 0 < taken (formFor k) limit (entriesAt (entriesFor k) o from n)
+pub taken-some : (k : Kind) → Packs k → (o : List ℕ) (from n limit : ℕ) → 0 < n → 38 ≤ limit → 0 < taken (formFor k) limit (entriesAt (entriesFor false k) o from n)
 taken-some k packs o from n limit some room = go (isAggregated k) refl
   where
-    go : (b : Bool) → isAggregated k ≡ b → 0 < taken (formFor k) limit (entriesAt (entriesFor k) o from n)
+    go : (b : Bool) → isAggregated k ≡ b → 0 < taken (formFor k) limit (entriesAt (entriesFor false k) o from n)
     go true joins = rw (aggregated-is k joins) (taken-one o from n limit some room)
     go false fixed =
-        rw (taken-fixed k packs fixed limit (entriesAt (entriesFor k) o from n) (omega (arith, head-range k)), length-entriesAt (entriesFor k) o from n)
+        rw (taken-fixed k packs fixed limit (entriesAt (entriesFor false k) o from n) (omega (arith, head-range k)), length-entriesAt (entriesFor false k) o from n)
         (fixed-some k packs fixed n limit some room)
 
 -- ---- the message
 
-module _ (k : Kind) (o : List ℕ) (from n l t : ℕ) (e : t ≡ taken (formFor k) l (entriesAt (entriesFor k) o from n)) where
+module _ (k : Kind) (o : List ℕ) (from n l t : ℕ) (e : t ≡ taken (formFor k) l (entriesAt (entriesFor false k) o from n)) where
   pub most-inside : t ≤ n
   most-inside =
-      let long = length-entriesAt (entriesFor k) o from n in
-      omega (arith, e, taken-most (formFor k) l (entriesAt (entriesFor k) o from n), most-is k (length (entriesAt (entriesFor k) o from n)))
+      let long = length-entriesAt (entriesFor false k) o from n in
+      omega (arith, e, taken-most (formFor k) l (entriesAt (entriesFor false k) o from n), most-is k (length (entriesAt (entriesFor false k) o from n)))
 
-  pub most-none : n ≡ 0 → pack (formFor k) l (entriesAt (entriesFor k) o from n) ≡ packed [] 0
-  most-none z = pack-none (formFor k) l (entriesAt (entriesFor k) o from n) (omega (arith, e, most-inside))
+  pub most-none : n ≡ 0 → pack (formFor k) l (entriesAt (entriesFor false k) o from n) ≡ packed [] 0
+  most-none z = pack-none (formFor k) l (entriesAt (entriesFor false k) o from n) (omega (arith, e, most-inside))
 
-  first-taken : take (taken (formFor k) l (entriesAt (entriesFor k) o from n)) (entriesAt (entriesFor k) o from n) ≡ entriesAt (entriesFor k) o from t
-  first-taken = rw (← e) (take-entries (entriesFor k) o t n from most-inside)
+  first-taken : take (taken (formFor k) l (entriesAt (entriesFor false k) o from n)) (entriesAt (entriesFor false k) o from n) ≡ entriesAt (entriesFor false k) o from t
+  first-taken = rw (← e) (take-entries (entriesFor false k) o t n from most-inside)
 
-  pub most-fits : 0 < t → length (canonical (formFor k) (entriesAt (entriesFor k) o from t)) ≤ l
-  most-fits some = rw first-taken at (taken-fits (formFor k) l (entriesAt (entriesFor k) o from n) (rw e at some))
+  pub most-fits : 0 < t → length (canonical (formFor k) (entriesAt (entriesFor false k) o from t)) ≤ l
+  most-fits some = rw first-taken at (taken-fits (formFor k) l (entriesAt (entriesFor false k) o from n) (rw e at some))
 
-  pub most-some : 0 < t → pack (formFor k) l (entriesAt (entriesFor k) o from n) ≡ packed (canonical (formFor k) (entriesAt (entriesFor k) o from t)) t
+  pub most-some : 0 < t → pack (formFor k) l (entriesAt (entriesFor false k) o from n) ≡ packed (canonical (formFor k) (entriesAt (entriesFor false k) o from t)) t
   most-some some =
-      pack-some (formFor k) l (entriesAt (entriesFor k) o from n) (rw e at some)
+      pack-some (formFor k) l (entriesAt (entriesFor false k) o from n) (rw e at some)
       ∙ ap₂ packed (ap (canonical (formFor k)) first-taken) (sym e)

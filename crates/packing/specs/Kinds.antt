@@ -24,7 +24,7 @@ use Rattle.format.specs.declared.Kind.{Kind}
 use Rattle.format.specs.declared.Kind.the-variants.{Hello, Assert, Simple, Aggregated, NullRegister, RegisterStop}
 use Rattle.entries.specs.Kinds.{entriesFor}
 
-abbrev pub formFor : (k : Kind) → Form (entriesFor k)
+abbrev pub formFor : (k : Kind) → Form (entriesFor false k)
 formFor Hello = record { kind = Hello; atMost = λ n. 0; body = λ es. []; size = λ es. 4 }
 formFor Assert = plain ipv4
 formFor Simple = simple ipv4
@@ -34,9 +34,9 @@ formFor RegisterStop = registerStop ipv4
 
 -- 01, 00, 00, 20 before the group, 01, 00 before the source
 abbrev pub recordSize : Kind → ℕ
-recordSize k = entriesFor k .size + 6
+recordSize k = entriesFor false k .size + 6
 
-unfoldable pub recordOctets : (k : Kind) → entriesFor k .Entry → List ℕ
+unfoldable pub recordOctets : (k : Kind) → entriesFor false k .Entry → List ℕ
 recordOctets Hello = assertOctets ipv4
 recordOctets Assert = assertOctets ipv4
 recordOctets Simple = assertOctets ipv4
@@ -52,7 +52,7 @@ isAggregated Aggregated = true
 isAggregated NullRegister = false
 isAggregated RegisterStop = false
 
-unfoldable pub recordsFor : (k : Kind) → List (entriesFor k .Entry) → List ℕ
+unfoldable pub recordsFor : (k : Kind) → List (entriesFor false k .Entry) → List ℕ
 recordsFor Hello es = each (recordOctets Hello) es
 recordsFor Assert es = each (recordOctets Assert) es
 recordsFor Simple es = each (recordOctets Simple) es
@@ -83,7 +83,7 @@ isPacked k = ltb 0 (formFor k .atMost 1)
 
 pub record Packs (k : Kind) : Type 0 where
   pub some : isPacked k ≡ true
-  pub body : (es : List (entriesFor k .Entry)) → formFor k .body es ≡ frontOf k & recordsFor k es
+  pub body : (es : List (entriesFor false k .Entry)) → formFor k .body es ≡ frontOf k & recordsFor k es
 
 -- as many records as there is room for past the head, and no more than there are entries
 unfoldable pub fitting : Kind → ℕ → ℕ → ℕ

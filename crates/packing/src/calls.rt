@@ -31,7 +31,7 @@ fn pack(kind: Kind, e: &[u8], start: usize, limit: usize, d: &mut [u8]) -> Packi
     match x {
         Limit::Refused(r) => Packing::Refused(r),
         Limit::Is(l) => {
-            let size = entry_size(kind);
+            let size = entry_size(false, kind);
             let w = write_most(kind, e, size * start, e.len() / size - start, l, d);
             Packing::Wrote {
                 length: w.next,

@@ -7,6 +7,7 @@ use format::Kind;
 use format::LEAST_LIMIT;
 use format::Refusal;
 use format::USUAL_LIMIT;
+ghost use mathlib.Core.Bool.{false};
 ghost use mathlib.Core.Path.{_≡_};
 ghost use Rattle.format.specs.Family.{ipv4};
 ghost use Rattle.format.specs.Packing.{readLimit, asked as askedOf};
@@ -42,13 +43,13 @@ fn read_limit(limit: usize) -> Limit
 
 // The limit as read, where nothing is to be refused.
 pub(crate) fn asked(kind: Kind, e: &[u8], start: usize, limit: usize, room: usize) -> Limit
-    ensures { λ r. ⌜ limitOf r ≡ limited (askedOf (entriesFor kind) (now (e .entry)) start limit room) ⌝ }
+    ensures { λ r. ⌜ limitOf r ≡ limited (askedOf (entriesFor false kind) (now (e .entry)) start limit room) ⌝ }
 {
     let x = read_limit(limit);
     let Limit::Is(l) = x else {
         return x;
     };
-    let size = entry_size(kind);
+    let size = entry_size(false, kind);
     let count = e.len() / size;
     if room < l {
         return refused(8, 0);
@@ -59,7 +60,7 @@ pub(crate) fn asked(kind: Kind, e: &[u8], start: usize, limit: usize, room: usiz
     if count < start {
         return refused(10, 0);
     }
-    let bad = first_bad(kind, e, start);
+    let bad = first_bad(false, kind, e, start);
     match bad {
         Listed::Allowed => x,
         Listed::Bad(i) => refused(7, i),

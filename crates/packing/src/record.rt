@@ -2,6 +2,7 @@
 // record fits.
 use entries::entry_size;
 use format::Kind;
+ghost use mathlib.Core.Bool.{false};
 ghost use mathlib.Core.Path.{_≡_};
 ghost use Prim.Native.Nat.{_+_, _*_, _≤_};
 ghost use lib.ListN.{length};
@@ -70,11 +71,11 @@ pub(crate) fn put_metric(e: &[u8], at: usize, d: &mut [u8], out: usize)
 
 // A record; the 16 octets of an assert entry go on with R, preference and metric.
 fn put_record(kind: Kind, e: &[u8], at: usize, d: &mut [u8], out: usize)
-    requires { ⌜ (at + entriesFor kind .size ≤ length (now e)) × (out + recordSize kind ≤ length (now d)) ⌝ }
-    ensures { λ r. ⌜ now (d .exit) ≡ put (now (d .entry)) out (recordOctets kind (entriesFor kind .entryAt (now (e .entry)) at)) ⌝ }
+    requires { ⌜ (at + entriesFor false kind .size ≤ length (now e)) × (out + recordSize kind ≤ length (now d)) ⌝ }
+    ensures { λ r. ⌜ now (d .exit) ≡ put (now (d .entry)) out (recordOctets kind (entriesFor false kind .entryAt (now (e .entry)) at)) ⌝ }
 {
     put_pair(e, at, d, out);
-    if entry_size(kind) == 16 {
+    if entry_size(false, kind) == 16 {
         put_metric(e, at, d, out + 14);
     }
 }
@@ -88,11 +89,11 @@ pub(crate) fn put_records(
     d: &mut [u8],
     start: usize,
 ) -> usize
-    requires { ⌜ (from + entriesFor kind .size * n ≤ length (now e)) × (start + recordSize kind * n ≤ length (now d)) ⌝ }
+    requires { ⌜ (from + entriesFor false kind .size * n ≤ length (now e)) × (start + recordSize kind * n ≤ length (now d)) ⌝ }
     ensures next { λ r. ⌜ r ≡ start + recordSize kind * n ⌝ }
-    ensures buffer { λ r. ⌜ now (d .exit) ≡ put (now (d .entry)) start (each (recordOctets kind) (entriesAt (entriesFor kind) (now (e .entry)) from n)) ⌝ }
+    ensures buffer { λ r. ⌜ now (d .exit) ≡ put (now (d .entry)) start (each (recordOctets kind) (entriesAt (entriesFor false kind) (now (e .entry)) from n)) ⌝ }
 {
-    let size = entry_size(kind);
+    let size = entry_size(false, kind);
     let mut i = 0;
     let mut at = from;
     let mut out = start;

@@ -9,7 +9,7 @@ use crate::run::group_run;
 use crate::run::rp_run;
 use crate::run::source_run;
 use crate::run::word;
-use entries::r_bit;
+use format::r_bit;
 ghost use mathlib.Core.Path.{_≡_};
 ghost use mathlib.Core.Bool.{true, false};
 ghost use Prim.Native.Nat.{_+_, _-_, _*_, _/_, _≤_, _<_, min};
@@ -207,7 +207,7 @@ fn put_aggregated_within(
     ensures next { λ r. ⌜ r .next ≡ out + length (oneOf Aggregated (asserts (now (e .entry)) from (r .taken))) ⌝ }
     ensures buffer { λ r. ⌜ now (d .exit) ≡ put (now (d .entry)) out (oneOf Aggregated (asserts (now (e .entry)) from (r .taken))) ⌝ }
 {
-    if r_bit(e, from + 8) {
+    if r_bit(word(e, from + 8)) {
         return put_rp_within(e, from, n, d, out, limit);
     }
     put_source_within(e, from, n, d, out, limit)

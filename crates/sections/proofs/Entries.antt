@@ -46,7 +46,7 @@ module _ (o : List ℕ) (from n : ℕ) (there : from + n ≤ length o) where
         number-part o from n there (f .width) (at + f .width) (from + at + f .width) (omega arith) (omega arith),
       )
 
-  pub allowed-part : (k : Kind) (at : ℕ) → at + entriesFor k .size ≤ n → entriesFor k .allowedAt (take n (drop from o)) at ≡ entriesFor k .allowedAt o (from + at)
+  pub allowed-part : (k : Kind) (at : ℕ) → at + entriesFor false k .size ≤ n → entriesFor false k .allowedAt (take n (drop from o)) at ≡ entriesFor false k .allowedAt o (from + at)
   allowed-part Hello at h = ap (allowedAssert _) (assert-part _ at h)
   allowed-part Assert at h = ap (allowedAssert _) (assert-part _ at h)
   allowed-part Simple at h = ap (allowedAssert _) (assert-part _ at h)
@@ -91,44 +91,44 @@ module _ (E : Entries) (o s : List ℕ) (from n : ℕ) (same : (at : ℕ) → at
 
 -- the octets of so many entries from a place on
 abbrev section : Kind → List ℕ → ℕ → ℕ → List ℕ
-section k o from m = take (entriesFor k .size * m) (drop from o)
+section k o from m = take (entriesFor false k .size * m) (drop from o)
 
 -- what `first_bad` promises of them
 abbrev pub Found : Kind → List ℕ → ℕ → ℕ → Listed → Type 0
-Found k o from m x = listedBy x ≡ firstBad (entriesFor k) (section k o from m) 0
+Found k o from m x = listedBy x ≡ firstBad (entriesFor false k) (section k o from m) 0
 
-module _ (k : Kind) (o : List ℕ) (from m : ℕ) (there : from + entriesFor k .size * m ≤ length o) where
-  part-count : count (entriesFor k) (section k o from m) ≡ m
+module _ (k : Kind) (o : List ℕ) (from m : ℕ) (there : from + entriesFor false k .size * m ≤ length o) where
+  part-count : count (entriesFor false k) (section k o from m) ≡ m
   unfolding count
   part-count =
-      let full : length (section k o from m) ≡ entriesFor k .size * m =
-      length-take-le (entriesFor k .size * m) (drop from o) (simp length-drop (omega arith)) in
-      rw full (mul-div-cancel-left m (omega (arith, size-range k)))
+      let full : length (section k o from m) ≡ entriesFor false k .size * m =
+      length-take-le (entriesFor false k .size * m) (drop from o) (simp length-drop (omega arith)) in
+      rw full (mul-div-cancel-left m (omega (arith, size-range false k)))
 
-  section-is : checkEntries (entriesFor k) o from m ≡ placed from (entriesFor k .size) (firstBad (entriesFor k) (section k o from m) 0)
+  section-is : checkEntries (entriesFor false k) o from m ≡ placed from (entriesFor false k .size) (firstBad (entriesFor false k) (section k o from m) 0)
   unfolding firstBad
   section-is =
-      let none : entriesFor k .size * 0 ≡ 0 = mul-zero (entriesFor k .size) in
-      let all : count (entriesFor k) (section k o from m) - 0 ≡ m = omega (arith, part-count) in
+      let none : entriesFor false k .size * 0 ≡ 0 = mul-zero (entriesFor false k .size) in
+      let all : count (entriesFor false k) (section k o from m) - 0 ≡ m = omega (arith, part-count) in
       rw all
-      (check-part (entriesFor k) o (section k o from m) from (entriesFor k .size * m) (allowed-part o from (entriesFor k .size * m) there k)
-      m 0 from (entriesFor k .size * 0) refl (omega arith) (omega arith))
+      (check-part (entriesFor false k) o (section k o from m) from (entriesFor false k .size * m) (allowed-part o from (entriesFor false k .size * m) there k)
+      m 0 from (entriesFor false k .size * 0) refl (omega arith) (omega arith))
 
   module _ {x : Listed} (found : Found k o from m x) where
-    pub entries-sound : x ≡ Allowed → gives tt ≡ checkEntries (entriesFor k) o from m
+    pub entries-sound : x ≡ Allowed → gives tt ≡ checkEntries (entriesFor false k) o from m
     unfolding listedBy
-    entries-sound e = sym (section-is ∙ ap (placed from (entriesFor k .size)) (sym (rw e at found)))
+    entries-sound e = sym (section-is ∙ ap (placed from (entriesFor false k .size)) (sym (rw e at found)))
 
-    pub entries-bad : {i : ℕ} → x ≡ Bad i → refuses 14 (from + entriesFor k .size * i) ≡ checkEntries (entriesFor k) o from m
+    pub entries-bad : {i : ℕ} → x ≡ Bad i → refuses 14 (from + entriesFor false k .size * i) ≡ checkEntries (entriesFor false k) o from m
     unfolding listedBy
-    entries-bad e = sym (section-is ∙ ap (placed from (entriesFor k .size)) (sym (rw e at found)))
+    entries-bad e = sym (section-is ∙ ap (placed from (entriesFor false k .size)) (sym (rw e at found)))
 
     -- the place of a bad entry is in the section
-    pub bad-there : {i : ℕ} → x ≡ Bad i → from + entriesFor k .size * i ≤ length o
+    pub bad-there : {i : ℕ} → x ≡ Bad i → from + entriesFor false k .size * i ≤ length o
     unfolding listedBy firstBad
     bad-there {i} e =
-        let below : i < 0 + (count (entriesFor k) (section k o from m) - 0) =
-        bad-within (entriesFor k) (section k o from m) _ 0 _ (rw e at found) in
+        let below : i < 0 + (count (entriesFor false k) (section k o from m) - 0) =
+        bad-within (entriesFor false k) (section k o from m) _ 0 _ (rw e at found) in
         let few : i ≤ m = omega (arith, part-count) in
-        let less : entriesFor k .size * i ≤ entriesFor k .size * m = mul-le-mul-left (entriesFor k .size) few in
+        let less : entriesFor false k .size * i ≤ entriesFor false k .size * m = mul-le-mul-left (entriesFor false k .size) few in
         omega arith

@@ -11,7 +11,7 @@ use neighbours::is_allowed;
 use octets::number16;
 use octets::number32;
 ghost use mathlib.Core.Path.{_≡_};
-ghost use mathlib.Core.Bool.{true};
+ghost use mathlib.Core.Bool.{true, false};
 ghost use mathlib.Core.List.{[]};
 ghost use Prim.Native.Nat.{_+_, _*_, _≤_};
 ghost use lib.ListN.{length};
@@ -164,12 +164,12 @@ fn check_header(o: &[u8]) -> Checked
 
 // So many entries from a place on, as messages of a kind may have them.
 fn check_entries(kind: Kind, o: &[u8], from: usize, count: usize) -> Section
-    requires { ⌜ from + entriesFor kind .size * count ≤ length (now o) ⌝ }
-    ensures { λ r. ⌜ sectionBy r ≡ checkEntries (entriesFor kind) (now (o .entry)) from count ⌝ }
+    requires { ⌜ from + entriesFor false kind .size * count ≤ length (now o) ⌝ }
+    ensures { λ r. ⌜ sectionBy r ≡ checkEntries (entriesFor false kind) (now (o .entry)) from count ⌝ }
 {
-    let size = entry_size(kind);
+    let size = entry_size(false, kind);
     let end = from + size * count;
-    let x = first_bad(kind, &o[from..end], 0);
+    let x = first_bad(false, kind, &o[from..end], 0);
     match x {
         Listed::Allowed => Section::Sound,
         Listed::Bad(i) => Section::Fault(from + size * i),

@@ -18,7 +18,7 @@ use sections::PAIR;
 use sections::PAIR_LIMIT;
 use sections::ROW;
 ghost use mathlib.Core.Path.{_≡_};
-ghost use mathlib.Core.Bool.{_&&_, cond};
+ghost use mathlib.Core.Bool.{_&&_, cond, false};
 ghost use lib.ListN.{length};
 ghost use Rattle.octets.specs.Octets.{put};
 ghost use Rattle.format.specs.Outcome.{gives, refuses};
@@ -64,9 +64,9 @@ fn are_storable(asserts: &[u8], pairs: &[u8], table: Table) -> bool
 
 // Whether every entry of a list is allowed.
 fn all_allowed(kind: Kind, e: &[u8]) -> bool
-    ensures { λ r. ⌜ atZero (firstBad (entriesFor kind) (now (e .entry)) 0) ≡ cond r (gives tt) (refuses 7 0) ⌝ }
+    ensures { λ r. ⌜ atZero (firstBad (entriesFor false kind) (now (e .entry)) 0) ≡ cond r (gives tt) (refuses 7 0) ⌝ }
 {
-    match first_bad(kind, e, 0) {
+    match first_bad(false, kind, e, 0) {
         Listed::Allowed => true,
         Listed::Bad(_) => false,
     }

@@ -17,34 +17,34 @@ use Rattle.entries.proofs.first_bad.Statement.{statement}
 use Rattle.entries.proofs.first_bad.Tie as tie
 
 abbrev Inv-loop : tie.InvT-loop
-Inv-loop kind e start size count i₀ at₀ i at = Looking (entriesFor kind) e (firstBad (entriesFor kind) e start) count i at
+Inv-loop ipv6 kind e start size count i₀ at₀ i at = Looking (entriesFor ipv6 kind) e (firstBad (entriesFor ipv6 kind) e start) count i at
 
 abbrev μ-loop : tie.MeasureT-loop
-μ-loop kind e start size count i₀ at₀ i at = count - i
+μ-loop ipv6 kind e start size count i₀ at₀ i at = count - i
 
 div-count : tie.Need-div-count Inv-loop μ-loop
-div-count c = omega (arith, c .entry-size .ensures, size-range (c .before .before .args .kind))
+div-count c = omega (arith, c .entry-size .ensures, size-range (c .before .before .args .ipv6) (c .before .before .args .kind))
 
 returns : tie.Need-returns Inv-loop μ-loop
 unfolding listedBy firstBadAt firstBad count
 returns c =
     let a = c .before .before .before .args in
-    let past : length (now (a .e)) / entriesFor (a .kind) .size ≤ a .start = omega (arith, rw (c .before .entry-size .ensures) at (c .if1 .taken)) in
-    let none : length (now (a .e)) / entriesFor (a .kind) .size - a .start ≡ 0 = omega arith in
+    let past : length (now (a .e)) / entriesFor (a .ipv6) (a .kind) .size ≤ a .start = omega (arith, rw (c .before .entry-size .ensures) at (c .if1 .taken)) in
+    let none : length (now (a .e)) / entriesFor (a .ipv6) (a .kind) .size - a .start ≡ 0 = omega arith in
     rw none
 
 mul-at : tie.Need-mul-at Inv-loop μ-loop
 mul-at c =
     let a = c .before .before .before .args in
     let size = c .before .entry-size .ensures in
-    let same : c .before .entry-size .result * a .start ≡ entriesFor (a .kind) .size * a .start = ap (λ x. x * a .start) size in
-    omega (arith, same, rest-there (entriesFor (a .kind)) (now (a .e)) (a .start) (rw size at (c .if1 .left)))
+    let same : c .before .entry-size .result * a .start ≡ entriesFor (a .ipv6) (a .kind) .size * a .start = ap (λ x. x * a .start) size in
+    omega (arith, same, rest-there (entriesFor (a .ipv6) (a .kind)) (now (a .e)) (a .start) (rw size at (c .if1 .left)))
 
 loop-holds : tie.Need-loop-holds Inv-loop μ-loop
 loop-holds c =
     let a = c .before .before .before .args in
     let size = c .before .entry-size .ensures in
-    rw size (look-start (entriesFor (a .kind)) (now (a .e)) (a .start) (rw size at (c .if1 .left)))
+    rw size (look-start (entriesFor (a .ipv6) (a .kind)) (now (a .e)) (a .start) (rw size at (c .if1 .left)))
 
 allowed-requires : tie.Need-allowed-requires Inv-loop μ-loop
 allowed-requires c κs = look-there (c .before .loop .inv) (c .loop-test .taken)

@@ -1,5 +1,6 @@
 -- `sections::check_entries` meets its contract: what the part holds is what the sheet holds from the place on.
 -- Assumes nothing.
+use mathlib.Core.Bool.{false}
 use mathlib.Core.Path.{_≡_, ap}
 use Prim.Native.Nat.{_+_, _-_, _*_, _≤_}
 use native.Mathlib.Omega.{arith}
@@ -13,14 +14,14 @@ use Rattle.sections.proofs.check_entries.Statement.{statement}
 use Rattle.sections.proofs.check_entries.Tie as tie
 
 -- the size that code has is that of the kind
-same : (c : tie.After-entry-size) → c .entry-size .result * c .before .before .args .count ≡ entriesFor (c .before .before .args .kind) .size * c .before .before .args .count
+same : (c : tie.After-entry-size) → c .entry-size .result * c .before .before .args .count ≡ entriesFor false (c .before .before .args .kind) .size * c .before .before .args .count
 same c = ap (λ x. x * c .before .before .args .count) (c .entry-size .ensures)
 
 -- what was found in the part
 found : (c : tie.After-first-bad) → Found (c .before .before .before .before .args .kind) (now (c .before .before .before .before .args .o)) (c .before .before .before .before .args .from) (c .before .before .before .before .args .count) (c .first-bad .result)
 found c =
     let a = c .before .before .before .before .args in
-    let cut : a .from + c .before .before .entry-size .result * a .count - a .from ≡ entriesFor (a .kind) .size * a .count = omega (arith, same (c .before .before)) in
+    let cut : a .from + c .before .before .entry-size .result * a .count - a .from ≡ entriesFor false (a .kind) .size * a .count = omega (arith, same (c .before .before)) in
     rw cut at (c .first-bad .ensures)
 
 mul-end : tie.Need-mul-end

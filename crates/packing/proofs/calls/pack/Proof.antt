@@ -1,5 +1,6 @@
 -- `packing::calls::pack` meets its contract: what `asked` answered says which way the call goes.
 -- Assumes nothing.
+use mathlib.Core.Bool.{false}
 use native.Mathlib.Omega.{arith}
 use mathlib.Core.Path.{_≡_, refl, sym, ap, ap₂, _∙_}
 use denote.Ref.{now}
@@ -27,23 +28,23 @@ abbrev limit : tie.After-known-told2 → ℕ
 limit c = c .before .x2 .given .0 .0
 
 asks : (c : tie.After-known-told2)
-    → Asked (entriesFor (start c .args .kind)) (now (start c .args .e)) (start c .args .start) (start c .args .limit) (length (now (start c .args .d))) (limit c)
+    → Asked (entriesFor false (start c .args .kind)) (now (start c .args .e)) (start c .args .start) (start c .args .limit) (length (now (start c .args .d))) (limit c)
 asks c =
     let a = start c .args in
-    limit-asked (entriesFor (a .kind)) (now (a .e)) (a .start) (a .limit) (length (now (a .d))) (c .before .x2 .given .1) (c .before .before .before .asked .ensures)
+    limit-asked (entriesFor false (a .kind)) (now (a .e)) (a .start) (a .limit) (length (now (a .d))) (c .before .x2 .given .1) (c .before .before .before .asked .ensures)
 
-inside : (c : tie.After-known-told2) → start c .args .start ≤ length (now (start c .args .e)) / entriesFor (start c .args .kind) .size
+inside : (c : tie.After-known-told2) → start c .args .start ≤ length (now (start c .args .e)) / entriesFor false (start c .args .kind) .size
 inside c = let a = start c .args in asked-inside (a .kind) (now (a .e)) (a .start) (a .limit) (length (now (a .d))) (limit c) (asks c)
 
 mul-write-most : tie.Need-mul-write-most
 mul-write-most c =
     let r = c .before in
     let a = start r .args in
-    let same : c .entry-size .result * a .start ≡ entriesFor (a .kind) .size * a .start = ap (λ x. x * a .start) (c .entry-size .ensures) in
+    let same : c .entry-size .result * a .start ≡ entriesFor false (a .kind) .size * a .start = ap (λ x. x * a .start) (c .entry-size .ensures) in
     omega (arith, asked-there (a .kind) (now (a .e)) (a .start) (a .limit) (length (now (a .d))) (limit r) (asks r))
 
 div-write-most : tie.Need-div-write-most
-div-write-most c = omega (arith, c .entry-size .ensures, size-range (c .before .before .before .before .before .before .before .args .kind))
+div-write-most c = omega (arith, c .entry-size .ensures, size-range false (c .before .before .before .before .before .before .before .args .kind))
 
 sub-write-most : tie.Need-sub-write-most
 sub-write-most c = rw (c .entry-size .ensures) (inside (c .before))
@@ -62,7 +63,7 @@ unfolding packed
 returns c =
     let a = c .before .before .before .before .before .before .args in
     let refusal = c .before .x .given .0 .0 in
-    let asks = asked (entriesFor (a .kind)) (now (a .e)) (a .start) (a .limit) (length (now (a .d))) in
+    let asks = asked (entriesFor false (a .kind)) (now (a .e)) (a .start) (a .limit) (length (now (a .d))) in
     let call = call-refused (formFor (a .kind)) (now (a .e)) (a .start) (a .limit) (now (a .d)) (refusal .number) (refusal .place) (limit-refused asks (c .before .x .given .1) (c .before .before .before .asked .ensures)) in
     (sym (ap (λ x. x .answer) call), sym (ap (λ x. x .buffer) call))
 
@@ -72,7 +73,7 @@ returns-2 c =
     let r = c .before .before .before .before .before in
     let a = start r .args in
     let size = c .before .before .before .before .entry-size .ensures in
-    let p = pack (formFor (a .kind)) (limit r) (entriesAt (entriesFor (a .kind)) (now (a .e)) (entriesFor (a .kind) .size * a .start) (length (now (a .e)) / entriesFor (a .kind) .size - a .start)) in
+    let p = pack (formFor (a .kind)) (limit r) (entriesAt (entriesFor false (a .kind)) (now (a .e)) (entriesFor false (a .kind) .size * a .start) (length (now (a .e)) / entriesFor false (a .kind) .size - a .start)) in
     let wrote-it = rw size at (c .before .before .write-most .ensures) in
     let call = call-packs (a .kind) (now (a .e)) (a .start) (a .limit) (limit r) (now (a .d)) p (asks r) refl in
     (ap₂ (λ x y. gives (wrote x y)) (wrote-it .0 .0) (wrote-it .0 .1) ∙ sym (ap (λ x. x .answer) call), wrote-it .1 ∙ sym (ap (λ x. x .buffer) call))

@@ -1,5 +1,6 @@
 -- `packing::most::how_many_fixed` meets its contract: the smaller of two numbers.
 -- Assumes nothing.
+use mathlib.Core.Bool.{false}
 use native.Mathlib.Omega.{arith}
 use mathlib.Core.Path.{sym, _∙_}
 use borrow.Author.Needs.{needs}
@@ -13,7 +14,7 @@ sub-fit : tie.Need-sub-fit
 sub-fit c = omega (arith, c .before .layout-of .ensures .2, c .before .before .pre .2)
 
 add-fit : tie.Need-add-fit
-add-fit c = omega (arith, size-range (c .before .before .before .args .kind))
+add-fit c = omega (arith, size-range false (c .before .before .before .args .kind))
 
 returns : tie.Need-returns
 unfolding fitting

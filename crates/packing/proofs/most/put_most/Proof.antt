@@ -23,12 +23,12 @@ fixed : (c : tie.Else1) → isAggregated (c .before .before .before .before .arg
 fixed c = sym (c .before .layout-of .ensures .3) ∙ c .if1 .left
 
 -- how many records of one length there are
-counted : (c : tie.After-how-many-fixed) → c .how-many-fixed .result ≡ taken (formFor (c .before .before .before .before .before .args .kind)) (c .before .before .before .before .before .args .limit) (entriesAt (entriesFor (c .before .before .before .before .before .args .kind)) (now (c .before .before .before .before .before .args .e)) (c .before .before .before .before .before .args .from) (c .before .before .before .before .before .args .n))
+counted : (c : tie.After-how-many-fixed) → c .how-many-fixed .result ≡ taken (formFor (c .before .before .before .before .before .args .kind)) (c .before .before .before .before .before .args .limit) (entriesAt (entriesFor false (c .before .before .before .before .before .args .kind)) (now (c .before .before .before .before .before .args .e)) (c .before .before .before .before .before .args .from) (c .before .before .before .before .before .args .n))
 counted c =
     let a = c .before .before .before .before .before .args in
-    let es = entriesAt (entriesFor (a .kind)) (now (a .e)) (a .from) (a .n) in
+    let es = entriesAt (entriesFor false (a .kind)) (now (a .e)) (a .from) (a .n) in
     c .how-many-fixed .ensures
-    ∙ sym (taken-fixed (a .kind) (c .before .before .before .before .before .pre .0) (fixed (c .before)) (a .limit) es (omega (arith, head-range (a .kind), c .before .before .before .before .before .pre .3)) ∙ ap (fitting (a .kind) (a .limit)) (length-entriesAt (entriesFor (a .kind)) (now (a .e)) (a .from) (a .n)))
+    ∙ sym (taken-fixed (a .kind) (c .before .before .before .before .before .pre .0) (fixed (c .before)) (a .limit) es (omega (arith, head-range (a .kind), c .before .before .before .before .before .pre .3)) ∙ ap (fitting (a .kind) (a .limit)) (length-entriesAt (entriesFor false (a .kind)) (now (a .e)) (a .from) (a .n)))
 
 put-within-requires : tie.Need-put-within-requires
 put-within-requires c κs =
@@ -56,16 +56,16 @@ put-records-requires c κs =
     let t = c .before .how-many-fixed .result in
     let e = counted (c .before) in
     let some : 0 < c .before .how-many-fixed .result = rw e (taken-some (a .kind) (c .before .before .before .before .before .before .pre .0) (now (a .e)) (a .from) (a .n) (a .limit) (c .before .before .before .before .before .before .pre .1) (c .before .before .before .before .before .before .pre .3)) in
-    let few = mul-le-mul-left (entriesFor (a .kind) .size) (most-inside (a .kind) (now (a .e)) (a .from) (a .n) (a .limit) t e) in
+    let few = mul-le-mul-left (entriesFor false (a .kind) .size) (most-inside (a .kind) (now (a .e)) (a .from) (a .n) (a .limit) t e) in
     let fit = most-fits (a .kind) (now (a .e)) (a .from) (a .n) (a .limit) t e some in
-    (omega (arith, few, c .before .before .before .before .before .before .pre .2), omega (arith, fit, length-is (a .kind) (c .before .before .before .before .before .before .pre .0) (entriesAt (entriesFor (a .kind)) (now (a .e)) (a .from) t), records-long (a .kind) (fixed (c .before .before)) (now (a .e)) (a .from) t, c .before .before .before .before .before .before .pre .4, c .before .before .before .before .before .before .pre .5))
+    (omega (arith, few, c .before .before .before .before .before .before .pre .2), omega (arith, fit, length-is (a .kind) (c .before .before .before .before .before .before .pre .0) (entriesAt (entriesFor false (a .kind)) (now (a .e)) (a .from) t), records-long (a .kind) (fixed (c .before .before)) (now (a .e)) (a .from) t, c .before .before .before .before .before .before .pre .4, c .before .before .before .before .before .before .pre .5))
 
 returns-2 : tie.Need-returns-2
 returns-2 c =
     let a = c .before .before .before .before .before .before .before .before .before .args in
     let t = c .before .before .before .before .how-many-fixed .result in
     let same = fixed (c .before .before .before .before .before) in
-    (counted (c .before .before .before .before), (c .before .before .put-records .ensures .0 ∙ omega (arith, records-long (a .kind) same (now (a .e)) (a .from) t), rw (each-record (a .kind) same (entriesAt (entriesFor (a .kind)) (now (a .e)) (a .from) t)) (c .before .before .put-records .ensures .1)))
+    (counted (c .before .before .before .before), (c .before .before .put-records .ensures .0 ∙ omega (arith, records-long (a .kind) same (now (a .e)) (a .from) t), rw (each-record (a .kind) same (entriesAt (entriesFor false (a .kind)) (now (a .e)) (a .from) t)) (c .before .before .put-records .ensures .1)))
 
 pub put-most-spec : {M : Type 1} → statement M
 put-most-spec =

@@ -1,5 +1,6 @@
 -- `packing::most::write_message` meets its contract: the beginning, the records past it, and then the checksum over both.
 -- Assumes nothing.
+use mathlib.Core.Bool.{false}
 use native.Mathlib.Omega.{arith}
 use mathlib.Core.Path.{_≡_, sym, _∙_}
 use denote.Ref.{now}
@@ -19,7 +20,7 @@ use Rattle.packing.proofs.most.write_message.Statement.{statement}
 use Rattle.packing.proofs.most.write_message.Tie as tie
 
 -- the message ends past its records
-size : (c : tie.After-put-most) → c .put-most .result .next ≡ headSize (c .before .before .before .before .before .before .before .before .args .kind) + length (recordsFor (c .before .before .before .before .before .before .before .before .args .kind) (entriesAt (entriesFor (c .before .before .before .before .before .before .before .before .args .kind)) (now (c .before .before .before .before .before .before .before .before .args .e)) (c .before .before .before .before .before .before .before .before .args .from) (c .put-most .result .taken)))
+size : (c : tie.After-put-most) → c .put-most .result .next ≡ headSize (c .before .before .before .before .before .before .before .before .args .kind) + length (recordsFor (c .before .before .before .before .before .before .before .before .args .kind) (entriesAt (entriesFor false (c .before .before .before .before .before .before .before .before .args .kind)) (now (c .before .before .before .before .before .before .before .before .args .e)) (c .before .before .before .before .before .before .before .before .args .from) (c .put-most .result .taken)))
 size c = omega (arith, c .before .before .before .before .begin .ensures .0, c .put-most .ensures .1 .0)
 
 within : (c : tie.After-put-most) → c .put-most .result .next ≤ c .before .before .before .before .before .before .before .before .args .limit
@@ -28,7 +29,7 @@ within c =
     let t = c .put-most .result .taken in
     let some : 0 < c .put-most .result .taken = rw (c .put-most .ensures .0) (taken-some (a .kind) (c .before .before .before .before .before .before .before .before .pre .0) (now (a .e)) (a .from) (a .n) (a .limit) (c .before .before .before .before .before .before .before .before .pre .1) (c .before .before .before .before .before .before .before .before .pre .3)) in
     let fit = most-fits (a .kind) (now (a .e)) (a .from) (a .n) (a .limit) t (c .put-most .ensures .0) some in
-    omega (arith, size c, fit, length-is (a .kind) (c .before .before .before .before .before .before .before .before .pre .0) (entriesAt (entriesFor (a .kind)) (now (a .e)) (a .from) t))
+    omega (arith, size c, fit, length-is (a .kind) (c .before .before .before .before .before .before .before .before .pre .0) (entriesAt (entriesFor false (a .kind)) (now (a .e)) (a .from) t))
 
 begin-requires : tie.Need-begin-requires
 begin-requires c κs = omega (arith, c .before .before .before .pre .3, c .before .before .before .pre .4, head-range (c .before .before .before .args .kind))
@@ -47,7 +48,7 @@ returns c =
     let a = c .before .before .before .before .before .before .before .before .before .before .before .before .before .before .args in
     let k = a .kind in
     let d = now (a .d) in
-    let es = entriesAt (entriesFor k) (now (a .e)) (a .from) (c .before .before .before .before .before .before .put-most .result .taken) in
+    let es = entriesAt (entriesFor false k) (now (a .e)) (a .from) (c .before .before .before .before .before .before .put-most .result .taken) in
     let begun = c .before .before .before .before .before .before .before .before .before .before .begin .ensures in
     let wrote = c .before .before .before .before .before .before .put-most .ensures in
     let long = size (c .before .before .before .before .before .before) in

@@ -1,5 +1,6 @@
 -- `packing::record::put_record` meets its contract: past the pair an assert entry has eight octets more.
 -- Assumes nothing.
+use mathlib.Core.Bool.{false}
 use native.Mathlib.Omega.{arith}
 use denote.Ref.{now}
 use mathlib.Core.Path.{sym, _∙_}
@@ -15,7 +16,7 @@ use Rattle.packing.proofs.record.put_record.Statement.{statement}
 use Rattle.packing.proofs.record.put_record.Tie as tie
 
 put-pair-requires : tie.Need-put-pair-requires
-put-pair-requires c κs = omega (arith, size-range (c .before .before .before .args .kind))
+put-pair-requires c κs = omega (arith, size-range false (c .before .before .before .args .kind))
 
 returns : tie.Need-returns
 returns c =

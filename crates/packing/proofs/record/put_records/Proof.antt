@@ -1,5 +1,6 @@
 -- `packing::record::put_records` meets its contract: the loop's invariant is `Rows`. The measure is the entries left.
 -- Assumes nothing.
+use mathlib.Core.Bool.{false}
 use Prim.Native.Nat.{_+_, _-_}
 use native.Mathlib.Omega.{arith}
 use mathlib.Core.Path.{refl, ap}
@@ -14,7 +15,7 @@ use Rattle.entries.specs.Kinds.{entriesFor}
 use Rattle.entries.proofs.ByKind.{size-range}
 
 abbrev Inv-loop : tie.InvT-loop
-Inv-loop kind e from n d₀ start size i₀ at₀ out₀ d i at out = Rows (entriesFor kind) (recordOctets kind) (recordSize kind) e from n d₀ start d i at out
+Inv-loop kind e from n d₀ start size i₀ at₀ out₀ d i at out = Rows (entriesFor false kind) (recordOctets kind) (recordSize kind) e from n d₀ start d i at out
 
 abbrev μ-loop : tie.MeasureT-loop
 μ-loop kind e from n d₀ start size i₀ at₀ out₀ d i at out = n - i
@@ -23,7 +24,7 @@ loop-holds : tie.Need-loop-holds Inv-loop μ-loop
 loop-holds c =
     let s = c .before .before .before in
     let a = s .args in
-    rows-start (entriesFor (a .kind)) (recordOctets (a .kind)) (recordSize (a .kind)) (now (a .e)) (a .from) (a .n) (now (a .d)) (a .start) (s .pre .0) (s .pre .1)
+    rows-start (entriesFor false (a .kind)) (recordOctets (a .kind)) (recordSize (a .kind)) (now (a .e)) (a .from) (a .n) (now (a .d)) (a .start) (s .pre .0) (s .pre .1)
 
 put-record-requires : tie.Need-put-record-requires Inv-loop μ-loop
 put-record-requires c κs = rows-there (c .before .before .loop .inv) (c .before .loop-test .taken)
@@ -34,7 +35,7 @@ add-at c =
     omega arith
 
 add-out : tie.Need-add-out Inv-loop μ-loop
-add-out c = omega (arith, size-range (c .before .before .before .before .before .before .before .before .before .args .kind))
+add-out c = omega (arith, size-range false (c .before .before .before .before .before .before .before .before .before .args .kind))
 
 add-out-2 : tie.Need-add-out-2 Inv-loop μ-loop
 add-out-2 c =
