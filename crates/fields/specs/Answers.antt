@@ -4,11 +4,13 @@
 --     plainAssert, plainPair     the numbers of a record, at their places in its octets
 --     plainRecord, plainSize     the same by the kind, and how many octets they are
 -- Assumes nothing: these are definitions.
-use Prim.Native.Nat.{ℕ, _+_}
+use Prim.Native.Nat.{ℕ, _+_, _*_}
 use mathlib.Core.List.{List}
 use Rattle.octets.specs.Octets.{numberAt}
 use Rattle.records.specs.Records.{AssertRecord, assert, PairRecord, pair}
+use Rattle.records.specs.Sizes.{assertSize, pairSize}
 use Rattle.format.specs.Reader.{Read, got, bad}
+use Rattle.format.specs.Family.{Family}
 use Rattle.format.specs.Record.{Single, anAssert, aPair}
 use Rattle.format.specs.declared.Kind.{Kind}
 use Rattle.format.specs.declared.Kind.the-variants.{Hello, Assert as AssertKind, Simple, Aggregated, NullRegister, RegisterStop}
@@ -30,26 +32,27 @@ unfoldable pub single : SingleAnswer → Read Single
 single (Got r next) = got (recordOf r) next
 single (NoRecord r) = bad (r .number) (r .place)
 
--- in IPv4: the group's address at octet 4, the source's at 10, the R word at 14, the metric at 18
-unfoldable pub plainAssert : List ℕ → ℕ → AssertRecord
-plainAssert o at = assert (numberAt 4 o (at + 4)) (numberAt 4 o (at + 10)) (numberAt 4 o (at + 14)) (numberAt 4 o (at + 18))
+-- the group's address at octet 4, then the source's, the R word and the metric: in IPv4 at 10, 14 and 18
+unfoldable pub plainAssert : Family → List ℕ → ℕ → AssertRecord
+plainAssert f o at =
+    assert (numberAt (f .width) o (at + 4)) (numberAt (f .width) o (at + (f .width + 6))) (numberAt 4 o (at + (2 * f .width + 6))) (numberAt 4 o (at + (2 * f .width + 10)))
 
-unfoldable pub plainPair : List ℕ → ℕ → PairRecord
-plainPair o at = pair (numberAt 4 o (at + 4)) (numberAt 4 o (at + 10))
+unfoldable pub plainPair : Family → List ℕ → ℕ → PairRecord
+plainPair f o at = pair (numberAt (f .width) o (at + 4)) (numberAt (f .width) o (at + (f .width + 6)))
 
 -- a kind that has no record of one length is read as an assert, and never is
-unfoldable pub plainRecord : Kind → List ℕ → ℕ → Single
-plainRecord Hello o at = anAssert (plainAssert o at)
-plainRecord AssertKind o at = anAssert (plainAssert o at)
-plainRecord Simple o at = anAssert (plainAssert o at)
-plainRecord Aggregated o at = anAssert (plainAssert o at)
-plainRecord NullRegister o at = aPair (plainPair o at)
-plainRecord RegisterStop o at = aPair (plainPair o at)
+unfoldable pub plainRecord : Family → Kind → List ℕ → ℕ → Single
+plainRecord f Hello o at = anAssert (plainAssert f o at)
+plainRecord f AssertKind o at = anAssert (plainAssert f o at)
+plainRecord f Simple o at = anAssert (plainAssert f o at)
+plainRecord f Aggregated o at = anAssert (plainAssert f o at)
+plainRecord f NullRegister o at = aPair (plainPair f o at)
+plainRecord f RegisterStop o at = aPair (plainPair f o at)
 
-unfoldable pub plainSize : Kind → ℕ
-plainSize Hello = 22
-plainSize AssertKind = 22
-plainSize Simple = 22
-plainSize Aggregated = 22
-plainSize NullRegister = 14
-plainSize RegisterStop = 14
+unfoldable pub plainSize : Family → Kind → ℕ
+plainSize f Hello = assertSize (f .width)
+plainSize f AssertKind = assertSize (f .width)
+plainSize f Simple = assertSize (f .width)
+plainSize f Aggregated = assertSize (f .width)
+plainSize f NullRegister = pairSize (f .width)
+plainSize f RegisterStop = pairSize (f .width)

@@ -1,17 +1,26 @@
-// Fields: whether the octets of one are allowed. A check finds the place past a field that is there whole and
-// allowed, or the refusal, at the field's own place.
+// Fields of either family: whether the octets of one are allowed. A check finds the place past a field that is there whole
+// and allowed, or the refusal, at the field's own place.
+use addresses::address_at;
+use addresses::family_number;
+use addresses::is_multicast;
+use addresses::is_zero;
+use addresses::mask_length;
+use addresses::width;
 use format::Refusal;
 use octets::number32;
 ghost use mathlib.Core.Path.{_≡_};
 ghost use mathlib.Core.Bool.{_&&_};
+ghost use Prim.Native.Nat.{_≤_};
 ghost use lib.Dec.{eqb};
 ghost use lib.ListN.{length};
 ghost use Rattle.octets.specs.Octets.{numberAt};
 ghost use Rattle.records.specs.Records.{rBit};
+ghost use Rattle.records.specs.Sizes.{groupSize, sourceSize};
 ghost use Rattle.format.specs.Reader.{octets, handUp};
-ghost use Rattle.format.specs.Family.{ipv4};
+ghost use Rattle.format.specs.Family.{familyOf};
 ghost use Rattle.format.specs.Address.{groupForm, groupField, sourceForm, sourceField};
 ghost use Rattle.fields.specs.Answers.{checked, skipped};
+ghost use Rattle.fields.specs.Encoded.{addressSize, addressForm, addressField};
 
 // What a check finds.
 pub enum Checked {
@@ -41,42 +50,47 @@ pub fn octets_check(m: &[u8], at: usize, k: usize) -> Checked
     Checked::Next(at + k)
 }
 
-// The octets of a group that is allowed: 01, 00, a flags octet, mask length 32, an address in 224.0.0.0/4.
-pub fn is_group(g: &[u8]) -> bool
-    ensures { λ r. ⌜ r ≡ (eqb (length (now (g .entry))) 8 && groupForm ipv4 (now (g .entry))) ⌝ }
+// The octets of a group that is allowed: the family, 00, a flags octet, the mask length, a multicast address.
+pub fn is_group(ipv6: bool, g: &[u8]) -> bool
+    ensures { λ r. ⌜ r ≡ (eqb (length (now (g .entry))) (groupSize (familyOf ipv6 .width)) && groupForm (familyOf ipv6) (now (g .entry))) ⌝ }
 {
-    if g.len() != 8 {
+    if g.len() != width(ipv6) + 4 {
         return false;
     }
-    if g[0] != 1 {
+    if g[0] != family_number(ipv6) {
         return false;
     }
     if g[1] != 0 {
         return false;
     }
-    if g[3] != 32 {
+    if g[3] != mask_length(ipv6) {
         return false;
     }
-    g[4] / 16 == 14
+    is_multicast(ipv6, g[4])
 }
 
-// The octets of a source that is allowed: 01, 00, an address, which may be 0 where the record allows it.
-pub fn is_source(s: &[u8], zero_allowed: bool) -> bool
-    ensures { λ r. ⌜ r ≡ (eqb (length (now (s .entry))) 6 && sourceForm ipv4 «zero_allowed» (now (s .entry))) ⌝ }
+// The octets of a source that is allowed: the family, 00, an address, which may be 0 where the record allows it. That is
+// asked last, since it seldom is.
+pub fn is_source(ipv6: bool, s: &[u8], zero_allowed: bool) -> bool
+    ensures { λ r. ⌜ r ≡ (eqb (length (now (s .entry))) (sourceSize (familyOf ipv6 .width)) && sourceForm (familyOf ipv6) «zero_allowed» (now (s .entry))) ⌝ }
 {
-    if s.len() != 6 {
+    if s.len() != width(ipv6) + 2 {
         return false;
     }
-    if s[0] != 1 {
+    if s[0] != family_number(ipv6) {
         return false;
     }
     if s[1] != 0 {
         return false;
     }
-    if number32(s, 2) != 0 {
+    let a = address_at(ipv6, s, 2);
+    if addresses::is_source(ipv6, a) {
         return true;
     }
-    zero_allowed
+    if zero_allowed {
+        return is_zero(a);
+    }
+    false
 }
 
 // R, the highest bit of the word that it has with the metric preference. A caller lends the four octets.
@@ -86,32 +100,52 @@ pub fn r_bit(word: &[u8]) -> bool
     0x8000_0000 <= number32(word, 0)
 }
 
-// A group is there and allowed.
-pub fn group_check(m: &[u8], at: usize) -> Checked
-    ensures { λ r. ⌜ checked r ≡ skipped (groupField ipv4 (now (m .entry)) at) ⌝ }
+// The octets of a group, or of a source.
+pub fn address_size(ipv6: bool, is_group: bool) -> usize
+    ensures { λ r. ⌜ (r ≡ addressSize (familyOf ipv6) «is_group») × (6 ≤ r) × (r ≤ 20) ⌝ }
 {
-    let f = octets_check(m, at, 8);
+    if is_group {
+        return width(ipv6) + 4;
+    }
+    width(ipv6) + 2
+}
+
+// Whether octets are those of a group, or of a source, that is allowed.
+pub fn is_address(ipv6: bool, is_group: bool, x: &[u8], zero_allowed: bool) -> bool
+    ensures { λ r. ⌜ r ≡ (eqb (length (now (x .entry))) (addressSize (familyOf ipv6) «is_group») && addressForm (familyOf ipv6) «is_group» «zero_allowed» (now (x .entry))) ⌝ }
+{
+    if is_group {
+        return crate::field::is_group(ipv6, x);
+    }
+    is_source(ipv6, x, zero_allowed)
+}
+
+// A group, or a source, is there and allowed.
+fn address_check(ipv6: bool, is_group: bool, m: &[u8], at: usize, zero_allowed: bool) -> Checked
+    ensures { λ r. ⌜ checked r ≡ skipped (addressField (familyOf ipv6) «is_group» «zero_allowed» (now (m .entry)) at) ⌝ }
+{
+    let f = octets_check(m, at, address_size(ipv6, is_group));
     let Checked::Next(next) = f else {
         return f;
     };
-    if is_group(&m[at..next]) {
+    if is_address(ipv6, is_group, &m[at..next], zero_allowed) {
         return Checked::Next(next);
     }
     bad(7, at)
 }
 
-// A source is there and allowed.
-pub fn source_check(m: &[u8], at: usize, zero_allowed: bool) -> Checked
-    ensures { λ r. ⌜ checked r ≡ skipped (sourceField ipv4 «zero_allowed» (now (m .entry)) at) ⌝ }
+// A group.
+pub fn group_check(ipv6: bool, m: &[u8], at: usize) -> Checked
+    ensures { λ r. ⌜ checked r ≡ skipped (groupField (familyOf ipv6) (now (m .entry)) at) ⌝ }
 {
-    let f = octets_check(m, at, 6);
-    let Checked::Next(next) = f else {
-        return f;
-    };
-    if is_source(&m[at..next], zero_allowed) {
-        return Checked::Next(next);
-    }
-    bad(7, at)
+    address_check(ipv6, true, m, at, false)
+}
+
+// A source.
+pub fn source_check(ipv6: bool, m: &[u8], at: usize, zero_allowed: bool) -> Checked
+    ensures { λ r. ⌜ checked r ≡ skipped (sourceField (familyOf ipv6) «zero_allowed» (now (m .entry)) at) ⌝ }
+{
+    address_check(ipv6, false, m, at, zero_allowed)
 }
 
 // The place that a record hands up: its own first octet.

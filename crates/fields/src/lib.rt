@@ -7,9 +7,11 @@ mod field;
 mod record;
 
 pub use field::Checked;
+pub use field::address_size;
 pub use field::bad;
 pub use field::group_check;
 pub use field::in_record;
+pub use field::is_address;
 pub use field::is_group;
 pub use field::is_source;
 pub use field::octets_check;

@@ -1,31 +1,33 @@
-// Assert records and pairs: checked field by field, in octet order, and read by plain indices.
+// Assert records and pairs: checked field by field, in octet order, in either family; and read by plain indices, in IPv4.
 use crate::field::Checked;
 use crate::field::bad;
 use crate::field::group_check;
 use crate::field::in_record;
 use crate::field::octets_check;
-use crate::field::r_bit;
 use crate::field::source_check;
+use addresses::address_at;
+use addresses::is_zero;
 use format::AssertFields;
 use format::Kind;
 use format::PairFields;
 use format::Record;
 use format::Refusal;
+use format::r_bit;
 use octets::number32;
 ghost use mathlib.Core.Path.{_≡_};
-ghost use Rattle.format.specs.Family.{ipv4};
+ghost use Rattle.format.specs.Family.{ipv4, familyOf};
 ghost use Rattle.format.specs.Record.{assertFields, assertRecord, pairFields, pairRecord, recordAt};
 ghost use Rattle.fields.specs.Answers.{checked, skipped, single, plainAssert, plainPair, plainRecord};
 ghost use Rattle.format.specs.Values.{assertOf, pairOf, recordOf};
 
-fn assert_fields(m: &[u8], at: usize) -> Checked
-    ensures { λ r. ⌜ checked r ≡ skipped (assertFields ipv4 (now (m .entry)) at) ⌝ }
+fn assert_fields(ipv6: bool, m: &[u8], at: usize) -> Checked
+    ensures { λ r. ⌜ checked r ≡ skipped (assertFields (familyOf ipv6) (now (m .entry)) at) ⌝ }
 {
-    let g = group_check(m, at);
+    let g = group_check(ipv6, m, at);
     let Checked::Next(source_at) = g else {
         return g;
     };
-    let s = source_check(m, source_at, true);
+    let s = source_check(ipv6, m, source_at, true);
     let Checked::Next(word_at) = s else {
         return s;
     };
@@ -34,57 +36,57 @@ fn assert_fields(m: &[u8], at: usize) -> Checked
         return v;
     };
     // R=0 with source 0 is found here.
-    if r_bit(&m[word_at..word_at + 4]) {
+    if r_bit(number32(m, word_at)) {
         return octets_check(m, metric_at, 4);
     }
-    if number32(&m[source_at + 2..source_at + 6], 0) == 0 {
+    if is_zero(address_at(ipv6, m, source_at + 2)) {
         return bad(7, source_at);
     }
     octets_check(m, metric_at, 4)
 }
 
-fn pair_fields(m: &[u8], at: usize, zero_allowed: bool) -> Checked
-    ensures { λ r. ⌜ checked r ≡ skipped (pairFields ipv4 «zero_allowed» (now (m .entry)) at) ⌝ }
+fn pair_fields(ipv6: bool, m: &[u8], at: usize, zero_allowed: bool) -> Checked
+    ensures { λ r. ⌜ checked r ≡ skipped (pairFields (familyOf ipv6) «zero_allowed» (now (m .entry)) at) ⌝ }
 {
-    let g = group_check(m, at);
+    let g = group_check(ipv6, m, at);
     let Checked::Next(source_at) = g else {
         return g;
     };
-    source_check(m, source_at, zero_allowed)
+    source_check(ipv6, m, source_at, zero_allowed)
 }
 
 // An assert record.
-pub fn assert_check(m: &[u8], at: usize) -> Checked
-    ensures { λ r. ⌜ checked r ≡ skipped (assertRecord ipv4 (now (m .entry)) at) ⌝ }
+pub fn assert_check(ipv6: bool, m: &[u8], at: usize) -> Checked
+    ensures { λ r. ⌜ checked r ≡ skipped (assertRecord (familyOf ipv6) (now (m .entry)) at) ⌝ }
 {
-    in_record(at, assert_fields(m, at))
+    in_record(at, assert_fields(ipv6, m, at))
 }
 
 // A pair.
-pub fn pair_check(m: &[u8], at: usize, zero_allowed: bool) -> Checked
-    ensures { λ r. ⌜ checked r ≡ skipped (pairRecord ipv4 «zero_allowed» (now (m .entry)) at) ⌝ }
+pub fn pair_check(ipv6: bool, m: &[u8], at: usize, zero_allowed: bool) -> Checked
+    ensures { λ r. ⌜ checked r ≡ skipped (pairRecord (familyOf ipv6) «zero_allowed» (now (m .entry)) at) ⌝ }
 {
-    in_record(at, pair_fields(m, at, zero_allowed))
+    in_record(at, pair_fields(ipv6, m, at, zero_allowed))
 }
 
 // A record of a kind that has records of one length; 4 for the others.
-fn record_check(kind: Kind, m: &[u8], at: usize) -> Checked
-    ensures { λ r. ⌜ checked r ≡ skipped (recordAt ipv4 kind (now (m .entry)) at) ⌝ }
+fn record_check(ipv6: bool, kind: Kind, m: &[u8], at: usize) -> Checked
+    ensures { λ r. ⌜ checked r ≡ skipped (recordAt (familyOf ipv6) kind (now (m .entry)) at) ⌝ }
 {
     match kind {
         Kind::Hello => bad(4, 0),
-        Kind::Assert => assert_check(m, at),
-        Kind::Simple => assert_check(m, at),
+        Kind::Assert => assert_check(ipv6, m, at),
+        Kind::Simple => assert_check(ipv6, m, at),
         Kind::Aggregated => bad(4, 0),
-        Kind::NullRegister => pair_check(m, at, false),
-        Kind::RegisterStop => pair_check(m, at, true),
+        Kind::NullRegister => pair_check(ipv6, m, at, false),
+        Kind::RegisterStop => pair_check(ipv6, m, at, true),
     }
 }
 
 // The numbers of an assert record that is there; of one that is cut, those of the octets that are there. Past the end
 // there is none, and `at + 18` could wrap.
 fn assert_at(m: &[u8], at: usize) -> AssertFields
-    ensures { λ r. ⌜ assertOf r ≡ plainAssert (now (m .entry)) at ⌝ }
+    ensures { λ r. ⌜ assertOf r ≡ plainAssert ipv4 (now (m .entry)) at ⌝ }
 {
     if m.len() < at {
         return AssertFields {
@@ -104,7 +106,7 @@ fn assert_at(m: &[u8], at: usize) -> AssertFields
 
 // The same for a pair.
 fn pair_at(m: &[u8], at: usize) -> PairFields
-    ensures { λ r. ⌜ pairOf r ≡ plainPair (now (m .entry)) at ⌝ }
+    ensures { λ r. ⌜ pairOf r ≡ plainPair ipv4 (now (m .entry)) at ⌝ }
 {
     if m.len() < at {
         return PairFields {
@@ -120,7 +122,7 @@ fn pair_at(m: &[u8], at: usize) -> PairFields
 
 // The same by the kind. A hello and an aggregated message have no record of one length, and are refused before.
 fn record_at(kind: Kind, m: &[u8], at: usize) -> Record
-    ensures { λ r. ⌜ recordOf r ≡ plainRecord kind (now (m .entry)) at ⌝ }
+    ensures { λ r. ⌜ recordOf r ≡ plainRecord ipv4 kind (now (m .entry)) at ⌝ }
 {
     match kind {
         Kind::Hello => Record::Assert(assert_at(m, at)),
@@ -142,7 +144,7 @@ pub enum Single {
 pub fn read_record(kind: Kind, m: &[u8], at: usize) -> Single
     ensures { λ r. ⌜ single r ≡ recordAt ipv4 kind (now (m .entry)) at ⌝ }
 {
-    let c = record_check(kind, m, at);
+    let c = record_check(false, kind, m, at);
     match c {
         Checked::Bad(r) => Single::Refused(r),
         Checked::Next(next) => Single::Got {

@@ -1,67 +1,92 @@
--- `fields::field::is_source` meets its contract: of six octets, its tests are those of `sourceTest`, which `source-form` makes the definition's.
+-- `fields::field::is_source` meets its contract: of a source's octets, its tests are those of `sourceTest`, which `source-form` makes the definition's.
 -- Assumes nothing.
-use mathlib.Core.Path.{_≡_, refl}
-use mathlib.Core.Bool.{Bool, true, false, _&&_, _||_}
+use native.Mathlib.Omega.{arith}
+use mathlib.Core.Path.{_≡_, ap, _∙_}
+use mathlib.Core.Bool.{_&&_}
 use borrow.Author.Tests.{eq-eqb, ne-eqb}
 use borrow.Author.Needs.{needs}
 use denote.Ref.{now}
 use lib.Dec.{eqb}
 use lib.ListN.{length}
-use Rattle.format.specs.Family.{ipv4}
+use Rattle.records.specs.Sizes.{sourceSize}
+use Rattle.format.specs.Family.{familyOf, mayBeSource}
+use Rattle.format.specs.Values.{numberOf}
 use Rattle.format.specs.Address.{sourceForm}
+use Rattle.addresses.proofs.Laws.{address-there}
 use Rattle.fields.proofs.Fields.{sourceTest, source-form}
 use Rattle.fields.proofs.field.is_source.Statement.{statement}
 use Rattle.fields.proofs.field.is_source.Tie as tie
 
--- what is asked of six octets
+abbrev start : tie.Else1 → tie.Start
+start c = c .before .before .before
+
+long : (c : tie.Else1) → length (now (start c .args .s)) ≡ sourceSize (familyOf (start c .args .ipv6) .width)
+long c = c .if1 .left ∙ ap sourceSize (c .before .width .ensures .0)
+
+-- what is asked of so many octets
 asked : (c : tie.Else1)
-    → (eqb (length (now (c .before .before .args .s))) 6 && sourceForm ipv4 (c .before .before .args .zero-allowed) (now (c .before .before .args .s)))
-    ≡ sourceTest (c .before .before .args .zero-allowed) (now (c .before .before .args .s))
+    → (eqb (length (now (start c .args .s))) (sourceSize (familyOf (start c .args .ipv6) .width)) && sourceForm (familyOf (start c .args .ipv6)) (start c .args .zero-allowed) (now (start c .args .s)))
+    ≡ sourceTest (familyOf (start c .args .ipv6)) (start c .args .zero-allowed) (now (start c .args .s))
 asked c =
-    let a = c .before .before .args in
-    rw (eq-eqb _ _ (c .if1 .left)) (source-form (a .zero-allowed) (now (a .s)) (c .if1 .left))
+    let a = start c .args in
+    rw (eq-eqb _ _ (long c)) (source-form (familyOf (a .ipv6)) (a .zero-allowed) (now (a .s)) (long c))
 
 returns : tie.Need-returns
-returns c = rw (ne-eqb _ _ (c .if1 .taken))
+returns c = rw (← (c .before .width .ensures .0), ne-eqb _ _ (c .if1 .taken))
 
 returns-2 : tie.Need-returns-2
-returns-2 c = rw (asked (c .before .before), ne-eqb _ _ (c .if2 .taken))
+returns-2 c = rw (asked (c .before .before .before), ← (c .before .family-number .ensures), ne-eqb _ _ (c .if2 .taken))
 
 returns-3 : tie.Need-returns-3
-returns-3 c = rw (asked (c .before .before .before .before), eq-eqb _ _ (c .before .before .if2 .left), ne-eqb _ _ (c .if3 .taken))
+returns-3 c =
+    let e = c .before .before in
+    rw (asked (e .before .before .before), ← (e .before .family-number .ensures), eq-eqb _ _ (e .if2 .left), ne-eqb _ _ (c .if3 .taken))
 
--- whether the address may be 0 is asked last: it seldom is, whatever R of the record says
-any-true : (z : Bool) → true ≡ (z || true)
-any-true true = refl
-any-true false = refl
-
-any-false : (z : Bool) → z ≡ (z || false)
-any-false true = refl
-any-false false = refl
+-- past those tests the address decides
+left : (c : tie.After-address-at)
+    → sourceTest (familyOf (start (c .before .before .before .before .before .before) .args .ipv6)) (start (c .before .before .before .before .before .before) .args .zero-allowed) (now (start (c .before .before .before .before .before .before) .args .s))
+    ≡ mayBeSource (familyOf (start (c .before .before .before .before .before .before) .args .ipv6)) (start (c .before .before .before .before .before .before) .args .zero-allowed) (numberOf (c .address-at .result))
+left c =
+    let e = c .before .before .before in
+    let d = e .before .before .before in
+    let a = start d .args in
+    rw (← (e .before .family-number .ensures), eq-eqb _ _ (e .if2 .left), eq-eqb _ _ (c .before .if3 .left), c .address-at .ensures, address-there (familyOf (a .ipv6)) (now (a .s)) 2 (omega (arith, long d)))
 
 returns-4 : tie.Need-returns-4
+unfolding mayBeSource
 returns-4 c =
-    let n = c .before in
-    let d = n .before .before .before in
-    rw (asked (d .before .before), eq-eqb _ _ (d .if2 .left), eq-eqb _ _ (n .before .if3 .left), ← n .number32 .ensures, ne-eqb _ _ (c .if4 .taken))
-    (any-true (d .before .before .before .before .args .zero-allowed))
+    let d = c .before .before in
+    rw (asked (d .before .before .before .before .before .before), left d, ← (c .before .is-source .ensures), c .if4 .taken)
 
 returns-5 : tie.Need-returns-5
+unfolding mayBeSource
 returns-5 c =
-    let n = c .before in
-    let d = n .before .before .before in
-    rw (asked (d .before .before), eq-eqb _ _ (d .if2 .left), eq-eqb _ _ (n .before .if3 .left), ← n .number32 .ensures, eq-eqb _ _ (c .if4 .left))
-    (any-false (d .before .before .before .before .args .zero-allowed))
+    let e = c .before .before in
+    let d = e .before .before in
+    rw (asked (d .before .before .before .before .before .before), left d, ← (e .before .is-source .ensures), e .if4 .left, c .before .if5 .taken) (c .is-zero .ensures)
+
+returns-6 : tie.Need-returns-6
+unfolding mayBeSource
+returns-6 c =
+    let e = c .before in
+    let d = e .before .before in
+    rw (asked (d .before .before .before .before .before .before), left d, ← (e .before .is-source .ensures), e .if4 .left, c .if5 .left)
 
 pub is-source-spec : {M : Type 1} → statement M
 is-source-spec =
     tie.close
     (tie.spec
+    (λ c κs. search needs)
+    (λ c. search needs)
     returns
     (λ c. search needs)
+    (λ c κs. search needs)
     returns-2
     (λ c. search needs)
     returns-3
     (λ c κs. search needs)
+    (λ c κs. search needs)
     returns-4
-    returns-5)
+    (λ c κs. search needs)
+    returns-5
+    returns-6)

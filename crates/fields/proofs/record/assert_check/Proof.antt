@@ -4,7 +4,7 @@ use mathlib.Core.Path.{sym}
 use borrow.Author.Needs.{needs}
 use denote.Ref.{now}
 use Rattle.format.specs.Reader.{inRecord}
-use Rattle.format.specs.Family.{ipv4}
+use Rattle.format.specs.Family.{familyOf}
 use Rattle.format.specs.Record.{assertFields, assertRecord}
 use Rattle.fields.proofs.Skipped.{skipped-handUp}
 use Rattle.fields.proofs.record.assert_check.Statement.{statement}
@@ -14,7 +14,7 @@ returns : tie.Need-returns
 unfolding assertRecord inRecord
 returns c =
     let a = c .before .before .before .args in
-    rw (c .in-record .ensures, c .before .assert-fields .ensures) (sym (skipped-handUp (a .at) (assertFields ipv4 (now (a .m)) (a .at))))
+    rw (c .in-record .ensures, c .before .assert-fields .ensures) (sym (skipped-handUp (a .at) (assertFields (familyOf (a .ipv6)) (now (a .m)) (a .at))))
 
 pub assert-check-spec : {M : Type 1} → statement M
 assert-check-spec = tie.close (tie.spec (λ c κs. search needs) (λ c κs. search needs) returns)

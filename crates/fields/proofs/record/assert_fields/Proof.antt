@@ -3,13 +3,14 @@
 use Prim.Native.Nat.{_+_}
 use mathlib.Core.Path.{_≡_, ap, _∙_}
 use native.Mathlib.Omega.{arith}
-use borrow.Author.Tests.{eq-eqb, ne-eqb}
 use borrow.Author.Needs.{needs}
 use denote.Ref.{now}
+use lib.Dec.{eqb}
 use Rattle.octets.specs.Octets.{numberAt}
-use Rattle.octets.proofs.Laws.{number-cut}
 use Rattle.records.specs.Records.{rBit}
-use Rattle.fields.proofs.Asserts.{assert-no-group, assert-no-source, assert-no-word, Head, head, head-room, assert-zero, assert-last}
+use Rattle.format.specs.Family.{familyOf}
+use Rattle.addresses.proofs.Laws.{address-there}
+use Rattle.fields.proofs.Asserts.{assert-no-group, assert-no-source, assert-no-word, Head, head, head-room, zero-tested, assert-zero, assert-last}
 use Rattle.fields.proofs.record.assert_fields.Statement.{statement}
 use Rattle.fields.proofs.record.assert_fields.Tie as tie
 
@@ -26,13 +27,13 @@ sourced c = c .before .before .before .before
 returns : tie.Need-returns
 returns c =
     let a = c .before .before .before .before .args in
-    assert-no-group (now (a .m)) (a .at) (c .enum-told .given .1) (c .before .before .group-check .ensures)
+    assert-no-group (familyOf (a .ipv6)) (now (a .m)) (a .at) (c .enum-told .given .1) (c .before .before .group-check .ensures)
 
 returns-2 : tie.Need-returns-2
 returns-2 c =
     let g = c .before .before .before in
     let a = start g .args in
-    assert-no-source (now (a .m)) (a .at)
+    assert-no-source (familyOf (a .ipv6)) (now (a .m)) (a .at)
     (g .before .g .given .1) (g .before .before .before .group-check .ensures)
     (c .enum-told2 .given .1) (c .before .before .source-check .ensures)
 
@@ -41,70 +42,61 @@ returns-3 c =
     let s = c .before .before .before in
     let g = grouped s in
     let a = start g .args in
-    assert-no-word (now (a .m)) (a .at)
+    assert-no-word (familyOf (a .ipv6)) (now (a .m)) (a .at)
     (g .before .g .given .1) (g .before .before .before .group-check .ensures)
     (s .before .s .given .1) (s .before .before .before .source-check .ensures)
     (c .enum-told3 .given .1) (c .before .before .octets-check .ensures)
 
 -- the fields up to the R word are there
 found : (c : tie.After-known-told3)
-    → Head (now (start (grouped (sourced c)) .args .m)) (start (grouped (sourced c)) .args .at)
+    → Head (familyOf (start (grouped (sourced c)) .args .ipv6)) (now (start (grouped (sourced c)) .args .m)) (start (grouped (sourced c)) .args .at)
     (grouped (sourced c) .before .g .given .0 .0) (sourced c .before .s .given .0 .0) (c .before .v .given .0 .0)
 found c =
     let s = sourced c in
     let g = grouped s in
     let a = start g .args in
-    head (now (a .m)) (a .at)
+    head (familyOf (a .ipv6)) (now (a .m)) (a .at)
     (g .before .g .given .1) (g .before .before .before .group-check .ensures)
     (s .before .s .given .1) (s .before .before .before .source-check .ensures)
     (c .before .v .given .1) (c .before .before .before .octets-check .ensures)
 
-add-r-bit : tie.Need-add-r-bit
-add-r-bit c = omega (arith, head-room (found c))
-
-part-r-bit-end : tie.Need-part-r-bit-end
-part-r-bit-end c = omega (arith, head-room (found c))
-
 -- R as code has read it is that of the word
 bit-is : (c : tie.After-r-bit) → c .r-bit .result ≡ rBit (numberAt 4 (now (start (grouped (sourced (c .before .before))) .args .m)) (sourced (c .before .before) .before .s .given .0 .0))
-bit-is c =
-    let d = c .before .before in
-    let at = sourced d .before .s .given .0 .0 in
-    c .r-bit .ensures ∙ ap rBit (number-cut 4 (now (start (grouped (sourced d)) .args .m)) at (at + 4) (omega arith) (omega (arith, head-room (found d))))
+bit-is c = c .r-bit .ensures ∙ ap rBit (c .before .number32 .ensures)
 
 returns-4 : tie.Need-returns-4
 returns-4 c =
     let b = c .before .before in
     assert-last (found (b .before .before)) (rw (← bit-is b, c .before .if1 .taken)) (c .octets-check2 .ensures)
 
-add-number32 : tie.Need-add-number32
-add-number32 c = omega (arith, head-room (found (c .before .before .before)))
+add-address-at : tie.Need-add-address-at
+add-address-at c = omega (arith, head-room (found (c .before .before .before)))
 
-add-number32-2 : tie.Need-add-number32-2
-add-number32-2 c = omega (arith, head-room (found (c .before .before .before)))
-
-part-number32-end : tie.Need-part-number32-end
-part-number32-end c = omega (arith, head-room (found (c .before .before .before)))
+abbrev worded : tie.After-is-zero → tie.After-known-told3
+worded c = c .before .before .before .before .before
 
 -- the source as code has read it is the one that is tested
-source-is : (c : tie.After-number32)
-    → c .number32 .result ≡ numberAt 4 (now (start (grouped (sourced (c .before .before .before .before .before))) .args .m)) (grouped (sourced (c .before .before .before .before .before)) .before .g .given .0 .0 + 2)
+source-is : (c : tie.After-is-zero)
+    → c .is-zero .result ≡ eqb (numberAt (familyOf (start (grouped (sourced (worded c))) .args .ipv6) .width) (now (start (grouped (sourced (worded c))) .args .m)) (grouped (sourced (worded c)) .before .g .given .0 .0 + 2)) 0
 source-is c =
-    let d = c .before .before .before .before .before in
-    let at = grouped (sourced d) .before .g .given .0 .0 in
-    c .number32 .ensures ∙ number-cut 4 (now (start (grouped (sourced d)) .args .m)) (at + 2) (at + 6) (omega arith) (omega (arith, head-room (found d)))
+    let g = grouped (sourced (worded c)) in
+    let a = start g .args in
+    c .is-zero .ensures
+    ∙ ap (λ x. eqb x 0) (c .before .address-at .ensures ∙ address-there (familyOf (a .ipv6)) (now (a .m)) (g .before .g .given .0 .0 + 2) (omega (arith, head-room (found (worded c)))))
 
 returns-5 : tie.Need-returns-5
 returns-5 c =
-    let n = c .before .before in
-    let e = n .before .before in
-    assert-zero (found (e .before .before .before)) (rw (← bit-is (e .before), e .if1 .left, ← source-is n, eq-eqb _ _ (c .before .if2 .taken))) (c .bad .ensures)
+    let z = c .before .before in
+    let e = z .before .before in
+    let h = found (worded z) in
+    assert-zero h (zero-tested h (bit-is (e .before)) (e .if1 .left) (source-is z) (c .before .if2 .taken)) (c .bad .ensures)
 
 returns-6 : tie.Need-returns-6
 returns-6 c =
-    let n = c .before .before in
-    let e = n .before .before in
-    assert-last (found (e .before .before .before)) (rw (← bit-is (e .before), e .if1 .left, ← source-is n, ne-eqb _ _ (c .before .if2 .left))) (c .octets-check3 .ensures)
+    let z = c .before .before in
+    let e = z .before .before in
+    let h = found (worded z) in
+    assert-last h (zero-tested h (bit-is (e .before)) (e .if1 .left) (source-is z) (c .before .if2 .left)) (c .octets-check3 .ensures)
 
 pub assert-fields-spec : {M : Type 1} → statement M
 assert-fields-spec =
@@ -122,18 +114,12 @@ assert-fields-spec =
     (λ c. search needs)
     (λ c. search needs)
     returns-3
-    add-r-bit
-    (λ c. search needs)
-    (λ c. search needs)
-    part-r-bit-end
+    (λ c κs. search needs)
     (λ c κs. search needs)
     (λ c κs. search needs)
     returns-4
-    add-number32
-    add-number32-2
-    (λ c. search needs)
-    (λ c. search needs)
-    part-number32-end
+    add-address-at
+    (λ c κs. search needs)
     (λ c κs. search needs)
     (λ c κs. search needs)
     returns-5

@@ -5,7 +5,7 @@ use borrow.Author.Needs.{needs}
 use denote.Ref.{now}
 use Rattle.records.specs.Records.{pair}
 use Rattle.format.specs.Reader.{_>>=_, give}
-use Rattle.format.specs.Family.{ipv4}
+use Rattle.format.specs.Family.{familyOf}
 use Rattle.format.specs.Address.{groupField}
 use Rattle.format.specs.Record.{pairFields}
 use Rattle.fields.proofs.Skipped.{checks-bad, checks-on, skipped-last}
@@ -16,13 +16,13 @@ returns : tie.Need-returns
 unfolding pairFields _>>=_
 returns c =
     let a = c .before .before .before .before .args in
-    checks-bad (groupField ipv4 (now (a .m)) (a .at)) _ (c .enum-told .given .1) (c .before .before .group-check .ensures)
+    checks-bad (groupField (familyOf (a .ipv6)) (now (a .m)) (a .at)) _ (c .enum-told .given .1) (c .before .before .group-check .ensures)
 
 returns-2 : tie.Need-returns-2
 unfolding pairFields _>>=_ give
 returns-2 c =
     let a = c .before .before .before .before .before .before .args in
-    checks-on (groupField ipv4 (now (a .m)) (a .at)) _ (c .before .before .g .given .1) (c .before .before .before .before .group-check .ensures)
+    checks-on (groupField (familyOf (a .ipv6)) (now (a .m)) (a .at)) _ (c .before .before .g .given .1) (c .before .before .before .before .group-check .ensures)
     (λ g e. c .source-check .ensures ∙ sym (skipped-last _ (λ s. pair g s)))
 
 pub pair-fields-spec : {M : Type 1} → statement M

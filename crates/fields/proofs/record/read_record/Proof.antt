@@ -21,7 +21,7 @@ unfolding single
 returns-2 c =
     let a = c .before .before .before .before .before .before .args in
     checks-next (recordAt ipv4 (a .kind) (now (a .m)) (a .at)) (c .before .before .c2 .given .1) (c .before .before .before .before .record-check .ensures)
-    (λ e r. rw (r, record-back (a .kind) (now (a .m)) (a .at) r .0, c .record-at .ensures))
+    (λ e r. rw (r, record-back ipv4 (a .kind) (now (a .m)) (a .at) r .0, c .record-at .ensures))
 
 pub read-record-spec : {M : Type 1} → statement M
 read-record-spec =
