@@ -14,7 +14,9 @@ use Rattle.fields.specs.Answers.{checked, skipped}
 use Rattle.fields.specs.declared.field.Checked.{Checked}
 use Rattle.fields.specs.declared.field.Checked.the-variants.{Bad}
 use Rattle.octets.proofs.Laws.{octets-short}
-use Rattle.fields.proofs.Fields.{Comes, group-is, group-short, source-is, source-short}
+use Rattle.format.specs.Family.{ipv4}
+use Rattle.fields.specs.Encoded.{addressField as field, addressSize as size}
+use Rattle.fields.proofs.Fields.{Comes, group-is, source-is, address-short as field-short}
 use Rattle.counting.specs.Counts.{addressField, addressSize, addressForm, wholeAddresses}
 
 -- ---- how many are there
@@ -61,11 +63,11 @@ module _ (o : List ℕ) (at n whole i : ℕ) where
 pub address-is : (g : Bool) (o : List ℕ) (at : ℕ) → at + addressSize g ≤ length o
     → Comes (addressField g o at) (addressForm g (take (addressSize g) (drop at o))) (numberAt 4 o (at + (addressSize g - 4))) (at + addressSize g) at
 unfolding addressField addressSize addressForm
-address-is true o at h = group-is o at h
-address-is false o at h = source-is true o at h
+address-is true o at h = group-is ipv4 o at h
+address-is false o at h = source-is ipv4 true o at h
 
 pub address-short : (g : Bool) (o : List ℕ) (at : ℕ) {c : Checked} → length o < at + addressSize g → c ≡ Bad (record { number = 6; place = at })
     → checked c ≡ skipped (addressField g o at)
-unfolding addressField addressSize checked skipped
-address-short true o at h e = group-short o at e (rw (e, octets-short 8 o at h))
-address-short false o at h e = source-short true o at e (rw (e, octets-short 6 o at h))
+unfolding addressField addressSize checked skipped field size
+address-short true o at h e = field-short ipv4 true true o at e (rw (e, octets-short 8 o at h))
+address-short false o at h e = field-short ipv4 false true o at e (rw (e, octets-short 6 o at h))

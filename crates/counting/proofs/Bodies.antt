@@ -80,9 +80,9 @@ unfolding entryCount
 entry-room true g z o at n next h e =
     tallied-back recordCount (aggregatedRecord ipv4 o at) n next e (λ r p q. omega (arith, record-room o at h p))
 entry-room false true z o at n next h e =
-    tallied-back (λ x. 1) (assertRecord ipv4 o at) n next e (λ x p q. let b = assert-back o at p in omega (arith, b .1, b .2))
+    tallied-back (λ x. 1) (assertRecord ipv4 o at) n next e (λ x p q. let b = assert-back ipv4 o at p in omega (arith, b .1, b .2))
 entry-room false false z o at n next h e =
-    tallied-back (λ x. 1) (pairRecord ipv4 z o at) n next e (λ x p q. let b = pair-back z o at p in omega (arith, b .1, b .2))
+    tallied-back (λ x. 1) (pairRecord ipv4 z o at) n next e (λ x p q. let b = pair-back ipv4 z o at p in omega (arith, b .1, b .2))
 
 -- counting each record and adding up is counting what they all stand for
 module _ {A : Type 0} (one : A → ℕ) (all : List A → ℕ) (none : all [] ≡ 0) (more : (a : A) (l : List A) → all (a ∷ l) ≡ one a + all l) where

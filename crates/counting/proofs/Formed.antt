@@ -47,7 +47,7 @@ pair-passes : (z : Bool) (o : List ℕ) (at : ℕ) → at + 14 ≤ length o → 
 unfolding pairRecord inRecord pairFields _>>=_ give continue handUp tallied
 pair-passes z o at h g s =
     let next : at + 8 + 6 ≡ at + 14 = omega arith in
-    rw (group-is o at (omega arith) .is, g, source-is z o (at + 8) (omega arith) .is, s, next)
+    rw (group-is ipv4 o at (omega arith) .is, g, source-is ipv4 z o (at + 8) (omega arith) .is, s, next)
 
 assert-passes : (o : List ℕ) (at : ℕ) → at + 22 ≤ length o → groupForm ipv4 (take 8 (drop at o)) ≡ true
     → sourceForm ipv4 (rBit (numberAt 4 o (at + 14))) (take 6 (drop (at + 8) o)) ≡ true
@@ -57,11 +57,11 @@ assert-passes o at h g s =
     let word : at + 8 + 6 ≡ at + 14 = omega arith in
     let metric : at + 14 + 4 ≡ at + 18 = omega arith in
     let next : at + 18 + 4 ≡ at + 22 = omega arith in
-    let both = source-both (rBit (numberAt 4 o (at + 14))) (take 6 (drop (at + 8) o)) (part-number 2 o (at + 8) (omega arith)) s in
+    let both = source-both (rBit (numberAt 4 o (at + 14))) (take 6 (drop (at + 8) o)) (part-number 4 2 o (at + 8) (omega arith)) s in
     rw (
-      group-is o at (omega arith) .is,
+      group-is ipv4 o at (omega arith) .is,
       g,
-      source-is true o (at + 8) (omega arith) .is,
+      source-is ipv4 true o (at + 8) (omega arith) .is,
       both .0,
       word,
       number-there 4 o (at + 14) (omega arith),

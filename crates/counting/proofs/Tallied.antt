@@ -325,7 +325,7 @@ record-small (ofRp v m rs) = omega (arith, record-rp v m rs, groups-small rs)
 
 within : (o : List ℕ) (at : ℕ) {r : GroupRecord} {n : ℕ} → groupRecord ipv4 o at ≡ got r n → at ≤ length o
 unfolding groupRecord _>>=_
-within o at e = continue-back (groupField ipv4 o at) _ e (λ g n p q. omega (arith, group-back o at p))
+within o at e = continue-back (groupField ipv4 o at) _ e (λ g n p q. omega (arith, group-back ipv4 o at p))
 
 pub group-room : (o : List ℕ) (at : ℕ) {r : GroupRecord} {n : ℕ} → groupRecord ipv4 o at ≡ got r n → groupCount r + at ≤ n
 group-room o at {r} {n} e =

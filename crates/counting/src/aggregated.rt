@@ -57,9 +57,9 @@ fn address_allowed(m: &[u8], at: usize, is_group: bool) -> bool
     ensures { λ r. ⌜ r ≡ addressForm «is_group» (take (addressSize «is_group») (drop at (now (m .entry)))) ⌝ }
 {
     if is_group {
-        return fields::is_group(&m[at..at + 8]);
+        return fields::is_group(false, &m[at..at + 8]);
     }
-    is_source(&m[at..at + 6], true)
+    is_source(false, &m[at..at + 6], true)
 }
 
 // The answer of a group that is there whole, or of a source: only its form can be at fault.
@@ -109,7 +109,7 @@ pub(crate) fn with_count(entries: usize, c: Checked) -> Counted
 fn group_record(m: &[u8], at: usize) -> Counted
     ensures { λ r. ⌜ counted r ≡ tallied groupCount (groupRecord ipv4 (now (m .entry)) at) ⌝ }
 {
-    let g = group_check(m, at);
+    let g = group_check(false, m, at);
     let Checked::Next(count_at) = g else {
         return with_count(0, g);
     };
@@ -169,7 +169,7 @@ fn count_check(m: &[u8], at: usize) -> Checked
 fn source_aggregated(m: &[u8], at: usize) -> Counted
     ensures { λ r. ⌜ counted r ≡ tallied recordCount (sourceAggregated ipv4 0 0 (now (m .entry)) at) ⌝ }
 {
-    let s = source_check(m, at, false);
+    let s = source_check(false, m, at, false);
     let Checked::Next(count_at) = s else {
         return with_count(0, s);
     };

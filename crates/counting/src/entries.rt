@@ -29,9 +29,9 @@ fn record_count(joined: bool, is_assert: bool, zero_allowed: bool, m: &[u8], at:
         return aggregated_record(m, at);
     }
     if is_assert {
-        return with_count(1, assert_check(m, at));
+        return with_count(1, assert_check(false, m, at));
     }
-    with_count(1, pair_check(m, at, zero_allowed))
+    with_count(1, pair_check(false, m, at, zero_allowed))
 }
 
 // How many records are passed by their form alone; of aggregated ones none is.
@@ -91,7 +91,7 @@ fn packed_check(m: &[u8]) -> Checked
 fn count_plain(m: &[u8]) -> Counted
     ensures { λ r. ⌜ counted r ≡ tallied length (assertsBody ipv4 Kind.Assert (now (m .entry)) 4) ⌝ }
 {
-    let c = assert_check(m, 4);
+    let c = assert_check(false, m, 4);
     let Checked::Next(next) = c else {
         return with_count(0, c);
     };

@@ -35,11 +35,11 @@ fn record_allowed(m: &[u8], at: usize, is_assert: bool, zero_allowed: bool) -> b
     requires { ⌜ at + recordSize «is_assert» ≤ length (now m) ⌝ }
     ensures { λ r. ⌜ r ≡ recordForm «is_assert» «zero_allowed» (now (m .entry)) at ⌝ }
 {
-    if is_group(&m[at..at + 8]) {
+    if is_group(false, &m[at..at + 8]) {
         if is_assert {
-            return is_source(&m[at + 8..at + 14], r_bit(&m[at + 14..at + 18]));
+            return is_source(false, &m[at + 8..at + 14], r_bit(&m[at + 14..at + 18]));
         }
-        return is_source(&m[at + 8..at + 14], zero_allowed);
+        return is_source(false, &m[at + 8..at + 14], zero_allowed);
     }
     false
 }

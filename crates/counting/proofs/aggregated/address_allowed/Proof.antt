@@ -1,6 +1,6 @@
 -- `counting::aggregated::address_allowed` meets its contract: the part is of the octets that the contract names. Assumes nothing.
 use Prim.Native.Nat.{_+_, _≤_}
-use mathlib.Core.Path.{refl, _∙_}
+use mathlib.Core.Path.{refl}
 use mathlib.Core.Bool.{true}
 use borrow.Author.Needs.{needs}
 use denote.Ref.{now}
@@ -29,7 +29,7 @@ unfolding addressSize addressForm
 returns c =
     let d = c .before .before in
     let a = d .before .before .args in
-    rw (d .if1 .taken) (c .is-group .ensures ∙ part-form 8 (groupForm ipv4) (now (a .m)) (a .at) (a .at + 8) refl (group-room d))
+    rw (d .if1 .taken) (part-form 8 (groupForm ipv4) (now (a .m)) (a .at) (a .at + 8) refl (group-room d) (c .is-group .ensures))
 
 part-is-source-end : tie.Need-part-is-source-end
 part-is-source-end c = source-room c
@@ -39,7 +39,7 @@ unfolding addressSize addressForm
 returns-2 c =
     let d = c .before .before in
     let a = d .before .before .args in
-    rw (d .if1 .left) (c .is-source .ensures ∙ part-form 6 (sourceForm ipv4 true) (now (a .m)) (a .at) (a .at + 6) refl (source-room d))
+    rw (d .if1 .left) (part-form 6 (sourceForm ipv4 true) (now (a .m)) (a .at) (a .at + 6) refl (source-room d) (c .is-source .ensures))
 
 pub address-allowed-spec : {M : Type 1} → statement M
 address-allowed-spec =

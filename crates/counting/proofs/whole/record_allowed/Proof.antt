@@ -25,7 +25,7 @@ part-is-group-end c = omega (arith, form-room (c .before .args .is-assert) (c .b
 group-is : (c : tie.After-is-group) → c .is-group .result ≡ groupForm ipv4 (take 8 (drop (start c .args .at) (now (start c .args .m))))
 group-is c =
     let a = start c .args in
-    c .is-group .ensures ∙ part-form 8 (groupForm ipv4) (now (a .m)) (a .at) (a .at + 8) refl (omega (arith, form-room (a .is-assert) (a .at) (length (now (a .m))) (start c .pre)))
+    part-form 8 (groupForm ipv4) (now (a .m)) (a .at) (a .at + 8) refl (omega (arith, form-room (a .is-assert) (a .at) (length (now (a .m))) (start c .pre))) (c .is-group .ensures)
 
 -- the octets of an assert record are there
 there : (c : tie.Then2) → start (c .before .before) .args .at + 22 ≤ length (now (start (c .before .before) .args .m))
@@ -46,7 +46,7 @@ returns c =
     let g = t .before .before in
     let a = start g .args in
     let bit = r .r-bit .ensures ∙ ap rBit (number-cut 4 (now (a .m)) (a .at + 14) (a .at + 18) (omega arith) (omega (arith, there t))) in
-    let form = c .is-source .ensures ∙ part-form 6 (sourceForm ipv4 (r .r-bit .result)) (now (a .m)) (a .at + 8) (a .at + 14) (omega arith) (omega (arith, there t)) in
+    let form = part-form 6 (sourceForm ipv4 (r .r-bit .result)) (now (a .m)) (a .at + 8) (a .at + 14) (omega arith) (omega (arith, there t)) (c .is-source .ensures) in
     rw (t .if2 .taken) (form-assert (now (a .m)) (a .at) (group-is g) (a .zero-allowed) (t .before .if1 .taken) bit form)
 
 part-is-source-end-2 : tie.Need-part-is-source-end-2
@@ -59,7 +59,7 @@ returns-2 c =
     let t = c .before .before in
     let g = t .before .before in
     let a = start g .args in
-    let form = c .is-source2 .ensures ∙ part-form 6 (sourceForm ipv4 (a .zero-allowed)) (now (a .m)) (a .at + 8) (a .at + 14) (omega arith) (form-room (a .is-assert) (a .at) (length (now (a .m))) (start g .pre)) in
+    let form = part-form 6 (sourceForm ipv4 (a .zero-allowed)) (now (a .m)) (a .at + 8) (a .at + 14) (omega arith) (form-room (a .is-assert) (a .at) (length (now (a .m))) (start g .pre)) (c .is-source2 .ensures) in
     rw (t .if2 .left) (form-pair (now (a .m)) (a .at) (group-is g) (a .zero-allowed) (t .before .if1 .taken) form)
 
 returns-3 : tie.Need-returns-3
