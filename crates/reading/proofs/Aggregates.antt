@@ -67,12 +67,12 @@ group-record-back o at r n e =
     continue-back (number 2 o countAt) _ rest (λ p reservedAt second rest₁.
     continue-back (octets 2 o reservedAt) _ rest₁ (λ x sourcesAt third rest₂.
     continue-back (times p (sourceField ipv4 true) o sourcesAt) _ rest₂ (λ ss end fourth last.
-    let a = group-back o at first in
+    let a = group-back ipv4 o at first in
     let b = number-back 2 o countAt second in
     let c = octets-back 2 o reservedAt third in
     let place : sourcesAt ≡ at + 12 = omega (arith, a .1, b .1, c .1) in
     let count : p ≡ numberAt 2 o (at + 8) = b .0 ∙ ap (numberAt 2 o) (a .1) in
-    let s = addresses-back 2 (sourceField ipv4 true) o (λ i v m h. source-back true o i h) p sourcesAt ss end (c .2) fourth in
+    let s = addresses-back 2 (sourceField ipv4 true) o (λ i v m h. source-back ipv4 true o i h) p sourcesAt ss end (c .2) fourth in
     let sources : ss ≡ plainAddresses 2 o (at + 12) (numberAt 2 o (at + 8)) = s .value ∙ ap₂ (λ (x y : ℕ). plainAddresses 2 o x y) place count in
     record {
       value = sym (got-value last) ∙ ap₂ ofGroup (a .0) sources;
@@ -109,12 +109,12 @@ source-aggregated-back o v m at r n e =
     continue-back (positive o countAt) _ rest (λ k reservedAt second rest₁.
     continue-back (octets 2 o reservedAt) _ rest₁ (λ x groupsAt third rest₂.
     continue-back (times k (groupField ipv4) o groupsAt) _ rest₂ (λ gs end fourth last.
-    let a = source-back false o at first in
+    let a = source-back ipv4 false o at first in
     let b = positive-back o countAt second in
     let c = octets-back 2 o reservedAt third in
     let place : groupsAt ≡ at + 10 = omega (arith, a .1, b .1, c .1) in
     let count : k ≡ numberAt 2 o (at + 6) = b .0 ∙ ap (numberAt 2 o) (a .1) in
-    let g = addresses-back 4 (groupField ipv4) o (λ i v m h. group-back o i h) k groupsAt gs end (c .2) fourth in
+    let g = addresses-back 4 (groupField ipv4) o (λ i v m h. group-back ipv4 o i h) k groupsAt gs end (c .2) fourth in
     let groups : gs ≡ plainAddresses 4 o (at + 10) (numberAt 2 o (at + 6)) = g .value ∙ ap₂ (λ (x y : ℕ). plainAddresses 4 o x y) place count in
     record {
       value = sym (got-value last) ∙ ap₂ (λ (x : ℕ) (y : List ℕ). ofSource v m x y) (a .0) groups;

@@ -170,11 +170,11 @@ length-pair-entry e = simp (length-append, length-be)
 span-suc : (s n : ℕ) → s * suc n ≡ s + s * n
 span-suc s n = omega (arith, mul-suc s n)
 
-pub asserts-series : (o : List ℕ) → Series (λ at. plainAssert o at ∷ []) (λ at. 22) (plainAsserts o) (λ at n. 22 * n)
+pub asserts-series : (o : List ℕ) → Series (λ at. plainAssert ipv4 o at ∷ []) (λ at. 22) (plainAsserts o) (λ at n. 22 * n)
 unfolding plainAsserts
 asserts-series o = record { none = λ at. refl; more = λ at n. refl; nothing = λ at. refl; further = λ at n. span-suc 22 n }
 
-pub pairs-series : (o : List ℕ) → Series (λ at. plainPair o at ∷ []) (λ at. 14) (plainPairs o) (λ at n. 14 * n)
+pub pairs-series : (o : List ℕ) → Series (λ at. plainPair ipv4 o at ∷ []) (λ at. 14) (plainPairs o) (λ at n. 14 * n)
 unfolding plainPairs
 pairs-series o = record { none = λ at. refl; more = λ at n. refl; nothing = λ at. refl; further = λ at n. span-suc 14 n }
 

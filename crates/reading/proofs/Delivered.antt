@@ -121,7 +121,7 @@ module _ (o : List ℕ) (n : ℕ) where
       counted-back (assertsBody ipv4 Assert o 4) n h (λ l next e s.
       continue-back (assertRecord ipv4 o 4) _ e (λ a m first rest.
       continue-back (nothingMore o m) _ rest (λ u k second last.
-      let b = assert-back o 4 first in
+      let b = assert-back ipv4 o 4 first in
       let one : 1 ≡ n = ap length (got-value last) ∙ s in
       record {
         there = omega (arith, b .1, b .2);
@@ -131,7 +131,7 @@ module _ (o : List ℕ) (n : ℕ) where
   -- the records of a packed body
   asserts-at : (at : ℕ) (l : List AssertRecord) (m : ℕ) → at ≤ length o → toEnd (length o) (assertRecord ipv4) o at ≡ got l m → Back o at l m (plainAsserts o at (length l)) (22 * length l)
   unfolding plainAsserts
-  asserts-at at l m h e = even-back (assertRecord ipv4) o 22 (plainAssert o) (plainAsserts o) (λ at. refl) (λ at n. refl) (λ at a n e. assert-back o at e) (length o) at l m h e
+  asserts-at at l m h e = even-back (assertRecord ipv4) o 22 (plainAssert ipv4 o) (plainAsserts o) (λ at. refl) (λ at n. refl) (λ at a n e. assert-back ipv4 o at e) (length o) at l m h e
 
   pub simple-entries : HasCounted (assertsBody ipv4 Simple o 4) n → Plainly o 8 22 n (assertsBody ipv4 Simple o 4) (plainAsserts o 8 n)
   unfolding assertsBody _>>_ valueOf
@@ -165,7 +165,7 @@ module _ (o : List ℕ) (n : ℕ) (z : Bool) where
   pairs-entries h =
       counted-back (records (pairRecord ipv4 z) o 4) n h (λ l next e s.
       let r = records-back (pairRecord ipv4 z) o 4 l next e in
-      let b = even-back (pairRecord ipv4 z) o 14 (plainPair o) (plainPairs o) (λ at. refl) (λ at n. refl) (λ at a n e. pair-back z o at e) (length o) 4 l next (omega (arith, r .0)) (r .1) in
+      let b = even-back (pairRecord ipv4 z) o 14 (plainPair ipv4 o) (plainPairs o) (λ at. refl) (λ at n. refl) (λ at a n e. pair-back ipv4 z o at e) (length o) 4 l next (omega (arith, r .0)) (r .1) in
       record { there = omega (arith, b .next, b .inside, ap (λ (x : ℕ). 14 * x) s); entries = rw (e, ← s) (b .value) })
 
 -- of a kind of which pairs were counted

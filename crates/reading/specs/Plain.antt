@@ -14,15 +14,16 @@ use lib.Dec.{leb}
 use Rattle.octets.specs.Octets.{numberAt}
 use Rattle.records.specs.Records.{AssertRecord, PairRecord, rBit, GroupRecord, ofGroup, AggregatedRecord, ofSource, ofRp}
 use Rattle.records.specs.Sizes.{groupRecordSize, aggregatedSize}
+use Rattle.format.specs.Family.{ipv4}
 use Rattle.fields.specs.Answers.{plainAssert, plainPair}
 
 unfoldable pub plainAsserts : List ℕ → ℕ → ℕ → List AssertRecord
 plainAsserts o at zero = []
-plainAsserts o at (suc n) = plainAssert o at ∷ plainAsserts o (at + 22) n
+plainAsserts o at (suc n) = plainAssert ipv4 o at ∷ plainAsserts o (at + 22) n
 
 unfoldable pub plainPairs : List ℕ → ℕ → ℕ → List PairRecord
 plainPairs o at zero = []
-plainPairs o at (suc n) = plainPair o at ∷ plainPairs o (at + 14) n
+plainPairs o at (suc n) = plainPair ipv4 o at ∷ plainPairs o (at + 14) n
 
 -- n encoded addresses, each after so many octets of its own: 4 before a group's address, 2 before a source's
 unfoldable pub plainAddresses : ℕ → List ℕ → ℕ → ℕ → List ℕ

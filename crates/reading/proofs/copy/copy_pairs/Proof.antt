@@ -69,7 +69,7 @@ loop-again c =
     let l = c1 .before .before .before in
     let m = now (l .before .before .before .args .m) in
     turn-next (pairs-series m) (l .loop .inv) (c1 .before .before .loop-test .taken)
-    (put-one (pairEntryOctets ipv4) (l .loop .d) (l .loop .out) {x = plainPair m (l .loop .at)}
+    (put-one (pairEntryOctets ipv4) (l .loop .d) (l .loop .out) {x = plainPair ipv4 m (l .loop .at)}
     (put-number-next 4 (l .loop .d) (l .loop .out) (numberAt 4 m (l .loop .at + 4)) _ (c1 .copy4 .ensures) (c2 .copy42 .ensures) (omega arith)) refl)
     (omega arith) (omega arith) (omega arith)
 

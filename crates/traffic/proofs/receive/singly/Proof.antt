@@ -20,7 +20,7 @@ use Rattle.fields.proofs.Plain.{record-back}
 use Rattle.traffic.proofs.receive.singly.Statement.{statement}
 use Rattle.traffic.proofs.receive.singly.Tie as tie
 
-size-some : (k : Kind) → 0 < plainSize k
+size-some : (k : Kind) → 0 < plainSize ipv4 k
 unfolding plainSize
 size-some Hello = omega arith
 size-some Assert = omega arith
@@ -33,7 +33,7 @@ further : (kind : Kind) (o : List ℕ) (at : ℕ) {s : Single} {r : Record} {n :
     → at < n
 unfolding single
 further kind o at p e =
-    let back = record-back kind o at (sym p ∙ ap single e) in
+    let back = record-back ipv4 kind o at (sym p ∙ ap single e) in
     let size = size-some kind in
     omega arith
 
