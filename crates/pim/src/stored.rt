@@ -3,11 +3,11 @@ use crate::messages::accepted;
 use crate::popcounts::LengthAnswer;
 use format::Refusal;
 use neighbours::Table;
-use sheet::Checked;
 use sheet::Counts;
 use sheet::Found;
 use sheet::SheetRead;
 use sheet::Stored;
+use sheet::Verdict;
 ghost use mathlib.Core.Path.{_≡_};
 ghost use Rattle.format.specs.Family.{ipv4};
 ghost use Rattle.sections.specs.Layout.{base};
@@ -38,15 +38,15 @@ fn no_counts() -> Counts
     }
 }
 
-fn check_answer(c: Checked) -> CheckAnswer
+fn check_answer(c: Verdict) -> CheckAnswer
     ensures { λ r. ⌜ r ≡ checkAnswer (checkedBy c) ⌝ }
 {
     match c {
-        Checked::Valid(counts) => CheckAnswer {
+        Verdict::Valid(counts) => CheckAnswer {
             refusal: accepted(),
             counts,
         },
-        Checked::Refused(refusal) => CheckAnswer {
+        Verdict::Refused(refusal) => CheckAnswer {
             refusal,
             counts: no_counts(),
         },

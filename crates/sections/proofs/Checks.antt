@@ -13,10 +13,10 @@ use Rattle.sections.specs.Layout.{Layout, assertsIn, pairsIn, headerSize
 use Rattle.sections.specs.Checking.{checkHeader, checkEntries, checkRows, checking, checkedBy}
 use Rattle.sections.specs.Sections.{checkSections, sectionBy}
 use Rattle.sections.specs.declared.Counts.{Counts}
-use Rattle.sections.specs.declared.Checked.{Checked}
-use Rattle.sections.specs.declared.Checked.the-variants.{Valid, Refused}
-use Rattle.sections.specs.declared.Section.{Section}
-use Rattle.sections.specs.declared.Section.the-variants.{Sound, Fault}
+use Rattle.sections.specs.declared.Verdict.{Verdict}
+use Rattle.sections.specs.declared.Verdict.the-variants.{Valid, Refused}
+use Rattle.sections.specs.declared.section.Section.{Section}
+use Rattle.sections.specs.declared.section.Section.the-variants.{Sound, Fault}
 
 module _ (L : Layout) (f : Family) (o : List ℕ) (c : Counts) {a : Section}
     (asserts : sectionBy a ≡ checkEntries (assertsIn f) o (headerSize L) (c .asserts)) where
@@ -40,7 +40,7 @@ regroup (gives t) (gives u) r y = refl
 regroup (gives t) (refuses n p) r y = refl
 regroup (refuses n p) b r y = refl
 
-module _ (L : Layout) (f : Family) (o : List ℕ) {x : Checked} (header : checkedBy x ≡ checkHeader L f o) where
+module _ (L : Layout) (f : Family) (o : List ℕ) {x : Verdict} (header : checkedBy x ≡ checkHeader L f o) where
   pub header-gives : {c : Counts} → x ≡ Valid c → checkHeader L f o ≡ gives c
   unfolding checkedBy
   header-gives e = sym header ∙ ap checkedBy e

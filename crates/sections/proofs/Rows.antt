@@ -21,7 +21,7 @@ use Rattle.octets.proofs.Laws.{number-is}
 use Rattle.fields.proofs.Fields.{number-none}
 use Rattle.format.specs.Family.{Family, ipv4}
 use Rattle.format.specs.Outcome.{gives, refuses, refuseIf, _>>_}
-use Rattle.neighbours.specs.Rows.{noRow, allowed, has}
+use Rattle.neighbours.specs.Rows.{addressOf, noRow, allowed, has}
 use Rattle.neighbours.specs.declared.Neighbour.{Neighbour}
 use Rattle.sections.specs.Contents.{flagsAt, rowAt}
 use Rattle.sections.specs.Checking.{fault, rowForm, rowFits, checkRows}
@@ -93,7 +93,7 @@ module _ (o : List ℕ) (at : ℕ) (earlier : List Neighbour) {x y : ℕ} (flags
     unfolding rowFits
     fits-not e = rw (form-is, lt-ltb x 4 few, eq-eqb y 0 none, ← is, e)
 
-    pub fits-is : allowed row ≡ true → {b : Bool} → b ≡ has (row .address) earlier → not b ≡ rowFits ipv4 o at earlier
+    pub fits-is : allowed row ≡ true → {b : Bool} → b ≡ has (addressOf row) earlier → not b ≡ rowFits ipv4 o at earlier
     unfolding rowFits
     fits-is e h = rw (form-is, lt-ltb x 4 few, eq-eqb y 0 none, ← is, e, ← h)
 

@@ -17,13 +17,13 @@ use Rattle.octets.specs.Octets.{numberAt}
 use Rattle.format.specs.Outcome.{Outcome, gives, refuses, refuseIf, _>>=_, _>>_}
 use Rattle.format.specs.Family.{Family}
 use Rattle.format.specs.Entry.{Entries}
-use Rattle.neighbours.specs.Rows.{allowed, has}
+use Rattle.neighbours.specs.Rows.{addressOf, allowed, has}
 use Rattle.neighbours.specs.declared.Neighbour.{Neighbour}
 use Rattle.sections.specs.Layout.{Layout, assertsIn, pairsIn, rowSize, headerSize, pairsFrom, rowsFrom, end}
 use Rattle.sections.specs.Contents.{flagsAt, rowAt}
 use Rattle.sections.specs.declared.Counts.{Counts}
-use Rattle.sections.specs.declared.Checked.{Checked}
-use Rattle.sections.specs.declared.Checked.the-variants.{Valid, Refused}
+use Rattle.sections.specs.declared.Verdict.{Verdict}
+use Rattle.sections.specs.declared.Verdict.the-variants.{Valid, Refused}
 
 unfoldable pub fault : Bool → ℕ → Outcome (Unit {0})
 fault test place = refuseIf test 14 place
@@ -69,7 +69,7 @@ rowForm f o at = ltb (flagsAt f o at) 4 && eqb (numberAt 1 o (at + f .width + 5)
 
 -- "no neighbour address 0 or twice": of two rows the later is at fault
 unfoldable pub rowFits : Family → List ℕ → ℕ → List Neighbour → Bool
-rowFits f o at earlier = rowForm f o at && (allowed (rowAt f o at) && not (has (rowAt f o at .address) earlier))
+rowFits f o at earlier = rowForm f o at && (allowed (rowAt f o at) && not (has (addressOf (rowAt f o at)) earlier))
 
 unfoldable pub checkRows : Family → List ℕ → List Neighbour → ℕ → ℕ → Outcome (Unit {0})
 checkRows f o earlier at zero = gives tt
@@ -85,6 +85,6 @@ checking L f o = do
   checkRows f o [] (rowsFrom L f c) (c .neighbours)
   gives c
 
-unfoldable pub checkedBy : Checked → Outcome Counts
+unfoldable pub checkedBy : Verdict → Outcome Counts
 checkedBy (Valid c) = gives c
 checkedBy (Refused r) = refuses (r .number) (r .place)

@@ -13,6 +13,7 @@ use Rattle.octets.specs.Octets.{numberAt, be, _&_}
 use Rattle.format.specs.Family.{Family}
 use Rattle.format.specs.Record.{each}
 use Rattle.format.specs.Entry.{count}
+use Rattle.neighbours.specs.Rows.{addressOf}
 use Rattle.neighbours.specs.declared.Neighbour.{Neighbour}
 use Rattle.sections.specs.Layout.{Layout, assertsIn, pairsIn, rowSize, headerSize, pairsFrom, rowsFrom, headerOctets}
 use Rattle.sections.specs.declared.Counts.{Counts}
@@ -39,7 +40,7 @@ rowsAt f o at (suc n) = rowAt f o at ∷ rowsAt f o (at + rowSize f) n
 
 unfoldable pub rowOctets : Family → Neighbour → List ℕ
 rowOctets f n =
-    be (f .width) (n .address) & be 4 (n .priority)
+    be (f .width) (addressOf n) & be 4 (n .priority)
     & be 1 (cond (n .«has_priority») 1 0 + cond (n .packs) 2 0) & be 1 0 & be 2 (n .holdtime)
 
 -- ---- contents

@@ -12,8 +12,8 @@ use Rattle.sections.specs.Layout.{Layout, assertsIn, pairsIn, rowSize, h
 use Rattle.sections.specs.Contents.{rowAt}
 use Rattle.sections.specs.Checking.{checkEntries, checkRows}
 use Rattle.sections.specs.declared.Counts.{Counts}
-use Rattle.sections.specs.declared.Section.{Section}
-use Rattle.sections.specs.declared.Section.the-variants.{Sound, Fault}
+use Rattle.sections.specs.declared.section.Section.{Section}
+use Rattle.sections.specs.declared.section.Section.the-variants.{Sound, Fault}
 
 unfoldable pub earlierRows : Family → List ℕ → ℕ → ℕ → List Neighbour
 earlierRows f o from zero = []

@@ -12,7 +12,7 @@ use lib.ListN.{length, getD, set, take, drop, length-drop}
 use lib.Seq.{take-add, take-all, take-suc, drop-drop, drop-cons, getD-take, length-take-le}
 use Rattle.octets.specs.Octets.{put, be}
 use Rattle.octets.specs.Field.{fitted}
-use Rattle.octets.proofs.Laws.{stores-put, put-nil, put-next, length-put, length-be, length-fitted}
+use Rattle.octets.proofs.Laws.{stores-put, put-nil, put-next, put-number-next, length-put, length-be, length-fitted}
 use Rattle.format.specs.Family.{ipv4}
 use Rattle.format.specs.Record.{each}
 use Rattle.format.proofs.Lengths.{each-append}
@@ -20,7 +20,6 @@ use Rattle.neighbours.specs.Rows.{used}
 use Rattle.neighbours.specs.declared.Neighbour.{Neighbour}
 use Rattle.neighbours.specs.declared.Table.{Table}
 use Rattle.neighbours.proofs.Rows.{used-long}
-use Rattle.reading.proofs.Copying.{put-number-next}
 use Rattle.sections.specs.Contents.{rowOctets}
 use Rattle.sheet.proofs.Rows.{length-row, length-rows}
 

@@ -24,8 +24,8 @@ use Rattle.sections.specs.Layout.{base, pairsFrom, rowsFrom}
 use Rattle.sections.specs.Contents.{rowAt, rowsAt, contentsAt}
 use Rattle.sections.specs.Checking.{checking, checkedBy}
 use Rattle.sections.specs.declared.Counts.{Counts}
-use Rattle.sections.specs.declared.Checked.{Checked}
-use Rattle.sections.specs.declared.Checked.the-variants.{Valid, Refused}
+use Rattle.sections.specs.declared.Verdict.{Verdict}
+use Rattle.sections.specs.declared.Verdict.the-variants.{Valid, Refused}
 use Rattle.sheet.specs.Calls.{ReadingCall, roomFor, delivered, reading}
 use Rattle.sheet.proofs.Rows.{length-rowsAt}
 use Rattle.sheet.proofs.Again.{sizes}
@@ -85,7 +85,7 @@ module _ {o : List ℕ} {at n : ℕ} {t : Table} {i : ℕ} (g : Gathering o at n
 
 -- ---- what the check answered
 
-module _ (o : List ℕ) {x : Checked} (said : checkedBy x ≡ checking base ipv4 o) where
+module _ (o : List ℕ) {x : Verdict} (said : checkedBy x ≡ checking base ipv4 o) where
   pub checked-gives : {c : Counts} → x ≡ Valid c → checking base ipv4 o ≡ gives c
   unfolding checkedBy
   checked-gives q = sym said ∙ ap checkedBy q

@@ -24,7 +24,7 @@ use Rattle.format.specs.Record.{each}
 use Rattle.format.proofs.Outcomes.{unless-gives}
 use Rattle.format.proofs.Readers.{At, at-left, at-right}
 use Rattle.format.proofs.Lengths.{length-each}
-use Rattle.neighbours.specs.Rows.{allowed, has, sheetRows}
+use Rattle.neighbours.specs.Rows.{addressOf, allowed, has, sheetRows}
 use Rattle.neighbours.specs.declared.Neighbour.{Neighbour}
 use Rattle.neighbours.proofs.Tables.{never, and-true}
 use Rattle.sections.specs.Layout.{rowSize}
@@ -64,30 +64,30 @@ flags-back (suc (suc (suc (suc n)))) h = absurd (omega arith)
 
 -- two rows have two addresses; none of some rows has a row's
 abbrev Other : Neighbour → Neighbour → Type 0
-Other n m = eqb (n .address) (m .address) ≡ false
+Other n m = eqb (addressOf n) (addressOf m) ≡ false
 
 abbrev New : List Neighbour → Neighbour → Type 0
-New l m = has (m .address) l ≡ false
+New l m = has (addressOf m) l ≡ false
 
-apart : (n : Neighbour) (l : List Neighbour) → has (n .address) l ≡ false → Every (Other n) l
+apart : (n : Neighbour) (l : List Neighbour) → has (addressOf n) l ≡ false → Every (Other n) l
 unfolding has Every
 apart n [] e = tt
-apart n (m ∷ l) e = go (eqb (m .address) (n .address)) refl e (apart n l)
+apart n (m ∷ l) e = go (eqb (addressOf m) (addressOf n)) refl e (apart n l)
   where
-    go : (b : Bool) → eqb (m .address) (n .address) ≡ b → (b || has (n .address) l) ≡ false
-        → (has (n .address) l ≡ false → Every (Other n) l)
-        → (eqb (n .address) (m .address) ≡ false) × Every (Other n) l
+    go : (b : Bool) → eqb (addressOf m) (addressOf n) ≡ b → (b || has (addressOf n) l) ≡ false
+        → (has (addressOf n) l ≡ false → Every (Other n) l)
+        → (eqb (addressOf n) (addressOf m) ≡ false) × Every (Other n) l
     go true q g k = never g
-    go false q g k = (ne-eqb (n .address) (m .address) (λ x. eqb-false (m .address) (n .address) q (sym x)), k g)
+    go false q g k = (ne-eqb (addressOf n) (addressOf m) (λ x. eqb-false (addressOf m) (addressOf n) q (sym x)), k g)
 
 or-false : (a b : Bool) → (a || b) ≡ false → (a ≡ false) × (b ≡ false)
 or-false true b e = never e
 or-false false b e = (refl, e)
 
-apart-back : (n : Neighbour) (l : List Neighbour) → Every (Other n) l → has (n .address) l ≡ false
+apart-back : (n : Neighbour) (l : List Neighbour) → Every (Other n) l → has (addressOf n) l ≡ false
 unfolding has Every
 apart-back n [] e = refl
-apart-back n (m ∷ l) e = rw (ne-eqb (m .address) (n .address) (λ x. eqb-false (n .address) (m .address) (e .0) (sym x))) (apart-back n l (e .1))
+apart-back n (m ∷ l) e = rw (ne-eqb (addressOf m) (addressOf n) (λ x. eqb-false (addressOf n) (addressOf m) (e .0) (sym x))) (apart-back n l (e .1))
 
 -- ---- rows that stand in a sheet
 
@@ -106,11 +106,11 @@ module _ (f : Family) where
         let w : ℕ = f .width in
         let flags : ℕ = cond (n .«has_priority») 1 0 + cond (n .packs) 2 0 in
         let few : flags < 4 = flags-few (n .«has_priority») (n .packs) in
-        let h1 = rest-at w (n .address) _ h in
+        let h1 = rest-at w (addressOf n) _ h in
         let h2 = rest-at 4 (n .priority) _ h1 in
         let h3 = rest-at 1 flags _ h2 in
         let h4 = rest-at 1 0 _ h3 in
-        let a : numberAt w o at ≡ n .address = number-at w (n .address) (at-left (be w (n .address)) _ h) refl (s .address) in
+        let a : numberAt w o at ≡ addressOf n = number-at w (addressOf n) (at-left (be w (addressOf n)) _ h) refl (s .address) in
         let p : numberAt 4 o (at + w) ≡ n .priority = number-at 4 (n .priority) (at-left (be 4 (n .priority)) _ h1) refl (s .priority) in
         let g : numberAt 1 o (at + w + 4) ≡ flags = number-at 1 flags (at-left (be 1 flags) _ h2) refl (omega arith) in
         let z : numberAt 1 o (at + w + 5) ≡ 0 = number-at 1 0 (at-left (be 1 0) _ h3) (omega arith) (lit< tt) in
@@ -135,8 +135,8 @@ module _ (f : Family) where
     check-rows [] earlier at h s e new = refl
     check-rows (n ∷ l) earlier at h s e new =
         let r = row-at n at (at-left (rowOctets f n) (each (rowOctets f) l) h) (s .0) in
-        let p = and-true (allowed n && not (has (n .address) l)) (sheetRows l) e in
-        let q = and-true (allowed n) (not (has (n .address) l)) (p .0) in
+        let p = and-true (allowed n && not (has (addressOf n) l)) (sheetRows l) e in
+        let q = and-true (allowed n) (not (has (addressOf n) l)) (p .0) in
         let others = apart n l (not-true _ (q .1)) in
         rw (r .1, r .0, q .0, new .0)
         (check-rows l (n ∷ earlier) (at + rowSize f) (rw (length-row n) at (at-right (rowOctets f n) (each (rowOctets f) l) h)) (s .1) (p .1)
@@ -163,7 +163,7 @@ module _ (f : Family) (o : List ℕ) where
       let parts = and-true (allowed r) _ (fits .1) in
       let more = rows-sheet n (r ∷ earlier) (at + rowSize f) rest in
       let two = every-map (New (r ∷ earlier)) (λ (m : Neighbour). Other r m × New earlier m)
-      (λ (m : Neighbour) b. or-false (eqb (r .address) (m .address)) (has (m .address) earlier) b) l (more .1) in
+      (λ (m : Neighbour) b. or-false (eqb (addressOf r) (addressOf m)) (has (addressOf m) earlier) b) l (more .1) in
       let others = every-map (λ (m : Neighbour). Other r m × New earlier m) (Other r) (λ (m : Neighbour) b. b .0) l two in
       let before = every-map (λ (m : Neighbour). Other r m × New earlier m) (New earlier) (λ (m : Neighbour) b. b .1) l two in
       (rw (parts .0, apart-back r l others) (more .0), (not-true _ (parts .1), before)))

@@ -30,7 +30,7 @@ use Rattle.format.proofs.Outcomes.{no-refusal, gives-same, then-gives, unless-g
 use Rattle.format.proofs.Readers.{At, at-left, at-right, at-end}
 use Rattle.format.proofs.Calls.{list-allowed}
 use Rattle.format.proofs.Faithful.{whole-long}
-use Rattle.neighbours.specs.Rows.{allowed, has, used, valid, tableOf}
+use Rattle.neighbours.specs.Rows.{addressOf, allowed, has, used, valid, tableOf}
 use Rattle.neighbours.specs.declared.Neighbour.{Neighbour}
 use Rattle.neighbours.specs.declared.Table.{Table}
 use Rattle.neighbours.proofs.Tables.{and-true, valid-parts}
@@ -140,7 +140,7 @@ module _ (L : Layout) (f : Family) (roomy : Roomy L f) (c : Counts) (ok : counts
 
 -- ---- the sheet
 
-every-nothing : (l : List Neighbour) → Every (λ (m : Neighbour). has (m .address) [] ≡ false) l
+every-nothing : (l : List Neighbour) → Every (λ (m : Neighbour). has (addressOf m) [] ≡ false) l
 unfolding has Every
 every-nothing [] = tt
 every-nothing (n ∷ l) = (refl, every-nothing l)

@@ -8,7 +8,7 @@ use Prim.Native.Nat.{_^_, _<_}
 use lib.ListN.{length}
 use Rattle.records.specs.Every.{Every}
 use Rattle.format.specs.Family.{Family}
-use Rattle.neighbours.specs.Rows.{most, used}
+use Rattle.neighbours.specs.Rows.{addressOf, most, used}
 use Rattle.neighbours.specs.declared.Neighbour.{Neighbour}
 use Rattle.neighbours.specs.declared.Table.{Table}
 use Rattle.sections.specs.Layout.{Layout, rowsFrom}
@@ -23,7 +23,7 @@ pub record Roomy (L : Layout) (f : Family) : Type 0 where
   pub offsets : (c : Counts) → countsAllowed L c ≡ true → rowsFrom L f c < 256 ^ L .width
 
 pub record RowFits (f : Family) (n : Neighbour) : Type 0 where
-  pub address : n .address < 256 ^ f .width
+  pub address : addressOf n < 256 ^ f .width
   pub priority : n .priority < 256 ^ 4
   pub holdtime : n .holdtime < 256 ^ 2
 

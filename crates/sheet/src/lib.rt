@@ -14,8 +14,8 @@ mod write;
 use format::Refusal;
 use neighbours::Table;
 pub use read::read_sheet;
-pub use sections::Checked;
 pub use sections::Counts;
+pub use sections::Verdict;
 pub use sections::check_sheet;
 pub use write::write_sheet;
 

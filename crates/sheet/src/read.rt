@@ -6,11 +6,11 @@ use crate::layout::sections_of;
 use format::Refusal;
 use neighbours::Table;
 use sections::ASSERT;
-use sections::Checked;
 use sections::Counts;
 use sections::HEADER;
 use sections::PAIR;
 use sections::ROW;
+use sections::Verdict;
 use sections::check_sheet;
 use sections::row_at;
 ghost use mathlib.Core.Path.{_≡_};
@@ -92,7 +92,7 @@ pub fn read_sheet(o: &[u8], asserts: &mut [u8], pairs: &mut [u8]) -> SheetRead
 {
     let x = check_sheet(o);
     match x {
-        Checked::Refused(r) => refused(r),
-        Checked::Valid(c) => deliver(o, c, asserts, pairs),
+        Verdict::Refused(r) => refused(r),
+        Verdict::Valid(c) => deliver(o, c, asserts, pairs),
     }
 }

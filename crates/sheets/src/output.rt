@@ -2,10 +2,10 @@
 use printing::named;
 use printing::number;
 use printing::refused;
-use sheet::Checked;
 use sheet::Counts;
 use sheet::Found;
 use sheet::Stored;
+use sheet::Verdict;
 
 fn counts(c: Counts) -> bool {
     number(b"asserts ", c.asserts as u64)
@@ -13,10 +13,10 @@ fn counts(c: Counts) -> bool {
         && named(b" neighbours ", c.neighbours as u64)
 }
 
-pub(crate) fn checked(c: Checked) -> bool {
+pub(crate) fn checked(c: Verdict) -> bool {
     match c {
-        Checked::Valid(n) => counts(n),
-        Checked::Refused(r) => refused(r, b"\n"),
+        Verdict::Valid(n) => counts(n),
+        Verdict::Refused(r) => refused(r, b"\n"),
     }
 }
 

@@ -5,7 +5,7 @@ use printing::hexadecimal;
 use printing::named;
 use printing::number;
 use printing::text;
-use sheet::Checked;
+use sheet::Verdict;
 ghost use Prim.Native.Nat.{_≤_};
 
 // How many octets the sheet has.
@@ -71,8 +71,8 @@ fn refused_at_start(o: &[u8]) -> usize
 {
     let c = sheet::check_sheet(o);
     match c {
-        Checked::Valid(_n) => 0,
-        Checked::Refused(r) => {
+        Verdict::Valid(_n) => 0,
+        Verdict::Refused(r) => {
             if r.number == 14 && r.place == 0 {
                 return 1;
             }

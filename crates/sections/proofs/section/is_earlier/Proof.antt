@@ -1,4 +1,4 @@
--- `sections::is_earlier` meets its contract. The loop's invariant: the rows that are left have the address exactly if all of them have it.
+-- `sections::section::is_earlier` meets its contract. The loop's invariant: the rows that are left have the address exactly if all of them have it.
 -- Assumes nothing.
 use mathlib.Core.Path.{_≡_, refl}
 use Prim.Native.Nat.{suc, _-_, _≤_}
@@ -9,8 +9,8 @@ use Rattle.format.specs.Family.{ipv4}
 use Rattle.neighbours.specs.Rows.{has}
 use Rattle.sections.specs.Sections.{earlierRows}
 use Rattle.sections.proofs.Rows.{earlier-here, earlier-next, earlier-none}
-use Rattle.sections.proofs.is_earlier.Statement.{statement}
-use Rattle.sections.proofs.is_earlier.Tie as tie
+use Rattle.sections.proofs.section.is_earlier.Statement.{statement}
+use Rattle.sections.proofs.section.is_earlier.Tie as tie
 
 abbrev Inv-loop : tie.InvT-loop
 Inv-loop o from count address i₀ i = (i ≤ count) × (has address (earlierRows ipv4 o from i) ≡ has address (earlierRows ipv4 o from count))

@@ -1,4 +1,4 @@
--- `sections::row_fits` meets its contract: its form, the row, the rows before it.
+-- `sections::section::row_fits` meets its contract: its form, the row, the rows before it.
 -- Assumes nothing.
 use mathlib.Core.Path.{refl, sym, _∙_}
 use Prim.Native.Nat.{_+_, _*_}
@@ -8,8 +8,8 @@ use borrow.Author.Needs.{needs}
 use Rattle.format.specs.Family.{ipv4}
 use Rattle.sections.specs.Sections.{earlierRows}
 use Rattle.sections.proofs.Rows.{fits-flags, fits-zero, fits-not, fits-is}
-use Rattle.sections.proofs.row_fits.Statement.{statement}
-use Rattle.sections.proofs.row_fits.Tie as tie
+use Rattle.sections.proofs.section.row_fits.Statement.{statement}
+use Rattle.sections.proofs.section.row_fits.Tie as tie
 
 returns : tie.Need-returns
 returns c =

@@ -1,12 +1,12 @@
--- `sections::number8` meets its contract.
+-- `sections::row::number8` meets its contract.
 -- Assumes nothing.
 use mathlib.Core.Path.{sym}
 use denote.Ref.{now}
 use borrow.Author.Needs.{needs}
 use Rattle.fields.proofs.Fields.{number-none}
 use Rattle.sections.proofs.Rows.{octet-is}
-use Rattle.sections.proofs.number8.Statement.{statement}
-use Rattle.sections.proofs.number8.Tie as tie
+use Rattle.sections.proofs.row.number8.Statement.{statement}
+use Rattle.sections.proofs.row.number8.Tie as tie
 
 returns : tie.Need-returns
 returns c = octet-is (now (c .before .before .args .o)) (c .before .before .args .at) (c .before .if1 .taken)

@@ -1,4 +1,4 @@
--- `sections::check_header` meets its contract: the tests are those of the definition, in its order.
+-- `sections::head::check_header` meets its contract: the tests are those of the definition, in its order.
 -- Assumes nothing.
 use mathlib.Core.Path.{sym, _∙_}
 use denote.Ref.{now}
@@ -8,8 +8,8 @@ use Rattle.format.specs.Family.{ipv4}
 use Rattle.sections.specs.Layout.{base}
 use Rattle.sections.specs.Checking.{checkedBy}
 use Rattle.sections.proofs.Header.{header-short, header-counts, header-offsets, header-fine}
-use Rattle.sections.proofs.check_header.Statement.{statement}
-use Rattle.sections.proofs.check_header.Tie as tie
+use Rattle.sections.proofs.head.check_header.Statement.{statement}
+use Rattle.sections.proofs.head.check_header.Tie as tie
 
 returns : tie.Need-returns
 returns c = c .refused .ensures ∙ sym (header-short base ipv4 (now (c .before .before .before .args .o)) (c .before .if1 .taken))

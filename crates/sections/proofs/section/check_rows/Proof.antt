@@ -1,4 +1,4 @@
--- `sections::check_rows` meets its contract: the loop's invariant is `RowsLeft`. The measure is the rows left.
+-- `sections::section::check_rows` meets its contract: the loop's invariant is `RowsLeft`. The measure is the rows left.
 -- Assumes nothing.
 use Prim.Native.Nat.{_-_}
 use native.Mathlib.Omega.{arith}
@@ -6,8 +6,8 @@ use denote.Ref.{now}
 use borrow.Author.Tests.{not-true, not-false}
 use Rattle.sections.specs.Sections.{sectionBy}
 use Rattle.sections.proofs.Rows.{RowsLeft, rows-start, rows-bad, rows-next, rows-end}
-use Rattle.sections.proofs.check_rows.Statement.{statement}
-use Rattle.sections.proofs.check_rows.Tie as tie
+use Rattle.sections.proofs.section.check_rows.Statement.{statement}
+use Rattle.sections.proofs.section.check_rows.Tie as tie
 
 abbrev Inv-loop : tie.InvT-loop
 Inv-loop o from count i₀ i = RowsLeft o from count i

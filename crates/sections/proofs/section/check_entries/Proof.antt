@@ -1,4 +1,4 @@
--- `sections::check_entries` meets its contract: what the part holds is what the sheet holds from the place on.
+-- `sections::section::check_entries` meets its contract: what the part holds is what the sheet holds from the place on.
 -- Assumes nothing.
 use mathlib.Core.Bool.{false}
 use mathlib.Core.Path.{_≡_, ap}
@@ -10,8 +10,8 @@ use borrow.Author.Needs.{needs}
 use Rattle.entries.specs.Kinds.{entriesFor}
 use Rattle.sections.specs.Sections.{sectionBy}
 use Rattle.sections.proofs.Entries.{Found, entries-sound, entries-bad, bad-there}
-use Rattle.sections.proofs.check_entries.Statement.{statement}
-use Rattle.sections.proofs.check_entries.Tie as tie
+use Rattle.sections.proofs.section.check_entries.Statement.{statement}
+use Rattle.sections.proofs.section.check_entries.Tie as tie
 
 -- the size that code has is that of the kind
 same : (c : tie.After-entry-size) → c .entry-size .result * c .before .before .args .count ≡ entriesFor false (c .before .before .args .kind) .size * c .before .before .args .count

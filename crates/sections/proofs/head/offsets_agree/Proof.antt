@@ -1,4 +1,4 @@
--- `sections::offsets_agree` meets its contract: the tests are those of the definition. Counts that are allowed do not wrap.
+-- `sections::head::offsets_agree` meets its contract: the tests are those of the definition. Counts that are allowed do not wrap.
 -- Assumes nothing.
 use mathlib.Core.Path.{refl}
 use Prim.Native.Nat.{_≤_}
@@ -8,8 +8,8 @@ use borrow.Author.Tests.{eq-eqb, ne-eqb}
 use borrow.Author.Needs.{needs}
 use Rattle.sections.specs.Layout.{base}
 use Rattle.sections.proofs.Header.{counts-within, agree-is}
-use Rattle.sections.proofs.offsets_agree.Statement.{statement}
-use Rattle.sections.proofs.offsets_agree.Tie as tie
+use Rattle.sections.proofs.head.offsets_agree.Statement.{statement}
+use Rattle.sections.proofs.head.offsets_agree.Tie as tie
 
 within : (c : tie.Start) → (c .args .c .asserts ≤ 1024) × (c .args .c .pairs ≤ 1024) × (c .args .c .neighbours ≤ 16)
 within c = counts-within base (c .args .c) (c .pre)

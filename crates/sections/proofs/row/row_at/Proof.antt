@@ -1,4 +1,4 @@
--- `sections::row_at` meets its contract: past the end the row is all 0, at the end too.
+-- `sections::row::row_at` meets its contract: past the end the row is all 0, at the end too.
 -- Assumes nothing.
 use mathlib.Core.Path.{sym, _∙_}
 use native.Mathlib.Omega.{arith}
@@ -7,8 +7,8 @@ use denote.Ref.{now}
 use borrow.Author.Needs.{needs}
 use Rattle.format.specs.Family.{ipv4}
 use Rattle.sections.proofs.Rows.{row-none}
-use Rattle.sections.proofs.row_at.Statement.{statement}
-use Rattle.sections.proofs.row_at.Tie as tie
+use Rattle.sections.proofs.row.row_at.Statement.{statement}
+use Rattle.sections.proofs.row.row_at.Tie as tie
 
 returns : tie.Need-returns
 returns c =

@@ -1,4 +1,4 @@
--- `sections::check_sections` meets its contract, section by section. The places lie in the sheet, so they do not wrap.
+-- `sections::section::check_sections` meets its contract, section by section. The places lie in the sheet, so they do not wrap.
 -- Assumes nothing.
 use mathlib.Core.Path.{_≡_}
 use Prim.Native.Nat.{_+_, _*_}
@@ -10,8 +10,8 @@ use Rattle.format.specs.Family.{ipv4}
 use Rattle.sections.specs.Layout.{base, pairsFrom, rowsFrom}
 use Rattle.sections.proofs.Header.{end-is}
 use Rattle.sections.proofs.Checks.{sections-asserts, sections-pairs, sections-rows}
-use Rattle.sections.proofs.check_sections.Statement.{statement}
-use Rattle.sections.proofs.check_sections.Tie as tie
+use Rattle.sections.proofs.section.check_sections.Statement.{statement}
+use Rattle.sections.proofs.section.check_sections.Tie as tie
 
 total : (c : tie.Start) → length (now (c .args .o)) ≡ 12 + 16 * c .args .c .asserts + 8 * c .args .c .pairs + 12 * c .args .c .neighbours
 total c = end-is (now (c .args .o)) (c .args .c) (c .pre)

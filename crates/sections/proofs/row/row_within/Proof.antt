@@ -1,4 +1,4 @@
--- `sections::row_within` meets its contract, field by field.
+-- `sections::row::row_within` meets its contract, field by field.
 -- Assumes nothing.
 use Prim.Native.Nat.{_+_}
 use native.Mathlib.Omega.{arith}
@@ -6,8 +6,8 @@ use denote.Ref.{now}
 use borrow.Author.Needs.{needs}
 use Rattle.format.proofs.Entries.{numberAt-lt}
 use Rattle.sections.proofs.Rows.{row-is}
-use Rattle.sections.proofs.row_within.Statement.{statement}
-use Rattle.sections.proofs.row_within.Tie as tie
+use Rattle.sections.proofs.row.row_within.Statement.{statement}
+use Rattle.sections.proofs.row.row_within.Tie as tie
 
 cast-t14 : tie.Need-cast-t14
 cast-t14 c =
