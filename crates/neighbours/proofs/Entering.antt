@@ -25,7 +25,7 @@ module _ (t : Table) (full : length (t .rows) ≡ most) (ok : valid t ≡ true) 
   used-is : length (used t) ≡ t .count
   used-is = long t full (valid-parts t ok)
 
-  module _ (n : Neighbour) (at : ℕ) (e : at ≡ 0 + place (addressOf n) (used t)) where
+  module _ (n : Neighbour) (at : ℕ) (e : at ≡ place (addressOf n) (used t)) where
     pub enter-old : at < t .count → Answered t (entering n (used t)) (record { table = record { rows = set (t .rows) at n; count = t .count }; change = Replaced })
     unfolding entering tableAfter doneBy doneOf
     enter-old h =
@@ -47,7 +47,7 @@ module _ (t : Table) (full : length (t .rows) ≡ most) (ok : valid t ≡ true) 
           let m = lt-leb most (length (used t)) (omega (arith, used-is)) in
           record { table = rw (absent, m) (appends t full (valid-parts t ok) n at (omega arith) h f c); done = rw (absent, m) }
 
-  module _ (a : ℕ) (at : ℕ) (e : at ≡ 0 + place a (used t)) where
+  module _ (a : ℕ) (at : ℕ) (e : at ≡ place a (used t)) where
     pub leave-old : {u : Table} → at < t .count
         → u ≡ closedUp t at
         → Answered t (leaving a (used t)) (record { table = u; change = Forgotten })

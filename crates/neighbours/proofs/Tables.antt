@@ -1,25 +1,24 @@
 -- Laws of a table as the calls test it, over the definitions of specs/Rows.antt and specs/Hearing.antt.
---     same-row                              a row of the array, whatever stands for one that is not there
---     holds-not, holds-is                   a row in use that is not allowed; one that is, by the search after it
+--     Comparing                             where a loop that compares each row with those after it stands: comparing-start, comparing-not,
+--                                           comparing-twice, comparing-next, comparing-done, comparing-end
 --     valid-over, valid-not, valid-rest     the table's own test, part by part
 --     Valid, valid-parts                    what a valid table has
 --     ask-14, ask-7, ask-fine               14, then 7
 --     asked-valid                           a table that a call takes is valid
 -- Assumes nothing.
-use mathlib.Core.Path.{_≡_, refl, sym, _∙_}
+use mathlib.Core.Path.{_≡_, refl, sym, ap, _∙_}
 use mathlib.Core.Bool.{Bool, true, false, not, _&&_}
 use mathlib.Core.List.{List, [], _∷_}
 use Prim.Native.Nat.{ℕ, zero, suc, _+_, _-_, _≤_, _<_}
 use native.Mathlib.Omega.{arith}
-use borrow.Author.Tests.{eq-eqb, ne-eqb, le-leb, lt-leb, leb-true, ltb-true, ltb-false}
-use lib.Dec.{eqb, ltb}
-use lib.ListN.{length, getD, take, drop, length-drop}
+use borrow.Author.Tests.{eq-eqb, ne-eqb, le-leb, lt-leb, leb-true}
+use lib.Dec.{eqb}
+use lib.ListN.{getD, drop}
 use Rattle.format.specs.Outcome.{gives, refuses, refuseIf, _>>_}
 use Rattle.neighbours.specs.declared.Neighbour.{Neighbour}
 use Rattle.neighbours.specs.declared.Table.{Table}
-use Rattle.neighbours.specs.Rows.{addressOf, most, noRow, allowed, place, has, used, sheetRows, allZero, valid}
+use Rattle.neighbours.specs.Rows.{addressOf, most, allowed, has, used, sheetRows, allZero, valid}
 use Rattle.neighbours.specs.Hearing.{asked}
-use Rattle.neighbours.proofs.Rows.{used-long, place-all, has-place, has-none}
 
 pub never : {A : Type 0} → true ≡ false → A
 never e = absurd (let z : _≡_ {A = ℕ} 0 1 = cc in omega arith)
@@ -28,36 +27,65 @@ pub and-true : (a b : Bool) → (a && b) ≡ true → (a ≡ true) × (b ≡ tru
 and-true true b e = (refl, e)
 and-true false b e = never (sym e)
 
--- ---- one row
+-- ---- each row compared with those after it
 
-pub same-row : (l : List Neighbour) (i : ℕ) (d e : Neighbour) → i < length l → getD l i d ≡ getD l i e
-same-row [] i d e h = absurd (omega arith)
-same-row (x ∷ l) zero d e h = refl
-same-row (x ∷ l) (suc i) d e h = same-row l i d e (omega arith)
+-- where a loop over n rows stands: the rows from number i on say what all of them say, and no row between i and j has the address of row i
+pub record Comparing (l : List Neighbour) (n i j : ℕ) : Type 0 where
+  pub within : i ≤ n
+  pub later : i < j
+  pub last : j ≤ n + 1
+  pub same : sheetRows (drop i l) ≡ sheetRows l
+  pub none : (x : Neighbour) → drop i l ≡ x ∷ drop (suc i) l → has (addressOf x) (drop j l) ≡ has (addressOf x) (drop (suc i) l)
 
-module _ (rows : List Neighbour) (n : ℕ) (within : n ≤ length rows) (i : ℕ) (d : Neighbour) (here : i < n) where
-  pub holds-not : allowed (getD rows i d) ≡ false → false ≡ (allowed (getD rows i noRow) && not (has (addressOf (getD rows i noRow)) (drop (suc i) (take n rows))))
-  holds-not e = rw (same-row rows i noRow d (omega arith), e)
+pub comparing-start : (l : List Neighbour) (n : ℕ) → Comparing l n 0 1
+comparing-start l n = record { within = omega arith; later = omega arith; last = omega arith; same = refl; none = λ x e. refl }
 
-  after : length (drop (suc i) (take n rows)) + suc i ≡ n
-  after = rw (length-drop, used-long rows n within) (omega arith)
+module _ {l : List Neighbour} {n i j : ℕ} (c : Comparing l n i j) where
+  module _ {x : Neighbour} (here : drop i l ≡ x ∷ drop (suc i) l) where
+    -- what the rows come to, by row i
+    by-row : (allowed x && not (has (addressOf x) (drop (suc i) l))) && sheetRows (drop (suc i) l) ≡ sheetRows l
+    unfolding sheetRows
+    by-row = sym (ap sheetRows here) ∙ c .same
 
-  pub holds-is : (r : ℕ) → allowed (getD rows i d) ≡ true → r ≡ i + 1 + place (addressOf (getD rows i d)) (drop (i + 1) (take n rows))
-      → eqb r n ≡ (allowed (getD rows i noRow) && not (has (addressOf (getD rows i noRow)) (drop (suc i) (take n rows))))
-  holds-is r e f = rw (same-row rows i noRow d (omega arith), e) (go (ltb (place a l) (length l)) refl)
-    where
-      a : ℕ
-      a = addressOf (getD rows i d)
+    pub comparing-not : allowed x ≡ false → false ≡ sheetRows l
+    comparing-not e = rw e at by-row
 
-      l : List Neighbour
-      l = drop (suc i) (take n rows)
+    module _ {y : Neighbour} (there : drop j l ≡ y ∷ drop (suc j) l) where
+      pub comparing-twice : addressOf x ≡ addressOf y → false ≡ sheetRows l
+      unfolding has
+      comparing-twice e =
+          let found : has (addressOf x) (drop (suc i) l) ≡ true = sym (c .none x here) ∙ (rw (there, eq-eqb (addressOf y) (addressOf x) (sym e))) in
+          go (allowed x) (rw found at by-row)
+        where
+          go : (b : Bool) → (b && false) && sheetRows (drop (suc i) l) ≡ sheetRows l → false ≡ sheetRows l
+          go true f = f
+          go false f = f
 
-      is : r ≡ suc i + place a l
-      is = f ∙ (let s : i + 1 ≡ suc i = omega arith in rw s)
+      pub comparing-next : j < n → (addressOf x ≡ addressOf y → ⊥) → Comparing l n i (j + 1)
+      unfolding has
+      comparing-next h e =
+          let more : j + 1 ≡ suc j = omega arith in
+          record {
+            within = c .within;
+            later = omega (arith, c .later);
+            last = omega arith;
+            same = c .same;
+            none = λ z f.
+                let is : z ≡ x = ap (λ k. getD k 0 z) (sym f ∙ here) in
+                rw (is, more) (rw (there, ne-eqb (addressOf y) (addressOf x) (λ q. e (sym q))) at (c .none x here));
+          }
 
-      go : (b : Bool) → ltb (place a l) (length l) ≡ b → eqb r n ≡ not (has a l)
-      go true t = rw (has-place a l (ltb-true (place a l) (length l) t), ne-eqb r n (λ q. omega (arith, is, after, ltb-true (place a l) (length l) t)))
-      go false t = rw (has-none a l (ltb-false (place a l) (length l) t), eq-eqb r n (omega (arith, is, after, ltb-false (place a l) (length l) t, place-all a l)))
+    pub comparing-done : i < n → drop j l ≡ [] → allowed x ≡ true → Comparing l n (i + 1) (i + 1 + 1)
+    unfolding has
+    comparing-done h e f =
+        let none : has (addressOf x) (drop (suc i) l) ≡ false = sym (c .none x here) ∙ (rw e) in
+        let more : i + 1 ≡ suc i = omega arith in
+        let past : i + 1 + 1 ≡ suc (suc i) = omega arith in
+        record { within = omega arith; later = omega arith; last = omega arith; same = rw more (rw (f, none) at by-row); none = λ z g. rw (past, more) }
+
+  pub comparing-end : drop i l ≡ [] → true ≡ sheetRows l
+  unfolding sheetRows
+  comparing-end e = rw e at (c .same)
 
 -- ---- the table's own test
 

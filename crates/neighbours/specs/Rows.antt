@@ -7,12 +7,12 @@
 --     sheetRows                 rows that a sheet may hold together
 --     used, valid               the rows in use, and a table that row 14 of 01's table lets pass
 --     tableOf                   the table of some rows: the others are all 0
---     holdsAt, gone, closedUp   the same in the array: a row in use by those after it; the rows but one; the table without it
+--     gone, closedUp            the same in the array: the rows but one; the table without it
 -- Assumes nothing: these are definitions.
 use Prim.Native.Nat.{ℕ, suc, _-_}
 use mathlib.Core.Bool.{Bool, true, false, not, cond, _&&_, _||_}
 use mathlib.Core.List.{List, [], _∷_, _++_}
-use lib.ListN.{length, getD, take, drop, replicate}
+use lib.ListN.{length, take, drop, replicate}
 use lib.Dec.{eqb, leb}
 use Rattle.neighbours.specs.declared.Neighbour.{Neighbour}
 use Rattle.neighbours.specs.declared.Table.{Table}
@@ -62,9 +62,6 @@ valid t = leb (t .count) most && (sheetRows (used t) && allZero (drop (t .count)
 
 unfoldable pub tableOf : List Neighbour → Table
 tableOf l = record { rows = l ++ replicate (most - length l) noRow; count = length l }
-
-abbrev pub holdsAt : Table → ℕ → Bool
-holdsAt t i = allowed (getD (t .rows) i noRow) && not (has (addressOf (getD (t .rows) i noRow)) (drop (suc i) (used t)))
 
 abbrev pub gone : ℕ → List Neighbour → List Neighbour
 gone at l = take at l ++ drop (suc at) l

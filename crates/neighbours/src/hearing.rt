@@ -35,7 +35,7 @@ fn enter(table: Table, row: Neighbour) -> Changed
     ensures table { λ r. ⌜ r .table ≡ tableAfter table (entering row (used table)) ⌝ }
     ensures done { λ r. ⌜ doneBy (r .change) ≡ doneOf (entering row (used table)) ⌝ }
 {
-    let at = find(table, 0, row.address);
+    let at = find(table, row.address);
     let count = table.count;
     let mut after = table;
     if at < count {
@@ -87,7 +87,7 @@ fn leave(table: Table, address: u32) -> Changed
     ensures table { λ r. ⌜ r .table ≡ tableAfter table (leaving address (used table)) ⌝ }
     ensures done { λ r. ⌜ doneBy (r .change) ≡ doneOf (leaving address (used table)) ⌝ }
 {
-    let at = find(table, 0, address);
+    let at = find(table, address);
     if at < table.count {
         return Changed {
             table: close_up(table, at),

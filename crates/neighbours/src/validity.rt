@@ -6,9 +6,9 @@ use crate::row::is_allowed;
 use crate::row::is_zero;
 use format::Refusal;
 ghost use mathlib.Core.Path.{_≡_};
-ghost use Prim.Native.Nat.{_+_, _≤_, _<_};
+ghost use Prim.Native.Nat.{_≤_};
 ghost use lib.ListN.{drop};
-ghost use Rattle.neighbours.specs.Rows.{most, allZero, place, sheetRows, used, valid, holdsAt};
+ghost use Rattle.neighbours.specs.Rows.{most, allZero, place, sheetRows, used, valid};
 ghost use Rattle.neighbours.specs.Hearing.{asked};
 ghost use Rattle.neighbours.specs.Answers.{askedBy};
 
@@ -18,13 +18,13 @@ pub(crate) enum Asked {
     Refused(Refusal),
 }
 
-// Where an address stands among the rows in use from a number on; their number if nowhere.
-pub(crate) fn find(table: Table, from: usize, address: u32) -> usize
-    requires { ⌜ (from ≤ table .count) × (table .count ≤ most) ⌝ }
-    ensures { λ r. ⌜ r ≡ from + place address (drop from (used table)) ⌝ }
+// Where an address stands among the rows in use; their number if nowhere.
+pub(crate) fn find(table: Table, address: u32) -> usize
+    requires { ⌜ table .count ≤ most ⌝ }
+    ensures { λ r. ⌜ r ≡ place address (used table) ⌝ }
 {
     let count = table.count;
-    let mut i = from;
+    let mut i = 0;
     while i < count {
         if table.rows[i].address == address {
             return i;
@@ -34,30 +34,27 @@ pub(crate) fn find(table: Table, from: usize, address: u32) -> usize
     count
 }
 
-// Whether a row in use is allowed and its address does not come again.
-fn row_holds(table: Table, i: usize) -> bool
-    requires { ⌜ (i < table .count) × (table .count ≤ most) ⌝ }
-    ensures { λ r. ⌜ r ≡ holdsAt table i ⌝ }
-{
-    let row = table.rows[i];
-    if is_allowed(row) {
-        return find(table, i + 1, row.address) == table.count;
-    }
-    false
-}
-
-// Whether a sheet may hold the rows in use.
+// Whether a sheet may hold the rows in use. A row is compared with those after it in the same loop: a table that is passed
+// on for each row is copied for each row.
 fn rows_hold(table: Table) -> bool
     requires { ⌜ table .count ≤ most ⌝ }
     ensures { λ r. ⌜ r ≡ sheetRows (used table) ⌝ }
 {
     let count = table.count;
     let mut i = 0;
+    let mut j = 1;
     while i < count {
-        if row_holds(table, i) {
-            i += 1;
+        if j < count {
+            if table.rows[i].address == table.rows[j].address {
+                return false;
+            }
+            j += 1;
         } else {
-            return false;
+            if !is_allowed(table.rows[i]) {
+                return false;
+            }
+            i += 1;
+            j = i + 1;
         }
     }
     true

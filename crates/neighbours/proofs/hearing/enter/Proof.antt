@@ -19,7 +19,7 @@ within : (c : tie.Start) → c .args .table .count ≤ most
 within c = valid-parts (c .args .table) (c .pre) .within
 
 find-requires : tie.Need-find-requires
-find-requires c κs = (search needs, within c)
+find-requires c κs = within c
 
 element-set-from-row : tie.Need-element-set-from-row
 element-set-from-row c = omega (arith, c .if1 .taken, within (c .before .before))

@@ -18,7 +18,7 @@ within : (c : tie.Start) → c .args .table .count ≤ most
 within c = valid-parts (c .args .table) (c .pre) .within
 
 find-requires : tie.Need-find-requires
-find-requires c κs = (search needs, within c)
+find-requires c κs = within c
 
 close-up-requires : tie.Need-close-up-requires
 close-up-requires c κs = (c .if1 .taken, within (c .before .before .before))

@@ -1,8 +1,9 @@
 -- `neighbours::validity::find` meets its contract. The loop's invariant: where the address stands among the rows that are left is where it stands among
 -- all of them.
 -- Assumes nothing.
-use mathlib.Core.Path.{_≡_, refl, _∙_}
+use mathlib.Core.Path.{_≡_, _∙_}
 use Prim.Native.Nat.{_+_, _-_, _≤_}
+use native.Mathlib.Nat.{zero-add}
 use native.Mathlib.Omega.{arith}
 use borrow.Author.Needs.{needs}
 use lib.ListN.{length, drop}
@@ -12,22 +13,22 @@ use Rattle.neighbours.proofs.validity.find.Statement.{statement}
 use Rattle.neighbours.proofs.validity.find.Tie as tie
 
 abbrev Inv-loop : tie.InvT-loop
-Inv-loop from address table count i₀ i = (i ≤ count) × (i + place address (drop i (used table)) ≡ from + place address (drop from (used table)))
+Inv-loop address table count i₀ i = (i ≤ count) × (i + place address (drop i (used table)) ≡ place address (used table))
 
 abbrev μ-loop : tie.MeasureT-loop
-μ-loop from address table count i₀ i = count - i
+μ-loop address table count i₀ i = count - i
 
 -- the rows in use are rows of the array
 within : (c : tie.Start Inv-loop μ-loop) → c .args .t1 .count ≤ length (c .args .t1 .rows)
 within c =
     let full : length (c .args .t1 .rows) ≡ most = all-rows (c .args .t1 .rows) (c .good .0 .1 .1 .0 .1 .0 .1) in
-    omega (arith, full, c .pre .1)
+    omega (arith, full, c .pre)
 
 loop-holds : tie.Need-loop-holds Inv-loop μ-loop
-loop-holds c = (c .pre .0, refl)
+loop-holds c = (search needs, zero-add _)
 
 element-copy-out-if1 : tie.Need-element-copy-out-if1 Inv-loop μ-loop
-element-copy-out-if1 c = omega (arith, c .loop-test .taken, c .before .before .pre .1)
+element-copy-out-if1 c = omega (arith, c .loop-test .taken, c .before .before .pre)
 
 returns : tie.Need-returns Inv-loop μ-loop
 returns c =

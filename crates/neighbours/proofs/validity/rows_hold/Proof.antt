@@ -1,56 +1,93 @@
--- `neighbours::validity::rows_hold` meets its contract. The loop's invariant: the rows that are left give what all of them give.
+-- `neighbours::validity::rows_hold` meets its contract: the loop's invariant is `Comparing`. The measure is what is left to compare, row
+-- by row.
 -- Assumes nothing.
-use mathlib.Core.Path.{_≡_, refl, sym, _∙_}
-use Prim.Native.Nat.{_-_, _≤_}
+use mathlib.Core.Path.{_≡_, sym, _∙_}
+use Prim.Native.Nat.{_+_, _-_, _*_, _≤_}
 use native.Mathlib.Omega.{arith}
+use borrow.Author.Tests.{not-true, not-false}
 use borrow.Author.Needs.{needs}
-use lib.ListN.{length, drop}
-use Rattle.neighbours.specs.Rows.{most, noRow, used, sheetRows}
-use Rattle.neighbours.proofs.Rows.{all-rows, next-row, no-row-left, scan-next, scan-stop, scan-end}
+use lib.ListN.{length}
+use Rattle.neighbours.specs.Rows.{most, used}
+use Rattle.neighbours.proofs.Rows.{all-rows, next-row, no-row-left}
+use Rattle.neighbours.proofs.Tables.{Comparing, comparing-start, comparing-not, comparing-twice, comparing-next, comparing-done, comparing-end}
 use Rattle.neighbours.proofs.validity.rows_hold.Statement.{statement}
 use Rattle.neighbours.proofs.validity.rows_hold.Tie as tie
 
 abbrev Inv-loop : tie.InvT-loop
-Inv-loop table count i₀ i = (i ≤ count) × (sheetRows (drop i (used table)) ≡ sheetRows (used table))
+Inv-loop table count i₀ j₀ i j = Comparing (used table) (table .count) i j
 
 abbrev μ-loop : tie.MeasureT-loop
-μ-loop table count i₀ i = count - i
+μ-loop table count i₀ j₀ i j = (most - i) * 18 + (18 - j)
 
 -- the rows in use are rows of the array
-within : (c : tie.Start Inv-loop μ-loop) → c .args .table .count ≤ length (c .args .table .rows)
+within : (c : tie.Start Inv-loop μ-loop) → c .args .t1 .count ≤ length (c .args .t1 .rows)
 within c =
-    let full : length (c .args .table .rows) ≡ most = all-rows (c .args .table .rows) (c .good .0 .1 .1 .0 .1 .0 .1) in
+    let full : length (c .args .t1 .rows) ≡ most = all-rows (c .args .t1 .rows) (c .good .0 .1 .1 .0 .1 .0 .1) in
     omega (arith, full, c .pre)
 
 loop-holds : tie.Need-loop-holds Inv-loop μ-loop
-loop-holds c = (search needs, refl)
-
-row-holds-requires : tie.Need-row-holds-requires Inv-loop μ-loop
-row-holds-requires c κs = (c .loop-test .taken, c .before .before .pre)
-
-loop-again : tie.Need-loop-again Inv-loop μ-loop
-unfolding sheetRows
-loop-again c =
-    let p = c .before .before .before in
-    let t = p .before .args .table in
-    let i = p .loop .i in
-    (search needs, scan-next sheetRows (used t) i (p .loop .inv .1) (next-row (t .rows) (t .count) (within (p .before)) i noRow (c .before .before .loop-test .taken)) refl (sym (c .before .row-holds .ensures) ∙ c .if1 .taken))
+loop-holds c = comparing-start (used (c .args .t1)) (c .args .t1 .count)
 
 returns : tie.Need-returns Inv-loop μ-loop
-unfolding sheetRows
 returns c =
-    let p = c .before .before .before in
-    let t = p .before .args .table in
-    let i = p .loop .i in
-    scan-stop sheetRows (used t) i (p .loop .inv .1) (next-row (t .rows) (t .count) (within (p .before)) i noRow (c .before .before .loop-test .taken)) refl (sym (c .before .row-holds .ensures) ∙ c .if1 .left)
+    let k = c .before .before .before in
+    let t = k .before .args .t1 in
+    comparing-twice (k .loop .inv)
+    (next-row (t .rows) (t .count) (within (k .before)) (k .loop .i) _ (c .before .before .loop-test .taken))
+    (next-row (t .rows) (t .count) (within (k .before)) (k .loop .j) _ (c .before .if1 .taken)) (c .if2 .taken)
+
+loop-again : tie.Need-loop-again Inv-loop μ-loop
+loop-again c =
+    let k = c .before .before .before in
+    let t = k .before .args .t1 in
+    comparing-next (k .loop .inv)
+    (next-row (t .rows) (t .count) (within (k .before)) (k .loop .i) _ (c .before .before .loop-test .taken))
+    (next-row (t .rows) (t .count) (within (k .before)) (k .loop .j) _ (c .before .if1 .taken)) (c .before .if1 .taken) (c .if2 .left)
 
 returns-2 : tie.Need-returns-2 Inv-loop μ-loop
-unfolding sheetRows
 returns-2 c =
-    let t = c .before .before .args .table in
-    let i = c .before .loop .i in
-    scan-end sheetRows (used t) i (c .before .loop .inv .1) (no-row-left (t .rows) (t .count) (within (c .before .before)) i (c .loop-test .left)) refl
+    let k = c .before .before .before .before .before in
+    let t = k .before .args .t1 in
+    comparing-not (k .loop .inv)
+    (next-row (t .rows) (t .count) (within (k .before)) (k .loop .i) _ (c .before .before .before .before .loop-test .taken))
+    (sym (c .before .is-allowed .ensures) ∙ not-true _ (c .if3 .taken))
+
+loop-again-2 : tie.Need-loop-again-2 Inv-loop μ-loop
+loop-again-2 c =
+    let k = c .before .before .before .before .before in
+    let t = k .before .args .t1 in
+    let h = c .before .before .before .before .loop-test .taken in
+    comparing-done (k .loop .inv) (next-row (t .rows) (t .count) (within (k .before)) (k .loop .i) _ h) h
+    (no-row-left (t .rows) (t .count) (within (k .before)) (k .loop .j) (c .before .before .before .if1 .left))
+    (sym (c .before .is-allowed .ensures) ∙ not-false _ (c .if3 .left))
+
+returns-3 : tie.Need-returns-3 Inv-loop μ-loop
+returns-3 c =
+    let k = c .before in
+    let t = k .before .args .t1 in
+    comparing-end (k .loop .inv) (no-row-left (t .rows) (t .count) (within (k .before)) (k .loop .i) (c .loop-test .left))
 
 pub rows-hold-spec : {M : Type 1} → statement M
 rows-hold-spec =
-    tie.close (tie.spec Inv-loop μ-loop loop-holds row-holds-requires (λ c. search needs) (λ c. search needs) loop-again returns returns-2)
+    tie.close
+    (tie.spec
+    Inv-loop
+    μ-loop
+    loop-holds
+    (λ c. search needs)
+    (λ c. search needs)
+    (λ c. search needs)
+    (λ c. search needs)
+    returns
+    (λ c. search needs)
+    (λ c. let v = c .before .before .before .loop .inv in search needs)
+    loop-again
+    (λ c. search needs)
+    (λ c. search needs)
+    (λ c κs. search needs)
+    returns-2
+    (λ c. search needs)
+    (λ c. search needs)
+    (λ c. let v = c .before .before .before .before .before .loop .inv in search needs)
+    loop-again-2
+    returns-3)
