@@ -1,5 +1,5 @@
 -- What holds of the entries of every kind, over the family.
---     size-long, size-short, size-pair, size-range     their size: group and source, and 8 octets more or none
+--     sized, size-pair, size-range     their size: group and source, and 8 octets more or none
 --     family-is                  their family
 --     group-at, source-at        group and source as code reads them
 --     allowed-is                 an entry is allowed by its group and its source, which may be 0 or not
@@ -9,7 +9,7 @@ use Prim.Native.Nat.{ℕ, _+_, _-_, _*_, _≤_}
 use native.Mathlib.Omega.{arith}
 use native.Mathlib.Nat.{add-zero}
 use mathlib.Core.Path.{_≡_, refl, sym, ap, _∙_}
-use mathlib.Core.Bool.{Bool, true, false, not, _&&_}
+use mathlib.Core.Bool.{Bool, true, false, not, _&&_, cond}
 use mathlib.Core.List.{List}
 use lib.Dec.{eqb}
 use lib.ListN.{length, getD, take, drop, length-drop}
@@ -24,13 +24,9 @@ use Rattle.addresses.specs.Addresses.{addressAt, groupFirst}
 use Rattle.addresses.proofs.Laws.{width-range, group-first, source-some, address-there}
 use Rattle.entries.specs.Kinds.{isAssert, isStop, entriesBy, entriesFor, zeroBy}
 
-pub size-long : (f : Family) (asserts stop : Bool) → asserts ≡ true → entriesBy f asserts stop .size ≡ 2 * f .width + 8
-size-long f true stop h = refl
-size-long f false stop h = cc
-
-pub size-short : (f : Family) (asserts stop : Bool) → asserts ≡ false → entriesBy f asserts stop .size ≡ 2 * f .width
-size-short f true stop h = cc
-size-short f false stop h = refl
+pub sized : (f : Family) (asserts stop : Bool) → entriesBy f asserts stop .size ≡ 2 * f .width + cond asserts 8 0
+sized f true stop = refl
+sized f false stop = omega arith
 
 by-size : (f : Family) (asserts stop : Bool) → (2 * f .width ≤ entriesBy f asserts stop .size) × (entriesBy f asserts stop .size ≤ 2 * f .width + 8)
 by-size f true stop = (omega arith, omega arith)

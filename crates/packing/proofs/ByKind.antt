@@ -7,58 +7,49 @@
 --     most-one, most-all             how many of some entries a kind that is packed may take
 --     aggregated-is, each-record     the one kind with records of runs; the others have one for each entry
 -- Assumes nothing.
-use Prim.Native.Nat.{ℕ, _+_, _≤_, _<_}
+use Prim.Native.Nat.{ℕ, _+_, _*_, _≤_, _<_}
 use native.Mathlib.Omega.{arith}
-use mathlib.Core.Path.{_≡_, refl}
-use mathlib.Core.Bool.{true, false}
+use mathlib.Core.Path.{_≡_, refl, _∙_}
+use mathlib.Core.Bool.{Bool, true, false}
 use mathlib.Core.List.{List, [], _++_, append-assoc}
 use lib.ListN.{length}
 use Rattle.octets.specs.Octets.{numberAt, be}
-use Rattle.format.specs.Family.{ipv4}
+use Rattle.format.specs.Family.{Family, familyOf}
 use Rattle.format.specs.Body.{zeros, plainBody, simpleBody, aggregatedBody, pairBody}
 use Rattle.format.specs.Entry.{assertAt, pairAt}
 use Rattle.format.specs.Record.{each, assertOctets, pairOctets}
 use Rattle.format.specs.declared.Kind.{Kind}
 use Rattle.format.specs.declared.Kind.the-variants.{Hello, Assert, Simple, Aggregated, NullRegister, RegisterStop}
 use Rattle.format.proofs.Lengths.{length-assert, length-pair}
-use Rattle.entries.specs.Kinds.{entriesFor}
-use Rattle.packing.specs.Kinds.{formFor, recordSize, recordOctets, isAggregated, recordsFor, takesOne, frontOf, headSize, isPacked, Packs}
+use Rattle.entries.specs.Kinds.{isAssert, isStop, entriesBy, entriesFor}
+use Rattle.packing.specs.Kinds.{formFor, recordSize, recordBy, recordOctets, recordAt, isAggregated, recordsFor, takesOne, frontOf, headSize, isPacked, Packs}
 
 -- ---- records
 
 -- an assert record goes on past the pair of its group and source
-assert-is : (o : List ℕ) (at : ℕ) → assertOctets ipv4 (assertAt ipv4 o at) ≡ pairOctets ipv4 (pairAt ipv4 o at) ++ (be 4 (numberAt 4 o (at + 8)) ++ be 4 (numberAt 4 o (at + 12)))
-unfolding assertOctets pairOctets assertAt pairAt
-assert-is o at = let e : at + 8 + 4 ≡ at + 12 = omega arith in rw (append-assoc, e)
+pub record-long : (f : Family) (asserts : Bool) (o : List ℕ) (at : ℕ) → asserts ≡ true
+    → recordAt f asserts o at ≡ pairOctets f (pairAt f o at) ++ (be 4 (numberAt 4 o (at + 2 * f .width)) ++ be 4 (numberAt 4 o (at + 2 * f .width + 4)))
+unfolding recordAt assertOctets pairOctets assertAt pairAt
+record-long f true o at h = rw append-assoc
+record-long f false o at h = cc
 
-module _ (o : List ℕ) (at : ℕ) where
-  pub record-long : (k : Kind) → entriesFor false k .size ≡ 16
-      → recordOctets k (entriesFor false k .entryAt o at) ≡ pairOctets ipv4 (pairAt ipv4 o at) ++ (be 4 (numberAt 4 o (at + 8)) ++ be 4 (numberAt 4 o (at + 12)))
-  unfolding recordOctets
-  record-long Hello h = assert-is o at
-  record-long Assert h = assert-is o at
-  record-long Simple h = assert-is o at
-  record-long Aggregated h = assert-is o at
-  record-long NullRegister h = absurd (omega arith)
-  record-long RegisterStop h = absurd (omega arith)
+pub record-short : (f : Family) (asserts : Bool) (o : List ℕ) (at : ℕ) → asserts ≡ false → recordAt f asserts o at ≡ pairOctets f (pairAt f o at)
+unfolding recordAt
+record-short f true o at h = cc
+record-short f false o at h = refl
 
-  pub record-short : (k : Kind) → (entriesFor false k .size ≡ 16 → ⊥) → recordOctets k (entriesFor false k .entryAt o at) ≡ pairOctets ipv4 (pairAt ipv4 o at)
-  unfolding recordOctets
-  record-short Hello h = absurd (h refl)
-  record-short Assert h = absurd (h refl)
-  record-short Simple h = absurd (h refl)
-  record-short Aggregated h = absurd (h refl)
-  record-short NullRegister h = refl
-  record-short RegisterStop h = refl
+pub record-is : (f : Family) (asserts stop : Bool) (o : List ℕ) (at : ℕ) → recordAt f asserts o at ≡ recordBy f asserts stop (entriesBy f asserts stop .entryAt o at)
+unfolding recordAt recordBy
+record-is f true stop o at = refl
+record-is f false stop o at = refl
 
-pub record-sized : (k : Kind) (e : entriesFor false k .Entry) → length (recordOctets k e) ≡ recordSize k
-unfolding recordOctets
-record-sized Hello e = length-assert ipv4 e
-record-sized Assert e = length-assert ipv4 e
-record-sized Simple e = length-assert ipv4 e
-record-sized Aggregated e = length-assert ipv4 e
-record-sized NullRegister e = length-pair ipv4 e
-record-sized RegisterStop e = length-pair ipv4 e
+pub by-sized : (f : Family) (asserts stop : Bool) (e : entriesBy f asserts stop .Entry) → length (recordBy f asserts stop e) ≡ entriesBy f asserts stop .size + 6
+unfolding recordBy
+by-sized f true stop e = length-assert f e ∙ omega arith
+by-sized f false stop e = length-pair f e ∙ omega arith
+
+pub record-sized : (ipv6 : Bool) (k : Kind) (e : entriesFor ipv6 k .Entry) → length (recordOctets ipv6 k e) ≡ recordSize ipv6 k
+record-sized ipv6 k e = by-sized (familyOf ipv6) (isAssert k) (isStop k) e
 
 -- ---- forms
 
@@ -103,11 +94,11 @@ head-range NullRegister = omega arith
 head-range RegisterStop = omega arith
 
 plain-packs : Packs Assert
-unfolding plainBody recordOctets recordsFor
+unfolding plainBody recordBy recordsFor
 plain-packs = record { some = refl; body = λ es. refl }
 
 simple-packs : Packs Simple
-unfolding simpleBody recordOctets recordsFor
+unfolding simpleBody recordBy recordsFor
 simple-packs = record { some = refl; body = λ es. refl }
 
 aggregated-packs : Packs Aggregated
@@ -115,11 +106,11 @@ unfolding aggregatedBody recordsFor
 aggregated-packs = record { some = refl; body = λ es. refl }
 
 null-packs : Packs NullRegister
-unfolding pairBody recordOctets recordsFor
+unfolding pairBody recordBy recordsFor
 null-packs = record { some = refl; body = λ es. refl }
 
 stop-packs : Packs RegisterStop
-unfolding pairBody recordOctets recordsFor
+unfolding pairBody recordBy recordsFor
 stop-packs = record { some = refl; body = λ es. refl }
 
 -- every kind that is packed
@@ -167,7 +158,7 @@ aggregated-is Aggregated h = refl
 aggregated-is NullRegister h = cc
 aggregated-is RegisterStop h = cc
 
-pub each-record : (k : Kind) → isAggregated k ≡ false → (es : List (entriesFor false k .Entry)) → recordsFor k es ≡ each (recordOctets k) es
+pub each-record : (k : Kind) → isAggregated k ≡ false → (es : List (entriesFor false k .Entry)) → recordsFor k es ≡ each (recordOctets false k) es
 unfolding isAggregated recordsFor
 each-record Hello h es = refl
 each-record Assert h es = refl

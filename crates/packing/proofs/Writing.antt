@@ -1,16 +1,18 @@
 -- Octets written into a lent buffer, from entries that stand one after another.
+--     copied-next                octets of a number copied past others
 --     put-counted                a number of 16 bits stored octet by octet, and two reserved octets
 --     Rows                       where a loop over entries stands: rows-start, rows-there, rows-next, rows-end, rows-out
 --     sealed                     a message whose checksum was 0, with its checksum
 -- Assumes nothing.
-use Prim.Native.Nat.{ℕ, zero, suc, _+_, _*_, _/_, _%_, _≤_, _<_}
+use Prim.Native.Nat.{ℕ, zero, suc, _+_, _-_, _*_, _/_, _%_, _≤_, _<_}
 use native.Mathlib.Nat.{mul-suc, mul-zero}
 use native.Mathlib.Omega.{arith}
 use mathlib.Core.Path.{_≡_, refl, sym, ap, _∙_}
 use mathlib.Core.List.{List, [], _∷_, _++_}
-use lib.ListN.{length, take}
-use Rattle.octets.specs.Octets.{be, put}
-use Rattle.octets.proofs.Laws.{stores, stores-put, put-nil, put-put, length-put, take-put, lows-be}
+use lib.ListN.{length, take, drop}
+use borrow.Rule.Slice.PartMut.{putMid}
+use Rattle.octets.specs.Octets.{Octets, numberAt, be, put, copied}
+use Rattle.octets.proofs.Laws.{stores, stores-put, put-nil, put-put, put-next, copied-number, length-put, take-put, lows-be}
 use Rattle.checksum.specs.Sum.{checksum}
 use Rattle.format.specs.Header.{octet0, octet1, message}
 use Rattle.format.specs.Record.{each}
@@ -18,6 +20,14 @@ use Rattle.format.specs.Entry.{Entries, entriesAt}
 use Rattle.format.specs.declared.Kind.{Kind}
 
 -- ---- a number
+
+-- octets, and past them those of a number, copied from a part into a part that was lent
+pub copied-next : (k : ℕ) (s d : List ℕ) (out : ℕ) (e : List ℕ) (at end p past : ℕ) {m x : List ℕ} → Octets s → m ≡ put d out e
+    → x ≡ copied k (take (end - at) (drop at s)) (take (past - p) (drop p m)) → end ≡ at + k → p ≡ out + length e → past ≡ p + k → end ≤ length s → past ≤ length d
+    → putMid p (past - p) m x ≡ put d out (e ++ be k (numberAt k s at))
+copied-next k s d out e at end p past {m} {x} octet before copy to from next there room =
+    let long : length m ≡ length d = ap length before ∙ length-put d out e (omega arith) in
+    put-next d out e (be k (numberAt k s at)) before (ap (putMid p (past - p) m) copy ∙ copied-number k s m at end p past octet to next there (omega arith)) from
 
 -- a 16-bit number and two reserved octets
 pub put-counted : (d : List ℕ) (at n : ℕ) → at + 4 ≤ length d → stores d at 0 ((n / 256 % 256) ∷ (n % 256) ∷ 0 ∷ 0 ∷ []) ≡ put d at (be 2 n ++ (0 ∷ 0 ∷ []))

@@ -1,6 +1,6 @@
 -- Messages by their kind, in IPv4.
 --     formFor                      the form of a kind
---     recordSize, recordOctets     the record of an entry, where records have one length
+--     recordSize, recordBy, recordOctets, recordAt     the record of an entry, where records have one length
 --     isAggregated, recordsFor     the kind whose records have not, and the records of entries
 --     takesOne                     the kind whose message takes no more than one entry
 --     frontOf, headSize, beginning what comes before the records: of the body, in octets, and with the checksum as 0
@@ -15,14 +15,15 @@ use lib.ListN.{length}
 use lib.Dec.{eqb, ltb}
 use Rattle.octets.specs.Octets.{_&_}
 use Rattle.records.specs.Joining.{joined}
-use Rattle.format.specs.Family.{ipv4}
+use Rattle.format.specs.Family.{Family, ipv4, familyOf}
+use Rattle.format.specs.Entry.{assertAt, pairAt}
 use Rattle.format.specs.Header.{octet0, octet1}
 use Rattle.format.specs.Record.{each, assertOctets, pairOctets, aggregatedOctets}
 use Rattle.format.specs.Body.{zeros}
 use Rattle.format.specs.Packing.{Form, plain, simple, aggregated, nullRegister, registerStop}
 use Rattle.format.specs.declared.Kind.{Kind}
 use Rattle.format.specs.declared.Kind.the-variants.{Hello, Assert, Simple, Aggregated, NullRegister, RegisterStop}
-use Rattle.entries.specs.Kinds.{entriesFor}
+use Rattle.entries.specs.Kinds.{isAssert, isStop, entriesBy, entriesFor}
 
 abbrev pub formFor : (k : Kind) → Form (entriesFor false k)
 formFor Hello = record { kind = Hello; atMost = λ n. 0; body = λ es. []; size = λ es. 4 }
@@ -32,17 +33,21 @@ formFor Aggregated = aggregated ipv4
 formFor NullRegister = nullRegister ipv4
 formFor RegisterStop = registerStop ipv4
 
--- 01, 00, 00, 20 before the group, 01, 00 before the source
-abbrev pub recordSize : Kind → ℕ
-recordSize k = entriesFor false k .size + 6
+-- family, 0, 0 and mask before the group, family and 0 before the source
+abbrev pub recordSize : Bool → Kind → ℕ
+recordSize ipv6 k = entriesFor ipv6 k .size + 6
 
-unfoldable pub recordOctets : (k : Kind) → entriesFor false k .Entry → List ℕ
-recordOctets Hello = assertOctets ipv4
-recordOctets Assert = assertOctets ipv4
-recordOctets Simple = assertOctets ipv4
-recordOctets Aggregated = assertOctets ipv4
-recordOctets NullRegister = pairOctets ipv4
-recordOctets RegisterStop = pairOctets ipv4
+unfoldable pub recordBy : (f : Family) (asserts stop : Bool) → entriesBy f asserts stop .Entry → List ℕ
+recordBy f true stop = assertOctets f
+recordBy f false stop = pairOctets f
+
+abbrev pub recordOctets : (ipv6 : Bool) (k : Kind) → entriesFor ipv6 k .Entry → List ℕ
+recordOctets ipv6 k = recordBy (familyOf ipv6) (isAssert k) (isStop k)
+
+-- the record of the entry at a place
+unfoldable pub recordAt : Family → Bool → List ℕ → ℕ → List ℕ
+recordAt f true o at = assertOctets f (assertAt f o at)
+recordAt f false o at = pairOctets f (pairAt f o at)
 
 unfoldable pub isAggregated : Kind → Bool
 isAggregated Hello = false
@@ -53,12 +58,12 @@ isAggregated NullRegister = false
 isAggregated RegisterStop = false
 
 unfoldable pub recordsFor : (k : Kind) → List (entriesFor false k .Entry) → List ℕ
-recordsFor Hello es = each (recordOctets Hello) es
-recordsFor Assert es = each (recordOctets Assert) es
-recordsFor Simple es = each (recordOctets Simple) es
+recordsFor Hello es = each (recordOctets false Hello) es
+recordsFor Assert es = each (recordOctets false Assert) es
+recordsFor Simple es = each (recordOctets false Simple) es
 recordsFor Aggregated es = each (aggregatedOctets ipv4) (joined 4 es)
-recordsFor NullRegister es = each (recordOctets NullRegister) es
-recordsFor RegisterStop es = each (recordOctets RegisterStop) es
+recordsFor NullRegister es = each (recordOctets false NullRegister) es
+recordsFor RegisterStop es = each (recordOctets false RegisterStop) es
 
 -- Zero and Reserved of a packed assert
 abbrev pub frontOf : Kind → List ℕ
@@ -87,4 +92,4 @@ pub record Packs (k : Kind) : Type 0 where
 
 -- as many records as there is room for past the head, and no more than there are entries
 unfoldable pub fitting : Kind → ℕ → ℕ → ℕ
-fitting k limit n = min ((limit - headSize k) / recordSize k) (formFor k .atMost n)
+fitting k limit n = min ((limit - headSize k) / recordSize false k) (formFor k .atMost n)

@@ -38,8 +38,8 @@ fn put_address(address: Address, e: &[u8], at: usize, d: &mut [u8], out: usize)
     ensures { λ r. ⌜ now (d .exit) ≡ put (now (d .entry)) out (addressOctets address (assertAt ipv4 (now (e .entry)) at)) ⌝ }
 {
     match address {
-        Address::Group => put_group(e, at, d, out),
-        Address::Source => put_source(e, at + 4, d, out),
+        Address::Group => put_group(false, e, at, d, out),
+        Address::Source => put_source(false, e, at + 4, d, out),
     }
 }
 
@@ -101,7 +101,7 @@ pub(crate) fn put_group_record(e: &[u8], from: usize, k: usize, d: &mut [u8], ou
     ensures buffer { λ r. ⌜ now (d .exit) ≡ put (now (d .entry)) out (oneOf Group (asserts (now (e .entry)) from k)) ⌝ }
 {
     let p = number_of_sources(e, from, k);
-    put_group(e, from, d, out);
+    put_group(false, e, from, d, out);
     put_number(d, out + 8, p);
     put_addresses(Address::Source, e, from, p, d, out + 12)
 }
@@ -118,8 +118,8 @@ pub(crate) fn put_source_aggregated(
     ensures next { λ r. ⌜ r ≡ out + length (oneOf Aggregated (asserts (now (e .entry)) from k)) ⌝ }
     ensures buffer { λ r. ⌜ now (d .exit) ≡ put (now (d .entry)) out (oneOf Aggregated (asserts (now (e .entry)) from k)) ⌝ }
 {
-    put_metric(e, from, d, out);
-    put_source(e, from + 4, d, out + 8);
+    put_metric(e, from + 8, d, out);
+    put_source(false, e, from + 4, d, out + 8);
     put_number(d, out + 14, k);
     put_addresses(Address::Group, e, from, k, d, out + 18)
 }

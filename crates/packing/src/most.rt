@@ -51,7 +51,7 @@ fn put_most(
         return put_within(e, from, n, d, out, limit);
     }
     let taken = how_many_fixed(kind, limit, n);
-    let next = put_records(kind, e, from, taken, d, out);
+    let next = put_records(false, kind, e, from, taken, d, out);
     Fitted { taken, next }
 }
 

@@ -1,87 +1,84 @@
 // Records written from entries. Nothing is tested here: each function knows that its entry is there and that the
-// record fits.
+// record fits. Parts that are copied are lent with their length, so that it is not tested either.
+use addresses::copy_address;
+use addresses::family_number;
+use addresses::mask_length;
+use addresses::width;
 use entries::entry_size;
+use entries::is_assert;
 use format::Kind;
-ghost use mathlib.Core.Bool.{false};
+use octets::copy4;
 ghost use mathlib.Core.Path.{_≡_};
+ghost use mathlib.Core.Bool.{cond};
 ghost use Prim.Native.Nat.{_+_, _*_, _≤_};
 ghost use lib.ListN.{length};
 ghost use Rattle.octets.specs.Octets.{numberAt, put, be, _&_};
-ghost use Rattle.format.specs.Family.{ipv4};
+ghost use Rattle.records.specs.Sizes.{groupSize, sourceSize, pairSize};
+ghost use Rattle.format.specs.Family.{familyOf};
 ghost use Rattle.format.specs.Address.{groupOctets, sourceOctets};
 ghost use Rattle.format.specs.Entry.{pairAt, entriesAt};
 ghost use Rattle.format.specs.Record.{each, pairOctets};
 ghost use Rattle.entries.specs.Kinds.{entriesFor};
-ghost use Rattle.packing.specs.Kinds.{recordOctets, recordSize};
+ghost use Rattle.packing.specs.Kinds.{recordAt, recordOctets, recordSize};
 
-// A number of four octets. They are read before one is stored: the compiler does not know that the slices are apart.
-fn copy4(e: &[u8], at: usize, d: &mut [u8], out: usize)
-    requires { ⌜ (at + 4 ≤ length (now e)) × (out + 4 ≤ length (now d)) ⌝ }
-    ensures { λ r. ⌜ now (d .exit) ≡ put (now (d .entry)) out (be 4 (numberAt 4 (now (e .entry)) at)) ⌝ }
+// A group: family, 0, flags 0, mask length, address.
+pub(crate) fn put_group(ipv6: bool, e: &[u8], at: usize, d: &mut [u8], out: usize)
+    requires { ⌜ (at + familyOf ipv6 .width ≤ length (now e)) × (out + groupSize (familyOf ipv6 .width) ≤ length (now d)) ⌝ }
+    ensures { λ r. ⌜ now (d .exit) ≡ put (now (d .entry)) out (groupOctets (familyOf ipv6) (numberAt (familyOf ipv6 .width) (now (e .entry)) at)) ⌝ }
 {
-    let a = e[at];
-    let b = e[at + 1];
-    let c = e[at + 2];
-    let f = e[at + 3];
-    d[out] = a;
-    d[out + 1] = b;
-    d[out + 2] = c;
-    d[out + 3] = f;
-}
-
-// A group: 01, 00, flags 0, mask length 32, address.
-pub(crate) fn put_group(e: &[u8], at: usize, d: &mut [u8], out: usize)
-    requires { ⌜ (at + 4 ≤ length (now e)) × (out + 8 ≤ length (now d)) ⌝ }
-    ensures { λ r. ⌜ now (d .exit) ≡ put (now (d .entry)) out (groupOctets ipv4 (numberAt 4 (now (e .entry)) at)) ⌝ }
-{
-    d[out] = 1;
+    let w = width(ipv6);
+    d[out] = family_number(ipv6);
     d[out + 1] = 0;
     d[out + 2] = 0;
-    d[out + 3] = 32;
-    copy4(e, at, d, out + 4);
+    d[out + 3] = mask_length(ipv6);
+    copy_address(ipv6, &e[at..at + w], &mut d[out + 4..out + 4 + w]);
 }
 
-// A source: 01, 00, address.
-pub(crate) fn put_source(e: &[u8], at: usize, d: &mut [u8], out: usize)
-    requires { ⌜ (at + 4 ≤ length (now e)) × (out + 6 ≤ length (now d)) ⌝ }
-    ensures { λ r. ⌜ now (d .exit) ≡ put (now (d .entry)) out (sourceOctets ipv4 (numberAt 4 (now (e .entry)) at)) ⌝ }
+// A source: family, 0, address.
+pub(crate) fn put_source(ipv6: bool, e: &[u8], at: usize, d: &mut [u8], out: usize)
+    requires { ⌜ (at + familyOf ipv6 .width ≤ length (now e)) × (out + sourceSize (familyOf ipv6 .width) ≤ length (now d)) ⌝ }
+    ensures { λ r. ⌜ now (d .exit) ≡ put (now (d .entry)) out (sourceOctets (familyOf ipv6) (numberAt (familyOf ipv6 .width) (now (e .entry)) at)) ⌝ }
 {
-    d[out] = 1;
+    let w = width(ipv6);
+    d[out] = family_number(ipv6);
     d[out + 1] = 0;
-    copy4(e, at, d, out + 2);
+    copy_address(ipv6, &e[at..at + w], &mut d[out + 2..out + 2 + w]);
 }
 
-// The 14 octets that every record begins with: group, source.
-fn put_pair(e: &[u8], at: usize, d: &mut [u8], out: usize)
-    requires { ⌜ (at + 8 ≤ length (now e)) × (out + 14 ≤ length (now d)) ⌝ }
-    ensures { λ r. ⌜ now (d .exit) ≡ put (now (d .entry)) out (pairOctets ipv4 (pairAt ipv4 (now (e .entry)) at)) ⌝ }
+// What every record begins with: group, source.
+fn put_pair(ipv6: bool, e: &[u8], at: usize, d: &mut [u8], out: usize)
+    requires { ⌜ (at + 2 * familyOf ipv6 .width ≤ length (now e)) × (out + pairSize (familyOf ipv6 .width) ≤ length (now d)) ⌝ }
+    ensures { λ r. ⌜ now (d .exit) ≡ put (now (d .entry)) out (pairOctets (familyOf ipv6) (pairAt (familyOf ipv6) (now (e .entry)) at)) ⌝ }
 {
-    put_group(e, at, d, out);
-    put_source(e, at + 4, d, out + 8);
+    let w = width(ipv6);
+    put_group(ipv6, e, at, d, out);
+    put_source(ipv6, e, at + w, d, out + 4 + w);
 }
 
-// R with preference and metric of an assert entry.
+// R with preference and metric, from the place of the first.
 pub(crate) fn put_metric(e: &[u8], at: usize, d: &mut [u8], out: usize)
-    requires { ⌜ (at + 16 ≤ length (now e)) × (out + 8 ≤ length (now d)) ⌝ }
-    ensures { λ r. ⌜ now (d .exit) ≡ put (now (d .entry)) out (be 4 (numberAt 4 (now (e .entry)) (at + 8)) & be 4 (numberAt 4 (now (e .entry)) (at + 12))) ⌝ }
+    requires { ⌜ (at + 8 ≤ length (now e)) × (out + 8 ≤ length (now d)) ⌝ }
+    ensures { λ r. ⌜ now (d .exit) ≡ put (now (d .entry)) out (be 4 (numberAt 4 (now (e .entry)) at) & be 4 (numberAt 4 (now (e .entry)) (at + 4))) ⌝ }
 {
-    copy4(e, at + 8, d, out);
-    copy4(e, at + 12, d, out + 4);
+    copy4(&e[at..at + 4], &mut d[out..out + 4]);
+    copy4(&e[at + 4..at + 8], &mut d[out + 4..out + 8]);
 }
 
-// A record; the 16 octets of an assert entry go on with R, preference and metric.
-fn put_record(kind: Kind, e: &[u8], at: usize, d: &mut [u8], out: usize)
-    requires { ⌜ (at + entriesFor false kind .size ≤ length (now e)) × (out + recordSize kind ≤ length (now d)) ⌝ }
-    ensures { λ r. ⌜ now (d .exit) ≡ put (now (d .entry)) out (recordOctets kind (entriesFor false kind .entryAt (now (e .entry)) at)) ⌝ }
+// A record; that of an assert goes on with R, preference and metric.
+fn put_record(ipv6: bool, asserts: bool, e: &[u8], at: usize, d: &mut [u8], out: usize)
+    requires { ⌜ (at + (2 * familyOf ipv6 .width + cond asserts 8 0) ≤ length (now e)) × (out + (2 * familyOf ipv6 .width + cond asserts 8 0 + 6) ≤ length (now d)) ⌝ }
+    ensures { λ r. ⌜ now (d .exit) ≡ put (now (d .entry)) out (recordAt (familyOf ipv6) asserts (now (e .entry)) at) ⌝ }
 {
-    put_pair(e, at, d, out);
-    if entry_size(false, kind) == 16 {
-        put_metric(e, at, d, out + 14);
+    let pair = 2 * width(ipv6);
+    put_pair(ipv6, e, at, d, out);
+    if asserts {
+        put_metric(e, at + pair, d, out + 6 + pair);
     }
 }
 
 // The records of n entries, one after another. It answers the place past them.
-pub(crate) fn put_records(
+fn put_records_of(
+    ipv6: bool,
     kind: Kind,
     e: &[u8],
     from: usize,
@@ -89,19 +86,40 @@ pub(crate) fn put_records(
     d: &mut [u8],
     start: usize,
 ) -> usize
-    requires { ⌜ (from + entriesFor false kind .size * n ≤ length (now e)) × (start + recordSize kind * n ≤ length (now d)) ⌝ }
-    ensures next { λ r. ⌜ r ≡ start + recordSize kind * n ⌝ }
-    ensures buffer { λ r. ⌜ now (d .exit) ≡ put (now (d .entry)) start (each (recordOctets kind) (entriesAt (entriesFor false kind) (now (e .entry)) from n)) ⌝ }
+    requires { ⌜ (from + entriesFor ipv6 kind .size * n ≤ length (now e)) × (start + recordSize ipv6 kind * n ≤ length (now d)) ⌝ }
+    ensures next { λ r. ⌜ r ≡ start + recordSize ipv6 kind * n ⌝ }
+    ensures buffer { λ r. ⌜ now (d .exit) ≡ put (now (d .entry)) start (each (recordOctets ipv6 kind) (entriesAt (entriesFor ipv6 kind) (now (e .entry)) from n)) ⌝ }
 {
-    let size = entry_size(false, kind);
+    let asserts = is_assert(kind);
+    let size = entry_size(ipv6, kind);
     let mut i = 0;
     let mut at = from;
     let mut out = start;
     while i < n {
-        put_record(kind, e, at, d, out);
+        put_record(ipv6, asserts, e, at, d, out);
         at += size;
         out += size + 6;
         i += 1;
     }
     out
+}
+
+// The same with the family as a literal, so that the compiler makes a loop for each.
+pub(crate) fn put_records(
+    ipv6: bool,
+    kind: Kind,
+    e: &[u8],
+    from: usize,
+    n: usize,
+    d: &mut [u8],
+    start: usize,
+) -> usize
+    requires { ⌜ (from + entriesFor ipv6 kind .size * n ≤ length (now e)) × (start + recordSize ipv6 kind * n ≤ length (now d)) ⌝ }
+    ensures next { λ r. ⌜ r ≡ start + recordSize ipv6 kind * n ⌝ }
+    ensures buffer { λ r. ⌜ now (d .exit) ≡ put (now (d .entry)) start (each (recordOctets ipv6 kind) (entriesAt (entriesFor ipv6 kind) (now (e .entry)) from n)) ⌝ }
+{
+    if ipv6 {
+        return put_records_of(true, kind, e, from, n, d, start);
+    }
+    put_records_of(false, kind, e, from, n, d, start)
 }

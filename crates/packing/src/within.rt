@@ -185,7 +185,7 @@ fn put_rp_within(e: &[u8], from: usize, n: usize, d: &mut [u8], out: usize, limi
     if groups.taken == 0 {
         return none;
     }
-    put_metric(e, from, d, out);
+    put_metric(e, from + 8, d, out);
     put_number(d, out + 8, groups.number);
     Fitted {
         taken: groups.taken,

@@ -1,7 +1,7 @@
 -- `packing::aggregate::put_source_aggregated` meets its contract: metric, source, number, groups, as `source-is` lists them.
 -- Assumes nothing.
 use native.Mathlib.Omega.{arith}
-use mathlib.Core.Path.{_∙_}
+use mathlib.Core.Path.{_≡_, _∙_}
 use denote.Ref.{now}
 use Prim.Native.Nat.{_+_}
 use mathlib.Core.List.{_++_}
@@ -18,6 +18,9 @@ use Rattle.packing.proofs.Aggregating.{source-is, source-long, metric-l
 use borrow.Author.Needs.{needs}
 use Rattle.packing.proofs.aggregate.put_source_aggregated.Statement.{statement}
 use Rattle.packing.proofs.aggregate.put_source_aggregated.Tie as tie
+
+add-put-metric : tie.Need-add-put-metric
+add-put-metric c = omega (arith, c .before .before .pre)
 
 put-metric-requires : tie.Need-put-metric-requires
 put-metric-requires c κs = (omega arith, omega (arith, c .before .before .before .pre, source-long (now (c .before .before .before .args .e)) (c .before .before .before .args .from) (c .before .before .before .args .k) (c .before .before .before .pre .0) (c .before .before .before .pre .2)))
@@ -47,12 +50,13 @@ returns : tie.Need-returns
 returns c =
     let a = c .before .before .before .before .before .before .before .before .before .before .before .before .before .before .before .before .before .before .args in
     let o = now (a .e) in
+    let place : a .from + 8 + 4 ≡ a .from + 12 = omega arith in
     let groups = each (addressOctets Group) (asserts o (a .from) (a .k)) in
     let number = be 2 (a .k) ++ reserved2 in
     let source = sourceOctets ipv4 (numberAt 4 o (a .from + 4)) in (
       c .before .before .put-addresses .ensures .0 ∙ omega (arith, source-long o (a .from) (a .k) (c .before .before .before .before .before .before .before .before .before .before .before .before .before .before .before .before .before .before .pre .0) (c .before .before .before .before .before .before .before .before .before .before .before .before .before .before .before .before .before .before .pre .2)),
       rw (source-is o (a .from) (a .k) (c .before .before .before .before .before .before .before .before .before .before .before .before .before .before .before .before .before .before .pre .0) (c .before .before .before .before .before .before .before .before .before .before .before .before .before .before .before .before .before .before .pre .2))
-          (put-next (now (a .d)) (a .out) (be 4 (numberAt 4 o (a .from + 8)) ++ be 4 (numberAt 4 o (a .from + 12))) (source ++ (number ++ groups)) (c .before .before .before .before .before .before .before .before .before .before .before .before .before .before .put-metric .ensures)
+          (put-next (now (a .d)) (a .out) (be 4 (numberAt 4 o (a .from + 8)) ++ be 4 (numberAt 4 o (a .from + 12))) (source ++ (number ++ groups)) (rw place at (c .before .before .before .before .before .before .before .before .before .before .before .before .before .before .put-metric .ensures))
           (put-next _ (a .out + 8) source (number ++ groups) (c .before .before .before .before .before .before .before .before .before .before .put-source .ensures)
           (put-next _ (a .out + 14) number groups (c .before .before .before .before .before .before .put-number .ensures) (c .before .before .put-addresses .ensures .1) (omega (arith, number-long (a .k))))
           (omega (arith, length-source ipv4 (numberAt 4 o (a .from + 4)))))
@@ -63,6 +67,7 @@ pub put-source-aggregated-spec : {M : Type 1} → statement M
 put-source-aggregated-spec =
     tie.close
     (tie.spec
+    add-put-metric
     put-metric-requires
     add-put-source
     add-put-source-2

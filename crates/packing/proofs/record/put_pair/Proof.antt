@@ -4,12 +4,12 @@ use Prim.Native.Nat.{_+_}
 use native.Mathlib.Omega.{arith}
 use denote.Ref.{now}
 use borrow.Author.Needs.{needs}
+use Rattle.octets.specs.Octets.{numberAt}
 use Rattle.octets.proofs.Laws.{put-next}
+use Rattle.format.specs.Family.{familyOf}
 use Rattle.format.specs.Address.{groupOctets, sourceOctets}
 use Rattle.format.specs.Record.{pairOctets}
-use Rattle.octets.specs.Octets.{numberAt}
 use Rattle.format.specs.Entry.{pairAt}
-use Rattle.format.specs.Family.{ipv4}
 use Rattle.format.proofs.Lengths.{length-group}
 use Rattle.packing.proofs.record.put_pair.Statement.{statement}
 use Rattle.packing.proofs.record.put_pair.Tie as tie
@@ -17,16 +17,20 @@ use Rattle.packing.proofs.record.put_pair.Tie as tie
 returns : tie.Need-returns
 unfolding pairOctets pairAt
 returns c =
-    let a = c .before .before .before .before .before .before .before .before .before .before .args in
+    let a = c .before .before .before .before .before .before .before .before .before .before .before .args in
     let o = now (a .e) in
-    put-next (now (a .d)) (a .out) (groupOctets ipv4 (numberAt 4 o (a .at))) (sourceOctets ipv4 (numberAt 4 o (a .at + 4))) (c .before .before .before .before .before .before .put-group .ensures) (c .before .before .put-source .ensures)
-    (omega (arith, length-group ipv4 (numberAt 4 o (a .at))))
+    let f = familyOf (a .ipv6) in
+    let same = c .before .before .before .before .before .before .before .before .width .ensures .0 in
+    put-next (now (a .d)) (a .out) (groupOctets f (numberAt (f .width) o (a .at))) (sourceOctets f (numberAt (f .width) o (a .at + f .width))) (c .before .before .before .before .before .before .put-group .ensures) (rw same at (c .before .before .put-source .ensures))
+    (omega (arith, same, length-group f (numberAt (f .width) o (a .at))))
 
 pub put-pair-spec : {M : Type 1} → statement M
 put-pair-spec =
     tie.close
     (tie.spec
     (λ c κs. search needs)
+    (λ c κs. search needs)
+    (λ c. search needs)
     (λ c. search needs)
     (λ c. search needs)
     (λ c κs. search needs)

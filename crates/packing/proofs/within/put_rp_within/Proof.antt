@@ -76,6 +76,9 @@ returns-2 c =
     let fit : MostWithin (oneOf Aggregated) (now (a .e)) (a .from) (runLength Aggregated (now (a .e)) (a .from) (a .n)) (a .limit - a .out) (c .before .before .before .before .put-groups-within .result .taken) = most g in
     (rw (c .if2 .taken) at fit, none-written (now (a .e)) (a .from) Aggregated (a .out) (rw (c .if2 .taken, all-none Group (now (a .e)) (a .from)) at (g .put-groups-within .ensures .1 .1 .1) ∙ put-nil (now (a .d)) (a .out + 12)))
 
+add-put-metric : tie.Need-add-put-metric
+add-put-metric c = omega (arith, enter (ran (grouped (some c))) .pre)
+
 put-metric-requires : tie.Need-put-metric-requires
 put-metric-requires c κs =
     let g = some (c .before) in
@@ -102,6 +105,7 @@ returns-3 c =
     let o = now (a .e) in
     let v = numberAt 4 o (a .from + 8) in
     let m = numberAt 4 o (a .from + 12) in
+    let place : a .from + 8 + 4 ≡ a .from + 12 = omega arith in
     let k = g .put-groups-within .result .taken in
     let any : 0 < g .put-groups-within .result .taken = omega (arith, metric .before .before .if2 .left) in
     let wrote = g .put-groups-within .ensures in
@@ -112,7 +116,7 @@ returns-3 c =
         wrote .1 .0 ∙ omega (arith, rp-long o (a .from) k any r),
         rw (rp-is o (a .from) k any r)
             (put-before (now (a .d)) (a .out) ((be 4 v ++ be 4 m) ++ number) (allOf Group (asserts o (a .from) k)) (wrote .1 .1 .1)
-            (put-next _ (a .out) (be 4 v ++ be 4 m) number (metric .put-metric .ensures) (rw (wrote .1 .1 .0) at (put .put-number .ensures)) (omega (arith, metric-long v m)))
+            (put-next _ (a .out) (be 4 v ++ be 4 m) number (rw place at (metric .put-metric .ensures)) (rw (wrote .1 .1 .0) at (put .put-number .ensures)) (omega (arith, metric-long v m)))
             (omega (arith, head)) (omega (arith, enter e .pre, e .if1 .left))),
       ),
     )
@@ -130,6 +134,7 @@ put-rp-within-spec =
     put-groups-within-requires
     (λ c. search needs)
     returns-2
+    add-put-metric
     put-metric-requires
     add-put-number
     put-number-requires
