@@ -33,13 +33,11 @@ by-size f true stop = (omega arith, omega arith)
 by-size f false stop = (omega arith, omega arith)
 
 module _ (ipv6 : Bool) (k : Kind) where
-  pub size-pair : 2 * familyOf ipv6 .width ≤ entriesFor ipv6 k .size
-  size-pair = by-size (familyOf ipv6) (isAssert k) (isStop k) .0
+  pub size-pair : (2 * familyOf ipv6 .width ≤ entriesFor ipv6 k .size) × (entriesFor ipv6 k .size ≤ 2 * familyOf ipv6 .width + 8)
+  size-pair = by-size (familyOf ipv6) (isAssert k) (isStop k)
 
   pub size-range : (8 ≤ entriesFor ipv6 k .size) × (entriesFor ipv6 k .size ≤ 40)
-  size-range =
-      let by = by-size (familyOf ipv6) (isAssert k) (isStop k) in
-      (omega (arith, by, width-range ipv6), omega (arith, by, width-range ipv6))
+  size-range = (omega (arith, size-pair, width-range ipv6), omega (arith, size-pair, width-range ipv6))
 
 by-family : (f : Family) (asserts stop : Bool) → entriesBy f asserts stop .family ≡ f
 by-family f true stop = refl

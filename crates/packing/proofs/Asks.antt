@@ -3,7 +3,7 @@
 --     limit-usual, limit-low, limit-high, limit-within     the limit as read
 --     ask-limit, ask-room, ask-part, ask-start, ask-bad, ask-fine     the call is refused with 9, 8, 10, 7, or goes on
 -- Assumes nothing.
-use mathlib.Core.Bool.{false}
+use mathlib.Core.Bool.{Bool}
 use Prim.Native.Nat.{ℕ, _-_, _/_, _%_, _≤_, _<_}
 use mathlib.Core.Path.{_≡_, sym, ap, _∙_}
 use mathlib.Core.List.{List}
@@ -11,7 +11,7 @@ use borrow.Author.Tests.{le-ltb, le-leb, lt-leb, eq-eqb, ne-eqb}
 use lib.ListN.{length}
 use Rattle.format.specs.Outcome
 use Rattle.format.specs.Outcome.{Outcome, gives, refuses, refuseIf}
-use Rattle.format.specs.Family.{ipv4}
+use Rattle.format.specs.Family.{Family, familyOf}
 use Rattle.format.specs.Entry.{Entries, count, whole}
 use Rattle.format.specs.Packing.{usualLimit, leastLimit, readLimit, firstBad, asked}
 use Rattle.format.proofs.Calls.{asked-short}
@@ -26,31 +26,31 @@ use Rattle.packing.specs.declared.limit.Limit.the-variants.{Is, Refused}
 use Rattle.entries.proofs.ByKind.{family-is}
 
 -- what the answer about the limit says
-module _ (k : Kind) (limit : ℕ) {x : Limit} where
-  pub read-gives : {l : ℕ} → x ≡ Is l → limitOf x ≡ readLimit ipv4 limit → readLimit (entriesFor false k .family) limit ≡ gives l
+module _ (ipv6 : Bool) (k : Kind) (limit : ℕ) {x : Limit} where
+  pub read-gives : {l : ℕ} → x ≡ Is l → limitOf x ≡ readLimit (familyOf ipv6) limit → readLimit (entriesFor ipv6 k .family) limit ≡ gives l
   unfolding limitOf
-  read-gives p q = rw (family-is false k) (sym q ∙ ap limitOf p)
+  read-gives p q = rw (family-is ipv6 k) (sym q ∙ ap limitOf p)
 
-  pub read-refuses : {r : Refusal} → x ≡ Refused r → limitOf x ≡ readLimit ipv4 limit → readLimit (entriesFor false k .family) limit ≡ refuses (r .number) (r .place)
+  pub read-refuses : {r : Refusal} → x ≡ Refused r → limitOf x ≡ readLimit (familyOf ipv6) limit → readLimit (entriesFor ipv6 k .family) limit ≡ refuses (r .number) (r .place)
   unfolding limitOf
-  read-refuses p q = rw (family-is false k) (sym q ∙ ap limitOf p)
+  read-refuses p q = rw (family-is ipv6 k) (sym q ∙ ap limitOf p)
 
-module _ (limit : ℕ) where
-  pub limit-usual : limit ≡ 0 → readLimit ipv4 limit ≡ gives usualLimit
+module _ (f : Family) (limit : ℕ) where
+  pub limit-usual : limit ≡ 0 → readLimit f limit ≡ gives usualLimit
   unfolding readLimit
   limit-usual h = rw (eq-eqb limit 0 h)
 
-  pub limit-low : (limit ≡ 0 → ⊥) → limit < 38 → readLimit ipv4 limit ≡ refuses 9 0
-  unfolding readLimit leastLimit
-  limit-low z h = rw (ne-eqb limit 0 z, lt-leb 38 limit h)
+  pub limit-low : (limit ≡ 0 → ⊥) → limit < leastLimit f → readLimit f limit ≡ refuses 9 0
+  unfolding readLimit
+  limit-low z h = rw (ne-eqb limit 0 z, lt-leb (leastLimit f) limit h)
 
-  pub limit-high : (limit ≡ 0 → ⊥) → 38 ≤ limit → 65515 < limit → readLimit ipv4 limit ≡ refuses 9 0
-  unfolding readLimit leastLimit
-  limit-high z h g = rw (ne-eqb limit 0 z, le-leb 38 limit h, lt-leb limit 65515 g)
+  pub limit-high : (limit ≡ 0 → ⊥) → leastLimit f ≤ limit → 65515 < limit → readLimit f limit ≡ refuses 9 0
+  unfolding readLimit
+  limit-high z h g = rw (ne-eqb limit 0 z, le-leb (leastLimit f) limit h, lt-leb limit 65515 g)
 
-  pub limit-within : (limit ≡ 0 → ⊥) → 38 ≤ limit → limit ≤ 65515 → readLimit ipv4 limit ≡ gives limit
-  unfolding readLimit leastLimit
-  limit-within z h g = rw (ne-eqb limit 0 z, le-leb 38 limit h, le-leb limit 65515 g)
+  pub limit-within : (limit ≡ 0 → ⊥) → leastLimit f ≤ limit → limit ≤ 65515 → readLimit f limit ≡ gives limit
+  unfolding readLimit
+  limit-within z h g = rw (ne-eqb limit 0 z, le-leb (leastLimit f) limit h, le-leb limit 65515 g)
 
 module _ (E : Entries) (o : List ℕ) (start limit room : ℕ) where
   pub ask-limit : (n p : ℕ) → readLimit (E .family) limit ≡ refuses n p → limited (asked E o start limit room) ≡ refuses n p

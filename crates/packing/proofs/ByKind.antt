@@ -2,7 +2,7 @@
 --     record-long, record-short      the record of an assert entry, and of a pair, as code writes it
 --     record-sized                   a record is 6 octets longer than its entry
 --     kind-is, most-is               a form is of its kind, and takes no more than there is
---     front-long, front-short, head-range     the beginning of a message, with Zero and Reserved or without
+--     front-long, front-short, head-range, limit-head     the beginning of a message, with Zero and Reserved or without
 --     packed-is, hello-never         the five kinds that are packed, and the one that is not
 --     most-one, most-all             how many of some entries a kind that is packed may take
 --     aggregated-is, each-record     the one kind with records of runs; the others have one for each entry
@@ -16,6 +16,7 @@ use lib.ListN.{length}
 use Rattle.octets.specs.Octets.{numberAt, be}
 use Rattle.format.specs.Family.{Family, familyOf}
 use Rattle.format.specs.Body.{zeros, plainBody, simpleBody, aggregatedBody, pairBody}
+use Rattle.format.specs.Packing.{leastLimit}
 use Rattle.format.specs.Entry.{assertAt, pairAt}
 use Rattle.format.specs.Record.{each, assertOctets, pairOctets}
 use Rattle.format.specs.declared.Kind.{Kind}
@@ -53,21 +54,21 @@ record-sized ipv6 k e = by-sized (familyOf ipv6) (isAssert k) (isStop k) e
 
 -- ---- forms
 
-pub kind-is : (k : Kind) → formFor k .kind ≡ k
-kind-is Hello = refl
-kind-is Assert = refl
-kind-is Simple = refl
-kind-is Aggregated = refl
-kind-is NullRegister = refl
-kind-is RegisterStop = refl
+pub kind-is : (ipv6 : Bool) (k : Kind) → formFor ipv6 k .kind ≡ k
+kind-is ipv6 Hello = refl
+kind-is ipv6 Assert = refl
+kind-is ipv6 Simple = refl
+kind-is ipv6 Aggregated = refl
+kind-is ipv6 NullRegister = refl
+kind-is ipv6 RegisterStop = refl
 
-pub most-is : (k : Kind) (n : ℕ) → formFor k .atMost n ≤ n
-most-is Hello n = omega arith
-most-is Assert n = omega arith
-most-is Simple n = omega arith
-most-is Aggregated n = omega arith
-most-is NullRegister n = omega arith
-most-is RegisterStop n = omega arith
+pub most-is : (ipv6 : Bool) (k : Kind) (n : ℕ) → formFor ipv6 k .atMost n ≤ n
+most-is ipv6 Hello n = omega arith
+most-is ipv6 Assert n = omega arith
+most-is ipv6 Simple n = omega arith
+most-is ipv6 Aggregated n = omega arith
+most-is ipv6 NullRegister n = omega arith
+most-is ipv6 RegisterStop n = omega arith
 
 pub front-long : (k : Kind) → headSize k ≡ 8 → frontOf k ≡ zeros
 front-long Hello h = absurd (omega arith)
@@ -93,43 +94,28 @@ head-range Aggregated = omega arith
 head-range NullRegister = omega arith
 head-range RegisterStop = omega arith
 
-plain-packs : Packs Assert
-unfolding plainBody recordBy recordsFor
-plain-packs = record { some = refl; body = λ es. refl }
-
-simple-packs : Packs Simple
-unfolding simpleBody recordBy recordsFor
-simple-packs = record { some = refl; body = λ es. refl }
-
-aggregated-packs : Packs Aggregated
-unfolding aggregatedBody recordsFor
-aggregated-packs = record { some = refl; body = λ es. refl }
-
-null-packs : Packs NullRegister
-unfolding pairBody recordBy recordsFor
-null-packs = record { some = refl; body = λ es. refl }
-
-stop-packs : Packs RegisterStop
-unfolding pairBody recordBy recordsFor
-stop-packs = record { some = refl; body = λ es. refl }
+pub limit-head : (f : Family) (l : ℕ) → leastLimit f ≤ l → 8 ≤ l
+unfolding leastLimit
+limit-head f l h = omega arith
 
 -- every kind that is packed
-pub packed-is : (k : Kind) → isPacked k ≡ true → Packs k
-packed-is Hello h = let never : _≡_ {A = ℕ} 0 1 = cc in absurd (omega arith)
-packed-is Assert h = plain-packs
-packed-is Simple h = simple-packs
-packed-is Aggregated h = aggregated-packs
-packed-is NullRegister h = null-packs
-packed-is RegisterStop h = stop-packs
+pub packed-is : (ipv6 : Bool) (k : Kind) → isPacked k ≡ true → Packs ipv6 k
+unfolding plainBody simpleBody aggregatedBody pairBody recordBy recordsFor
+packed-is ipv6 Hello h = let never : _≡_ {A = ℕ} 0 1 = cc in absurd (omega arith)
+packed-is ipv6 Assert h = record { some = refl; body = λ es. refl }
+packed-is ipv6 Simple h = record { some = refl; body = λ es. refl }
+packed-is ipv6 Aggregated h = record { some = refl; body = λ es. refl }
+packed-is ipv6 NullRegister h = record { some = refl; body = λ es. refl }
+packed-is ipv6 RegisterStop h = record { some = refl; body = λ es. refl }
 
-pub hello-never : Packs Hello → ⊥
-hello-never packs =
+pub hello-never : (ipv6 : Bool) → Packs ipv6 Hello → ⊥
+hello-never ipv6 packs =
     let h : isPacked Hello ≡ true = packs .some in
     let never : _≡_ {A = ℕ} 0 1 = cc in
     omega arith
 
-module _ (n : ℕ) where
-  pub most-one : (k : Kind) → 0 < n → takesOne k ≡ true → formFor k .atMost n ≡ 1
+module _ (ipv6 : Bool) (n : ℕ) where
+  pub most-one : (k : Kind) → 0 < n → takesOne k ≡ true → formFor ipv6 k .atMost n ≡ 1
   unfolding takesOne
   most-one Hello some h = cc
   most-one Assert some h = omega arith
@@ -138,9 +124,9 @@ module _ (n : ℕ) where
   most-one NullRegister some h = cc
   most-one RegisterStop some h = cc
 
-  pub most-all : (k : Kind) → Packs k → takesOne k ≡ false → formFor k .atMost n ≡ n
+  pub most-all : (k : Kind) → Packs ipv6 k → takesOne k ≡ false → formFor ipv6 k .atMost n ≡ n
   unfolding takesOne
-  most-all Hello packs h = absurd (hello-never packs)
+  most-all Hello packs h = absurd (hello-never ipv6 packs)
   most-all Assert packs h = cc
   most-all Simple packs h = refl
   most-all Aggregated packs h = refl
@@ -158,11 +144,11 @@ aggregated-is Aggregated h = refl
 aggregated-is NullRegister h = cc
 aggregated-is RegisterStop h = cc
 
-pub each-record : (k : Kind) → isAggregated k ≡ false → (es : List (entriesFor false k .Entry)) → recordsFor k es ≡ each (recordOctets false k) es
+pub each-record : (ipv6 : Bool) (k : Kind) → isAggregated k ≡ false → (es : List (entriesFor ipv6 k .Entry)) → recordsFor ipv6 k es ≡ each (recordOctets ipv6 k) es
 unfolding isAggregated recordsFor
-each-record Hello h es = refl
-each-record Assert h es = refl
-each-record Simple h es = refl
-each-record Aggregated h es = cc
-each-record NullRegister h es = refl
-each-record RegisterStop h es = refl
+each-record ipv6 Hello h es = refl
+each-record ipv6 Assert h es = refl
+each-record ipv6 Simple h es = refl
+each-record ipv6 Aggregated h es = cc
+each-record ipv6 NullRegister h es = refl
+each-record ipv6 RegisterStop h es = refl

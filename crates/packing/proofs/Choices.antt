@@ -14,12 +14,11 @@ use Rattle.octets.specs.Octets.{put}
 use Rattle.octets.proofs.Laws.{length-put, take-put}
 use Rattle.records.specs.Records.{AssertRecord}
 use Rattle.format.specs.Outcome.{Outcome, gives, refuses}
-use Rattle.format.specs.Family.{ipv4}
-use Rattle.format.specs.Entry.{Entries, assertEntries, count, entriesOf}
+use Rattle.format.specs.Family.{Family}
+use Rattle.format.specs.Entry.{Entries, assertEntries, count, entriesAt, entriesOf}
 use Rattle.format.specs.Packing.{Form, simple, aggregated, Due, due, asked, taken, Packed, octetsOf, tookOf, pack, prefersAggregated, chosen, chosenOf, bothWritten, choiceOf, choice}
 use Rattle.format.proofs.Outcomes.{no-refusal, gives-same}
 use Rattle.format.proofs.Calls.{Asked, asked-gives, gives-asked, taken-fits, pack-none, pack-some}
-use Rattle.packing.specs.Joins.{asserts}
 use Rattle.format.proofs.Entries.{drop-entries}
 
 -- what is packed is within the limit
@@ -74,54 +73,58 @@ module _ (ds da : List ℕ) (s a : Packed) where
           let kept : length (put ds 0 (octetsOf s)) ≡ length ds = length-put ds 0 (octetsOf s) (omega arith) in
           rw (both-simple p, ← which, ← long) (omega arith, sym (take-put ds (octetsOf s)))
 
-module _ (o : List ℕ) (start limit : ℕ) (ds da : List ℕ) where
-  pub choice-refused : (n p : ℕ) → asked (assertEntries ipv4) o start limit (min (length ds) (length da)) ≡ refuses n p
-      → choice ipv4 o start limit ds da ≡ record { answer = refuses n p; part = []; simpleBuffer = ds; aggregatedBuffer = da }
+module _ (f : Family) (o : List ℕ) (start limit : ℕ) (ds da : List ℕ) where
+  pub choice-refused : (n p : ℕ) → asked (assertEntries f) o start limit (min (length ds) (length da)) ≡ refuses n p
+      → choice f o start limit ds da ≡ record { answer = refuses n p; part = []; simpleBuffer = ds; aggregatedBuffer = da }
   unfolding choice choiceOf
   choice-refused n p e = rw e
 
-  pub choice-packs : (l : ℕ) → Asked (assertEntries ipv4) o start limit (min (length ds) (length da)) l
-      → choice ipv4 o start limit ds da
-      ≡ bothWritten ds da (pack (simple ipv4) l (asserts o (16 * start) (length o / 16 - start))) (pack (aggregated ipv4) l (asserts o (16 * start) (length o / 16 - start)))
+  -- the entries from the start on
+  abbrev pub left : List AssertRecord
+  left = entriesAt (assertEntries f) o (assertEntries f .size * start) (length o / assertEntries f .size - start)
+
+  pub choice-packs : (l : ℕ) → Asked (assertEntries f) o start limit (min (length ds) (length da)) l
+      → choice f o start limit ds da
+      ≡ bothWritten ds da (pack (simple f) l left) (pack (aggregated f) l left)
   unfolding choice choiceOf count
   choice-packs l h =
-      let left : drop start (entriesOf (assertEntries ipv4) o) ≡ asserts o (16 * start) (length o / 16 - start) = drop-entries (assertEntries ipv4) o start (h .inside) in
-      rw (asked-gives (assertEntries ipv4) o start limit (min (length ds) (length da)) l h, left)
+      let rest : drop start (entriesOf (assertEntries f) o) ≡ left = drop-entries (assertEntries f) o start (h .inside) in
+      rw (asked-gives (assertEntries f) o start limit (min (length ds) (length da)) l h, rest)
 
   -- ---- the part that is handed back
 
-  pub part-none : (n p : ℕ) → choice ipv4 o start limit ds da .answer ≡ refuses n p → choice ipv4 o start limit ds da .part ≡ []
+  pub part-none : (n p : ℕ) → choice f o start limit ds da .answer ≡ refuses n p → choice f o start limit ds da .part ≡ []
   unfolding choice choiceOf bothWritten
-  part-none n p e = go (asked (assertEntries ipv4) o start limit (min (length ds) (length da))) refl e
+  part-none n p e = go (asked (assertEntries f) o start limit (min (length ds) (length da))) refl e
     where
-      go : (x : Outcome (Due AssertRecord)) → asked (assertEntries ipv4) o start limit (min (length ds) (length da)) ≡ x
-          → choiceOf ipv4 ds da x .answer ≡ refuses n p → choiceOf ipv4 ds da x .part ≡ []
+      go : (x : Outcome (Due AssertRecord)) → asked (assertEntries f) o start limit (min (length ds) (length da)) ≡ x
+          → choiceOf f ds da x .answer ≡ refuses n p → choiceOf f ds da x .part ≡ []
       go (gives (due l es)) q r = absurd (no-refusal (sym r))
       go (refuses m i) q r = refl
 
-  part-some : (b : Bool) (n t : ℕ) → choice ipv4 o start limit ds da .answer ≡ gives (chosen b n t)
-      → (n ≤ length (cond b (choice ipv4 o start limit ds da .aggregatedBuffer) (choice ipv4 o start limit ds da .simpleBuffer)))
-      × (choice ipv4 o start limit ds da .part ≡ take n (cond b (choice ipv4 o start limit ds da .aggregatedBuffer) (choice ipv4 o start limit ds da .simpleBuffer)))
+  part-some : (b : Bool) (n t : ℕ) → choice f o start limit ds da .answer ≡ gives (chosen b n t)
+      → (n ≤ length (cond b (choice f o start limit ds da .aggregatedBuffer) (choice f o start limit ds da .simpleBuffer)))
+      × (choice f o start limit ds da .part ≡ take n (cond b (choice f o start limit ds da .aggregatedBuffer) (choice f o start limit ds da .simpleBuffer)))
   unfolding choice choiceOf
-  part-some b n t e = go (asked (assertEntries ipv4) o start limit (min (length ds) (length da))) refl e
+  part-some b n t e = go (asked (assertEntries f) o start limit (min (length ds) (length da))) refl e
     where
-      go : (x : Outcome (Due AssertRecord)) → asked (assertEntries ipv4) o start limit (min (length ds) (length da)) ≡ x
-          → choiceOf ipv4 ds da x .answer ≡ gives (chosen b n t)
-          → (n ≤ length (cond b (choiceOf ipv4 ds da x .aggregatedBuffer) (choiceOf ipv4 ds da x .simpleBuffer)))
-          × (choiceOf ipv4 ds da x .part ≡ take n (cond b (choiceOf ipv4 ds da x .aggregatedBuffer) (choiceOf ipv4 ds da x .simpleBuffer)))
+      go : (x : Outcome (Due AssertRecord)) → asked (assertEntries f) o start limit (min (length ds) (length da)) ≡ x
+          → choiceOf f ds da x .answer ≡ gives (chosen b n t)
+          → (n ≤ length (cond b (choiceOf f ds da x .aggregatedBuffer) (choiceOf f ds da x .simpleBuffer)))
+          × (choiceOf f ds da x .part ≡ take n (cond b (choiceOf f ds da x .aggregatedBuffer) (choiceOf f ds da x .simpleBuffer)))
       go (gives (due l es)) q r =
-          let enough = gives-asked (assertEntries ipv4) o start limit (min (length ds) (length da)) l es q .0 .enough in
-          handed ds da (pack (simple ipv4) l es) (pack (aggregated ipv4) l es) (omega (arith, pack-within (simple ipv4) l es)) (omega (arith, pack-within (aggregated ipv4) l es)) b n t r
+          let enough = gives-asked (assertEntries f) o start limit (min (length ds) (length da)) l es q .0 .enough in
+          handed ds da (pack (simple f) l es) (pack (aggregated f) l es) (omega (arith, pack-within (simple f) l es)) (omega (arith, pack-within (aggregated f) l es)) b n t r
       go (refuses m i) q r = absurd (no-refusal r)
 
-  pub part-aggregated : (b : Bool) (n t : ℕ) (d : List ℕ) → choice ipv4 o start limit ds da .answer ≡ gives (chosen b n t) → b ≡ true
-      → d ≡ choice ipv4 o start limit ds da .aggregatedBuffer → (n ≡ length (take n d)) × (take n d ≡ choice ipv4 o start limit ds da .part)
+  pub part-aggregated : (b : Bool) (n t : ℕ) (d : List ℕ) → choice f o start limit ds da .answer ≡ gives (chosen b n t) → b ≡ true
+      → d ≡ choice f o start limit ds da .aggregatedBuffer → (n ≡ length (take n d)) × (take n d ≡ choice f o start limit ds da .part)
   part-aggregated b n t d e which buffer =
       let part = rw which at (part-some b n t e) in
       rw buffer (simp length-take (omega (arith, part .0)), sym (part .1))
 
-  pub part-simple : (b : Bool) (n t : ℕ) (d : List ℕ) → choice ipv4 o start limit ds da .answer ≡ gives (chosen b n t) → b ≡ false
-      → d ≡ choice ipv4 o start limit ds da .simpleBuffer → (n ≡ length (take n d)) × (take n d ≡ choice ipv4 o start limit ds da .part)
+  pub part-simple : (b : Bool) (n t : ℕ) (d : List ℕ) → choice f o start limit ds da .answer ≡ gives (chosen b n t) → b ≡ false
+      → d ≡ choice f o start limit ds da .simpleBuffer → (n ≡ length (take n d)) × (take n d ≡ choice f o start limit ds da .part)
   part-simple b n t d e which buffer =
       let part = rw which at (part-some b n t e) in
       rw buffer (simp length-take (omega (arith, part .0)), sym (part .1))

@@ -1,4 +1,4 @@
--- Messages by their kind, in IPv4.
+-- Messages by their kind, over the family.
 --     formFor                      the form of a kind
 --     recordSize, recordBy, recordOctets, recordAt     the record of an entry, where records have one length
 --     isAggregated, recordsFor     the kind whose records have not, and the records of entries
@@ -15,7 +15,7 @@ use lib.ListN.{length}
 use lib.Dec.{eqb, ltb}
 use Rattle.octets.specs.Octets.{_&_}
 use Rattle.records.specs.Joining.{joined}
-use Rattle.format.specs.Family.{Family, ipv4, familyOf}
+use Rattle.format.specs.Family.{Family, familyOf}
 use Rattle.format.specs.Entry.{assertAt, pairAt}
 use Rattle.format.specs.Header.{octet0, octet1}
 use Rattle.format.specs.Record.{each, assertOctets, pairOctets, aggregatedOctets}
@@ -25,13 +25,13 @@ use Rattle.format.specs.declared.Kind.{Kind}
 use Rattle.format.specs.declared.Kind.the-variants.{Hello, Assert, Simple, Aggregated, NullRegister, RegisterStop}
 use Rattle.entries.specs.Kinds.{isAssert, isStop, entriesBy, entriesFor}
 
-abbrev pub formFor : (k : Kind) → Form (entriesFor false k)
-formFor Hello = record { kind = Hello; atMost = λ n. 0; body = λ es. []; size = λ es. 4 }
-formFor Assert = plain ipv4
-formFor Simple = simple ipv4
-formFor Aggregated = aggregated ipv4
-formFor NullRegister = nullRegister ipv4
-formFor RegisterStop = registerStop ipv4
+abbrev pub formFor : (ipv6 : Bool) (k : Kind) → Form (entriesFor ipv6 k)
+formFor ipv6 Hello = record { kind = Hello; atMost = λ n. 0; body = λ es. []; size = λ es. 4 }
+formFor ipv6 Assert = plain (familyOf ipv6)
+formFor ipv6 Simple = simple (familyOf ipv6)
+formFor ipv6 Aggregated = aggregated (familyOf ipv6)
+formFor ipv6 NullRegister = nullRegister (familyOf ipv6)
+formFor ipv6 RegisterStop = registerStop (familyOf ipv6)
 
 -- family, 0, 0 and mask before the group, family and 0 before the source
 abbrev pub recordSize : Bool → Kind → ℕ
@@ -57,13 +57,13 @@ isAggregated Aggregated = true
 isAggregated NullRegister = false
 isAggregated RegisterStop = false
 
-unfoldable pub recordsFor : (k : Kind) → List (entriesFor false k .Entry) → List ℕ
-recordsFor Hello es = each (recordOctets false Hello) es
-recordsFor Assert es = each (recordOctets false Assert) es
-recordsFor Simple es = each (recordOctets false Simple) es
-recordsFor Aggregated es = each (aggregatedOctets ipv4) (joined 4 es)
-recordsFor NullRegister es = each (recordOctets false NullRegister) es
-recordsFor RegisterStop es = each (recordOctets false RegisterStop) es
+unfoldable pub recordsFor : (ipv6 : Bool) (k : Kind) → List (entriesFor ipv6 k .Entry) → List ℕ
+recordsFor ipv6 Hello es = each (recordOctets ipv6 Hello) es
+recordsFor ipv6 Assert es = each (recordOctets ipv6 Assert) es
+recordsFor ipv6 Simple es = each (recordOctets ipv6 Simple) es
+recordsFor ipv6 Aggregated es = each (aggregatedOctets (familyOf ipv6)) (joined (familyOf ipv6 .width) es)
+recordsFor ipv6 NullRegister es = each (recordOctets ipv6 NullRegister) es
+recordsFor ipv6 RegisterStop es = each (recordOctets ipv6 RegisterStop) es
 
 -- Zero and Reserved of a packed assert
 abbrev pub frontOf : Kind → List ℕ
@@ -80,16 +80,17 @@ headSize k = 4 + length (frontOf k)
 abbrev pub beginning : Kind → List ℕ
 beginning k = octet0 k ∷ octet1 k ∷ 0 ∷ 0 ∷ frontOf k
 
+-- how many entries a kind takes is the same in both families
 unfoldable pub takesOne : Kind → Bool
-takesOne k = eqb (formFor k .atMost 2) 1
+takesOne k = eqb (formFor false k .atMost 2) 1
 
 abbrev pub isPacked : Kind → Bool
-isPacked k = ltb 0 (formFor k .atMost 1)
+isPacked k = ltb 0 (formFor false k .atMost 1)
 
-pub record Packs (k : Kind) : Type 0 where
+pub record Packs (ipv6 : Bool) (k : Kind) : Type 0 where
   pub some : isPacked k ≡ true
-  pub body : (es : List (entriesFor false k .Entry)) → formFor k .body es ≡ frontOf k & recordsFor k es
+  pub body : (es : List (entriesFor ipv6 k .Entry)) → formFor ipv6 k .body es ≡ frontOf k & recordsFor ipv6 k es
 
 -- as many records as there is room for past the head, and no more than there are entries
-unfoldable pub fitting : Kind → ℕ → ℕ → ℕ
-fitting k limit n = min ((limit - headSize k) / recordSize false k) (formFor k .atMost n)
+unfoldable pub fitting : Bool → Kind → ℕ → ℕ → ℕ
+fitting ipv6 k limit n = min ((limit - headSize k) / recordSize ipv6 k) (formFor ipv6 k .atMost n)

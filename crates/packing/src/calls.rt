@@ -6,7 +6,7 @@ use entries::entry_size;
 use format::Kind;
 use format::Refusal;
 ghost use mathlib.Core.Path.{_≡_};
-ghost use mathlib.Core.Bool.{true};
+ghost use mathlib.Core.Bool.{true, false};
 ghost use Prim.Native.Nat.{_*_};
 ghost use lib.ListN.{length};
 ghost use Rattle.format.specs.Family.{ipv4};
@@ -24,10 +24,10 @@ pub enum Packing {
 // Packs a message of a kind.
 fn pack(kind: Kind, e: &[u8], start: usize, limit: usize, d: &mut [u8]) -> Packing
     requires { ⌜ isPacked kind ≡ true ⌝ }
-    ensures answer { λ r. ⌜ packed r ≡ packing (formFor kind) (now (e .entry)) start limit (now (d .entry)) .answer ⌝ }
-    ensures buffer { λ r. ⌜ now (d .exit) ≡ packing (formFor kind) (now (e .entry)) start limit (now (d .entry)) .buffer ⌝ }
+    ensures answer { λ r. ⌜ packed r ≡ packing (formFor false kind) (now (e .entry)) start limit (now (d .entry)) .answer ⌝ }
+    ensures buffer { λ r. ⌜ now (d .exit) ≡ packing (formFor false kind) (now (e .entry)) start limit (now (d .entry)) .buffer ⌝ }
 {
-    let x = asked(kind, e, start, limit, d.len());
+    let x = asked(false, kind, e, start, limit, d.len());
     match x {
         Limit::Refused(r) => Packing::Refused(r),
         Limit::Is(l) => {

@@ -50,7 +50,7 @@ pub fn pack_both(
     ensures aggregated { λ r. ⌜ now (aggregated .exit) ≡ choice ipv4 (now (e .entry)) start limit (now (simple .entry)) (now (aggregated .entry)) .aggregatedBuffer ⌝ }
 {
     let room = smaller(simple.len(), aggregated.len());
-    let x = asked(Kind::Simple, e, start, limit, room);
+    let x = asked(false, Kind::Simple, e, start, limit, room);
     match x {
         Limit::Refused(r) => Choice::Refused(r),
         Limit::Is(l) => {

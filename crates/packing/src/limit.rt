@@ -1,15 +1,14 @@
 // What a packing call refuses before it writes: 9, 8, 10, then 7.
+use addresses::least_limit;
 use entries::Listed;
 use entries::entry_size;
 use entries::first_bad;
 use format::GREATEST_LIMIT;
 use format::Kind;
-use format::LEAST_LIMIT;
 use format::Refusal;
 use format::USUAL_LIMIT;
-ghost use mathlib.Core.Bool.{false};
 ghost use mathlib.Core.Path.{_≡_};
-ghost use Rattle.format.specs.Family.{ipv4};
+ghost use Rattle.format.specs.Family.{familyOf};
 ghost use Rattle.format.specs.Packing.{readLimit, asked as askedOf};
 ghost use Rattle.entries.specs.Kinds.{entriesFor};
 ghost use Rattle.packing.specs.Answers.{limitOf, limited};
@@ -26,13 +25,13 @@ fn refused(number: u8, place: usize) -> Limit
     Limit::Refused(Refusal { number, place })
 }
 
-fn read_limit(limit: usize) -> Limit
-    ensures { λ r. ⌜ limitOf r ≡ readLimit ipv4 limit ⌝ }
+fn read_limit(ipv6: bool, limit: usize) -> Limit
+    ensures { λ r. ⌜ limitOf r ≡ readLimit (familyOf ipv6) limit ⌝ }
 {
     if limit == 0 {
         return Limit::Is(USUAL_LIMIT);
     }
-    if limit < LEAST_LIMIT {
+    if limit < least_limit(ipv6) {
         return refused(9, 0);
     }
     if GREATEST_LIMIT < limit {
@@ -42,14 +41,21 @@ fn read_limit(limit: usize) -> Limit
 }
 
 // The limit as read, where nothing is to be refused.
-pub(crate) fn asked(kind: Kind, e: &[u8], start: usize, limit: usize, room: usize) -> Limit
-    ensures { λ r. ⌜ limitOf r ≡ limited (askedOf (entriesFor false kind) (now (e .entry)) start limit room) ⌝ }
+pub(crate) fn asked(
+    ipv6: bool,
+    kind: Kind,
+    e: &[u8],
+    start: usize,
+    limit: usize,
+    room: usize,
+) -> Limit
+    ensures { λ r. ⌜ limitOf r ≡ limited (askedOf (entriesFor ipv6 kind) (now (e .entry)) start limit room) ⌝ }
 {
-    let x = read_limit(limit);
+    let x = read_limit(ipv6, limit);
     let Limit::Is(l) = x else {
         return x;
     };
-    let size = entry_size(false, kind);
+    let size = entry_size(ipv6, kind);
     let count = e.len() / size;
     if room < l {
         return refused(8, 0);
@@ -60,7 +66,7 @@ pub(crate) fn asked(kind: Kind, e: &[u8], start: usize, limit: usize, room: usiz
     if count < start {
         return refused(10, 0);
     }
-    let bad = first_bad(false, kind, e, start);
+    let bad = first_bad(ipv6, kind, e, start);
     match bad {
         Listed::Allowed => x,
         Listed::Bad(i) => refused(7, i),

@@ -1,8 +1,9 @@
 // What begins a message, with the checksum as 0, and the checksum, which is written last.
 use format::Kind;
+use octets::write16;
+use octets::write32;
 ghost use mathlib.Core.Path.{_≡_};
-ghost use mathlib.Core.List.{[], _∷_};
-ghost use Prim.Native.Nat.{_+_, _≤_};
+ghost use Prim.Native.Nat.{_≤_};
 ghost use lib.ListN.{length, take};
 ghost use Rattle.octets.specs.Octets.{put, be};
 ghost use Rattle.checksum.specs.Sum.{checksum as checksumOf};
@@ -49,17 +50,6 @@ pub(crate) fn layout_of(kind: Kind) -> Layout
     }
 }
 
-// Four octets of 0.
-fn put_zeros(d: &mut [u8], at: usize)
-    requires { ⌜ at + 4 ≤ length (now d) ⌝ }
-    ensures { λ r. ⌜ now (d .exit) ≡ put (now (d .entry)) at (0 ∷ 0 ∷ 0 ∷ 0 ∷ []) ⌝ }
-{
-    d[at] = 0;
-    d[at + 1] = 0;
-    d[at + 2] = 0;
-    d[at + 3] = 0;
-}
-
 // The beginning of a message, and its size.
 pub(crate) fn begin(kind: Kind, d: &mut [u8]) -> usize
     requires { ⌜ headSize kind ≤ length (now d) ⌝ }
@@ -72,7 +62,7 @@ pub(crate) fn begin(kind: Kind, d: &mut [u8]) -> usize
     d[2] = 0;
     d[3] = 0;
     if l.head == 8 {
-        put_zeros(d, 4);
+        write32(d, 4, 0);
     }
     l.head
 }
@@ -83,6 +73,5 @@ pub(crate) fn seal(d: &mut [u8], n: usize)
     ensures { λ r. ⌜ now (d .exit) ≡ put (now (d .entry)) 2 (be 2 (checksumOf (take n (now (d .entry))))) ⌝ }
 {
     let c = checksum::checksum(&d[..n]);
-    d[2] = (c / 256) as u8;
-    d[3] = (c % 256) as u8;
+    write16(d, 2, c);
 }

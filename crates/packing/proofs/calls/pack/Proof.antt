@@ -34,14 +34,14 @@ asks c =
     limit-asked (entriesFor false (a .kind)) (now (a .e)) (a .start) (a .limit) (length (now (a .d))) (c .before .x2 .given .1) (c .before .before .before .asked .ensures)
 
 inside : (c : tie.After-known-told2) → start c .args .start ≤ length (now (start c .args .e)) / entriesFor false (start c .args .kind) .size
-inside c = let a = start c .args in asked-inside (a .kind) (now (a .e)) (a .start) (a .limit) (length (now (a .d))) (limit c) (asks c)
+inside c = let a = start c .args in asked-inside false (a .kind) (now (a .e)) (a .start) (a .limit) (length (now (a .d))) (limit c) (asks c)
 
 mul-write-most : tie.Need-mul-write-most
 mul-write-most c =
     let r = c .before in
     let a = start r .args in
     let same : c .entry-size .result * a .start ≡ entriesFor false (a .kind) .size * a .start = ap (λ x. x * a .start) (c .entry-size .ensures) in
-    omega (arith, asked-there (a .kind) (now (a .e)) (a .start) (a .limit) (length (now (a .d))) (limit r) (asks r))
+    omega (arith, asked-there false (a .kind) (now (a .e)) (a .start) (a .limit) (length (now (a .d))) (limit r) (asks r))
 
 div-write-most : tie.Need-div-write-most
 div-write-most c = omega (arith, c .entry-size .ensures, size-range false (c .before .before .before .before .before .before .before .args .kind))
@@ -56,7 +56,7 @@ write-most-requires c κs =
     let a = s .args in
     let room = length (now (a .d)) in
     let size = c .before .entry-size .ensures in
-    (packed-is (a .kind) (s .pre), rw size (asked-there (a .kind) (now (a .e)) (a .start) (a .limit) room (limit r) (asks r)), asked-limit (a .kind) (now (a .e)) (a .start) (a .limit) room (limit r) (asks r), asks r .enough)
+    (packed-is false (a .kind) (s .pre), rw size (asked-there false (a .kind) (now (a .e)) (a .start) (a .limit) room (limit r) (asks r)), asked-limit false (a .kind) (now (a .e)) (a .start) (a .limit) room (limit r) (asks r), asks r .enough)
 
 returns : tie.Need-returns
 unfolding packed
@@ -64,7 +64,7 @@ returns c =
     let a = c .before .before .before .before .before .before .args in
     let refusal = c .before .x .given .0 .0 in
     let asks = asked (entriesFor false (a .kind)) (now (a .e)) (a .start) (a .limit) (length (now (a .d))) in
-    let call = call-refused (formFor (a .kind)) (now (a .e)) (a .start) (a .limit) (now (a .d)) (refusal .number) (refusal .place) (limit-refused asks (c .before .x .given .1) (c .before .before .before .asked .ensures)) in
+    let call = call-refused (formFor false (a .kind)) (now (a .e)) (a .start) (a .limit) (now (a .d)) (refusal .number) (refusal .place) (limit-refused asks (c .before .x .given .1) (c .before .before .before .asked .ensures)) in
     (sym (ap (λ x. x .answer) call), sym (ap (λ x. x .buffer) call))
 
 returns-2 : tie.Need-returns-2
@@ -73,9 +73,9 @@ returns-2 c =
     let r = c .before .before .before .before .before in
     let a = start r .args in
     let size = c .before .before .before .before .entry-size .ensures in
-    let p = pack (formFor (a .kind)) (limit r) (entriesAt (entriesFor false (a .kind)) (now (a .e)) (entriesFor false (a .kind) .size * a .start) (length (now (a .e)) / entriesFor false (a .kind) .size - a .start)) in
+    let p = pack (formFor false (a .kind)) (limit r) (entriesAt (entriesFor false (a .kind)) (now (a .e)) (entriesFor false (a .kind) .size * a .start) (length (now (a .e)) / entriesFor false (a .kind) .size - a .start)) in
     let wrote-it = rw size at (c .before .before .write-most .ensures) in
-    let call = call-packs (a .kind) (now (a .e)) (a .start) (a .limit) (limit r) (now (a .d)) p (asks r) refl in
+    let call = call-packs false (a .kind) (now (a .e)) (a .start) (a .limit) (limit r) (now (a .d)) p (asks r) refl in
     (ap₂ (λ x y. gives (wrote x y)) (wrote-it .0 .0) (wrote-it .0 .1) ∙ sym (ap (λ x. x .answer) call), wrote-it .1 ∙ sym (ap (λ x. x .buffer) call))
 
 pub pack-spec : {M : Type 1} → statement M

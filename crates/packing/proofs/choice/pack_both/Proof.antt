@@ -10,11 +10,10 @@ use lib.ListN.{length}
 use Rattle.records.specs.Records.{AssertRecord}
 use Rattle.format.specs.Outcome.{gives}
 use Rattle.format.specs.Family.{ipv4}
-use Rattle.format.specs.Entry.{assertEntries}
-use Rattle.format.specs.Packing.{simple, aggregated, asked, pack, prefersAggregated, chosen, bothWritten, choice}
+use Rattle.format.specs.Entry.{assertEntries, entriesAt}
+use Rattle.format.specs.Packing.{leastLimit, simple, aggregated, asked, pack, prefersAggregated, chosen, bothWritten, choice}
 use Rattle.format.specs.declared.Kind.the-variants.{Simple, Aggregated}
 use Rattle.format.proofs.Calls.{Asked}
-use Rattle.packing.specs.Joins.{asserts}
 use Rattle.packing.specs.Answers.{chosenBy}
 use Rattle.packing.proofs.Packs.{limit-refused, limit-asked, asked-limit, asked-inside, asked-there}
 use Rattle.packing.proofs.ByKind.{packed-is}
@@ -39,17 +38,17 @@ asks c =
 
 -- the entries from the start on
 abbrev left : tie.After-known-told2 → List AssertRecord
-left c = asserts (now (start c .args .e)) (16 * start c .args .start) (length (now (start c .args .e)) / 16 - start c .args .start)
+left c = entriesAt (assertEntries ipv4) (now (start c .args .e)) (16 * start c .args .start) (length (now (start c .args .e)) / 16 - start c .args .start)
 
 inside : (c : tie.After-known-told2) → start c .args .start ≤ length (now (start c .args .e)) / 16
-inside c = let a = start c .args in asked-inside Simple (now (a .e)) (a .start) (a .limit) (min (length (now (a .simple))) (length (now (a .aggregated)))) (limit c) (asks c)
+inside c = let a = start c .args in asked-inside false Simple (now (a .e)) (a .start) (a .limit) (min (length (now (a .simple))) (length (now (a .aggregated)))) (limit c) (asks c)
 
 there : (c : tie.After-known-told2) → 16 * start c .args .start + 16 * (length (now (start c .args .e)) / 16 - start c .args .start) ≤ length (now (start c .args .e))
-there c = let a = start c .args in asked-there Simple (now (a .e)) (a .start) (a .limit) (min (length (now (a .simple))) (length (now (a .aggregated)))) (limit c) (asks c)
+there c = let a = start c .args in asked-there false Simple (now (a .e)) (a .start) (a .limit) (min (length (now (a .simple))) (length (now (a .aggregated)))) (limit c) (asks c)
 
 -- the message can be asked for
-low : (c : tie.After-known-told2) → 38 ≤ limit c
-low c = let a = start c .args in asked-limit Simple (now (a .e)) (a .start) (a .limit) (min (length (now (a .simple))) (length (now (a .aggregated)))) (limit c) (asks c)
+low : (c : tie.After-known-told2) → leastLimit ipv4 ≤ limit c
+low c = let a = start c .args in asked-limit false Simple (now (a .e)) (a .start) (a .limit) (min (length (now (a .simple))) (length (now (a .aggregated)))) (limit c) (asks c)
 
 abbrev told : tie.After-prefers-aggregated → tie.After-known-told2
 told c = c .before .before .before .before .before .before .before .before .before
@@ -61,7 +60,7 @@ call : (c : tie.After-prefers-aggregated)
 call c =
     let r = told c in
     let a = start r .args in
-    choice-packs (now (a .e)) (a .start) (a .limit) (now (a .simple)) (now (a .aggregated)) (limit r) (asks r)
+    choice-packs ipv4 (now (a .e)) (a .start) (a .limit) (now (a .simple)) (now (a .aggregated)) (limit r) (asks r)
 
 prefers : (c : tie.After-prefers-aggregated)
     → c .prefers-aggregated .result ≡ prefersAggregated (pack (simple ipv4) (limit (told c)) (left (told c))) (pack (aggregated ipv4) (limit (told c)) (left (told c)))
@@ -79,7 +78,7 @@ mul-write-most c = omega (arith, there c)
 write-most-requires : tie.Need-write-most-requires
 write-most-requires c κs =
     let r = c .before in
-    (packed-is Simple refl, there r, low r, omega (arith, asks r .enough))
+    (packed-is false Simple refl, there r, low r, omega (arith, asks r .enough))
 
 mul-write-most-2 : tie.Need-mul-write-most-2
 mul-write-most-2 c = omega (arith, there (c .before .before .before .before))
@@ -87,7 +86,7 @@ mul-write-most-2 c = omega (arith, there (c .before .before .before .before))
 write-most-requires-2 : tie.Need-write-most-requires-2
 write-most-requires-2 c κs =
     let r = c .before .before .before .before .before in
-    (packed-is Aggregated refl, there r, low r, omega (arith, asks r .enough))
+    (packed-is false Aggregated refl, there r, low r, omega (arith, asks r .enough))
 
 returns : tie.Need-returns
 unfolding chosenBy
@@ -105,7 +104,7 @@ returns-2 c =
     let refusal = c .before .x .given .0 .0 in
     let asks = asked (assertEntries ipv4) (now (a .e)) (a .start) (a .limit) (min (length (now (a .simple))) (length (now (a .aggregated)))) in
     let refused = limit-refused asks (c .before .x .given .1) (rw (c .before .before .before .before .smaller .ensures) at (c .before .before .before .asked .ensures)) in
-    let call = choice-refused (now (a .e)) (a .start) (a .limit) (now (a .simple)) (now (a .aggregated)) (refusal .number) (refusal .place) refused in
+    let call = choice-refused ipv4 (now (a .e)) (a .start) (a .limit) (now (a .simple)) (now (a .aggregated)) (refusal .number) (refusal .place) refused in
     (sym (ap (λ x. x .answer) call), (sym (ap (λ x. x .simpleBuffer) call), sym (ap (λ x. x .aggregatedBuffer) call)))
 
 returns-3 : tie.Need-returns-3

@@ -2,6 +2,7 @@
 -- Assumes nothing.
 use mathlib.Core.Path.{sym, ap, _∙_}
 use denote.Ref.{now}
+use Rattle.format.specs.Family.{ipv4}
 use Rattle.packing.specs.Answers.{chosenBy}
 use Rattle.packing.proofs.Choices.{part-none, part-aggregated, part-simple}
 use borrow.Author.Needs.{needs}
@@ -10,23 +11,23 @@ use Rattle.packing.proofs.choice.pack_chosen.Tie as tie
 
 slice-aggregate-result-2 : tie.Need-slice-aggregate-result-2
 unfolding chosenBy
-slice-aggregate-result-2 c = part-aggregated (now (c .before .before .before .before .before .before .before .before .before .before .before .before .before .before .before .args .e)) (c .before .before .before .before .before .before .before .before .before .before .before .before .before .before .before .args .start) (c .before .before .before .before .before .before .before .before .before .before .before .before .before .before .before .args .limit) (now (c .before .before .before .before .before .before .before .before .before .before .before .before .before .before .before .args .simple)) (now (c .before .before .before .before .before .before .before .before .before .before .before .before .before .before .before .args .aggregated)) (c .before .before .before .better .given .0 .0) (c .before .before .before .better .given .0 .1 .0) (c .before .before .before .better .given .0 .1 .1 .0) _ (sym (c .before .before .before .before .before .before .before .before .before .pack-both .ensures .0) ∙ ap chosenBy (c .before .before .before .better .given .1)) (c .before .if1 .taken) (c .before .before .before .before .before .before .before .before .before .pack-both .ensures .1 .1) .0
+slice-aggregate-result-2 c = part-aggregated ipv4 (now (c .before .before .before .before .before .before .before .before .before .before .before .before .before .before .before .args .e)) (c .before .before .before .before .before .before .before .before .before .before .before .before .before .before .before .args .start) (c .before .before .before .before .before .before .before .before .before .before .before .before .before .before .before .args .limit) (now (c .before .before .before .before .before .before .before .before .before .before .before .before .before .before .before .args .simple)) (now (c .before .before .before .before .before .before .before .before .before .before .before .before .before .before .before .args .aggregated)) (c .before .before .before .better .given .0 .0) (c .before .before .before .better .given .0 .1 .0) (c .before .before .before .better .given .0 .1 .1 .0) _ (sym (c .before .before .before .before .before .before .before .before .before .pack-both .ensures .0) ∙ ap chosenBy (c .before .before .before .better .given .1)) (c .before .if1 .taken) (c .before .before .before .before .before .before .before .before .before .pack-both .ensures .1 .1) .0
 
 returns : tie.Need-returns
 unfolding chosenBy
-returns c = part-aggregated (now (c .before .before .before .before .before .before .before .before .before .before .before .before .before .before .before .args .e)) (c .before .before .before .before .before .before .before .before .before .before .before .before .before .before .before .args .start) (c .before .before .before .before .before .before .before .before .before .before .before .before .before .before .before .args .limit) (now (c .before .before .before .before .before .before .before .before .before .before .before .before .before .before .before .args .simple)) (now (c .before .before .before .before .before .before .before .before .before .before .before .before .before .before .before .args .aggregated)) (c .before .before .before .better .given .0 .0) (c .before .before .before .better .given .0 .1 .0) (c .before .before .before .better .given .0 .1 .1 .0) _ (sym (c .before .before .before .before .before .before .before .before .before .pack-both .ensures .0) ∙ ap chosenBy (c .before .before .before .better .given .1)) (c .before .if1 .taken) (c .before .before .before .before .before .before .before .before .before .pack-both .ensures .1 .1) .1
+returns c = part-aggregated ipv4 (now (c .before .before .before .before .before .before .before .before .before .before .before .before .before .before .before .args .e)) (c .before .before .before .before .before .before .before .before .before .before .before .before .before .before .before .args .start) (c .before .before .before .before .before .before .before .before .before .before .before .before .before .before .before .args .limit) (now (c .before .before .before .before .before .before .before .before .before .before .before .before .before .before .before .args .simple)) (now (c .before .before .before .before .before .before .before .before .before .before .before .before .before .before .before .args .aggregated)) (c .before .before .before .better .given .0 .0) (c .before .before .before .better .given .0 .1 .0) (c .before .before .before .better .given .0 .1 .1 .0) _ (sym (c .before .before .before .before .before .before .before .before .before .pack-both .ensures .0) ∙ ap chosenBy (c .before .before .before .better .given .1)) (c .before .if1 .taken) (c .before .before .before .before .before .before .before .before .before .pack-both .ensures .1 .1) .1
 
 slice-aggregate-result-3 : tie.Need-slice-aggregate-result-3
 unfolding chosenBy
-slice-aggregate-result-3 c = part-simple (now (c .before .before .before .before .before .before .before .before .before .before .before .before .before .before .before .args .e)) (c .before .before .before .before .before .before .before .before .before .before .before .before .before .before .before .args .start) (c .before .before .before .before .before .before .before .before .before .before .before .before .before .before .before .args .limit) (now (c .before .before .before .before .before .before .before .before .before .before .before .before .before .before .before .args .simple)) (now (c .before .before .before .before .before .before .before .before .before .before .before .before .before .before .before .args .aggregated)) (c .before .before .before .better .given .0 .0) (c .before .before .before .better .given .0 .1 .0) (c .before .before .before .better .given .0 .1 .1 .0) _ (sym (c .before .before .before .before .before .before .before .before .before .pack-both .ensures .0) ∙ ap chosenBy (c .before .before .before .better .given .1)) (c .before .if1 .left) (c .before .before .before .before .before .before .before .before .before .pack-both .ensures .1 .0) .0
+slice-aggregate-result-3 c = part-simple ipv4 (now (c .before .before .before .before .before .before .before .before .before .before .before .before .before .before .before .args .e)) (c .before .before .before .before .before .before .before .before .before .before .before .before .before .before .before .args .start) (c .before .before .before .before .before .before .before .before .before .before .before .before .before .before .before .args .limit) (now (c .before .before .before .before .before .before .before .before .before .before .before .before .before .before .before .args .simple)) (now (c .before .before .before .before .before .before .before .before .before .before .before .before .before .before .before .args .aggregated)) (c .before .before .before .better .given .0 .0) (c .before .before .before .better .given .0 .1 .0) (c .before .before .before .better .given .0 .1 .1 .0) _ (sym (c .before .before .before .before .before .before .before .before .before .pack-both .ensures .0) ∙ ap chosenBy (c .before .before .before .better .given .1)) (c .before .if1 .left) (c .before .before .before .before .before .before .before .before .before .pack-both .ensures .1 .0) .0
 
 returns-2 : tie.Need-returns-2
 unfolding chosenBy
-returns-2 c = sym (part-none (now (c .before .before .before .before .before .before .before .before .before .before .before .before .before .args .e)) (c .before .before .before .before .before .before .before .before .before .before .before .before .before .args .start) (c .before .before .before .before .before .before .before .before .before .before .before .before .before .args .limit) (now (c .before .before .before .before .before .before .before .before .before .before .before .before .before .args .simple)) (now (c .before .before .before .before .before .before .before .before .before .before .before .before .before .args .aggregated)) _ _ (sym (c .before .before .before .before .before .before .before .pack-both .ensures .0) ∙ ap chosenBy (c .before .enum-told .given .1)))
+returns-2 c = sym (part-none ipv4 (now (c .before .before .before .before .before .before .before .before .before .before .before .before .before .args .e)) (c .before .before .before .before .before .before .before .before .before .before .before .before .before .args .start) (c .before .before .before .before .before .before .before .before .before .before .before .before .before .args .limit) (now (c .before .before .before .before .before .before .before .before .before .before .before .before .before .args .simple)) (now (c .before .before .before .before .before .before .before .before .before .before .before .before .before .args .aggregated)) _ _ (sym (c .before .before .before .before .before .before .before .pack-both .ensures .0) ∙ ap chosenBy (c .before .enum-told .given .1)))
 
 returns-3 : tie.Need-returns-3
 unfolding chosenBy
-returns-3 c = part-simple (now (c .before .before .before .before .before .before .before .before .before .before .before .before .before .before .before .args .e)) (c .before .before .before .before .before .before .before .before .before .before .before .before .before .before .before .args .start) (c .before .before .before .before .before .before .before .before .before .before .before .before .before .before .before .args .limit) (now (c .before .before .before .before .before .before .before .before .before .before .before .before .before .before .before .args .simple)) (now (c .before .before .before .before .before .before .before .before .before .before .before .before .before .before .before .args .aggregated)) (c .before .before .before .better .given .0 .0) (c .before .before .before .better .given .0 .1 .0) (c .before .before .before .better .given .0 .1 .1 .0) _ (sym (c .before .before .before .before .before .before .before .before .before .pack-both .ensures .0) ∙ ap chosenBy (c .before .before .before .better .given .1)) (c .before .if1 .left) (c .before .before .before .before .before .before .before .before .before .pack-both .ensures .1 .0) .1
+returns-3 c = part-simple ipv4 (now (c .before .before .before .before .before .before .before .before .before .before .before .before .before .before .before .args .e)) (c .before .before .before .before .before .before .before .before .before .before .before .before .before .before .before .args .start) (c .before .before .before .before .before .before .before .before .before .before .before .before .before .before .before .args .limit) (now (c .before .before .before .before .before .before .before .before .before .before .before .before .before .before .before .args .simple)) (now (c .before .before .before .before .before .before .before .before .before .before .before .before .before .before .before .args .aggregated)) (c .before .before .before .better .given .0 .0) (c .before .before .before .better .given .0 .1 .0) (c .before .before .before .better .given .0 .1 .1 .0) _ (sym (c .before .before .before .before .before .before .before .before .before .pack-both .ensures .0) ∙ ap chosenBy (c .before .before .before .better .given .1)) (c .before .if1 .left) (c .before .before .before .before .before .before .before .before .before .pack-both .ensures .1 .0) .1
 
 pub pack-chosen-spec : {M : Type 1} → statement M
 pack-chosen-spec =

@@ -1,6 +1,5 @@
 -- `packing::limit::asked` meets its contract: the tests are those of the definition, in its order.
 -- Assumes nothing.
-use mathlib.Core.Bool.{false}
 use native.Mathlib.Omega.{arith}
 use mathlib.Core.Path.{_≡_, sym, ap, _∙_}
 use denote.Ref.{now}
@@ -15,37 +14,37 @@ use Rattle.packing.proofs.limit.asked.Statement.{statement}
 use Rattle.packing.proofs.limit.asked.Tie as tie
 
 -- what reading the limit gave
-read : (c : tie.After-known-told) → readLimit (entriesFor false (c .before .before .before .before .before .args .kind) .family) (c .before .before .before .before .before .args .limit) ≡ gives (c .before .x .given .0 .0)
-read c = read-gives (c .before .before .before .before .before .args .kind) (c .before .before .before .before .before .args .limit) (c .before .x .given .1) (c .before .before .before .read-limit .ensures)
+read : (c : tie.After-known-told) → readLimit (entriesFor (c .before .before .before .before .before .args .ipv6) (c .before .before .before .before .before .args .kind) .family) (c .before .before .before .before .before .args .limit) ≡ gives (c .before .x .given .0 .0)
+read c = read-gives (c .before .before .before .before .before .args .ipv6) (c .before .before .before .before .before .args .kind) (c .before .before .before .before .before .args .limit) (c .before .x .given .1) (c .before .before .before .read-limit .ensures)
 
 returns : tie.Need-returns
 unfolding limitOf
 returns c =
     let a = c .before .before .before .before .args in
-    let read = read-refuses (a .kind) (a .limit) (c .enum-told .given .1) (c .before .before .read-limit .ensures) in
-    ap limitOf (c .enum-told .given .1) ∙ sym (ask-limit (entriesFor false (a .kind)) (now (a .e)) (a .start) (a .limit) (a .room) _ _ read)
+    let read = read-refuses (a .ipv6) (a .kind) (a .limit) (c .enum-told .given .1) (c .before .before .read-limit .ensures) in
+    ap limitOf (c .enum-told .given .1) ∙ sym (ask-limit (entriesFor (a .ipv6) (a .kind)) (now (a .e)) (a .start) (a .limit) (a .room) _ _ read)
 
 div-count : tie.Need-div-count
-div-count c = omega (arith, size-range false (c .before .before .before .before .before .before .args .kind))
+div-count c = omega (arith, size-range (c .before .before .before .before .before .before .args .ipv6) (c .before .before .before .before .before .before .args .kind))
 
 returns-2 : tie.Need-returns-2
 unfolding limitOf
 returns-2 c =
     let r = c .before .before .before in
     let a = r .before .before .before .before .before .args in
-    let E = entriesFor false (a .kind) in
+    let E = entriesFor (a .ipv6) (a .kind) in
     let o = now (a .e) in
     rw (c .refused .ensures) (sym (ask-room E o (a .start) (a .limit) (a .room) _ (read r) (c .before .if1 .taken)))
 
 rem-if2 : tie.Need-rem-if2
-rem-if2 c = omega (arith, size-range false (c .before .before .before .before .before .before .before .args .kind))
+rem-if2 c = omega (arith, size-range (c .before .before .before .before .before .before .before .args .ipv6) (c .before .before .before .before .before .before .before .args .kind))
 
 returns-3 : tie.Need-returns-3
 unfolding limitOf
 returns-3 c =
     let r = c .before .before .before .before in
     let a = r .before .before .before .before .before .args in
-    let E = entriesFor false (a .kind) in
+    let E = entriesFor (a .ipv6) (a .kind) in
     let o = now (a .e) in
     rw (c .refused2 .ensures)
     (sym (ask-part E o (a .start) (a .limit) (a .room) _ (read r) (c .before .before .if1 .left) (rw (c .before .before .before .entry-size .ensures) at (c .before .if2 .taken))))
@@ -55,7 +54,7 @@ unfolding limitOf
 returns-4 c =
     let r = c .before .before .before .before .before in
     let a = r .before .before .before .before .before .args in
-    let E = entriesFor false (a .kind) in
+    let E = entriesFor (a .ipv6) (a .kind) in
     let o = now (a .e) in
     let size = c .before .before .before .before .entry-size .ensures in
     rw (c .refused3 .ensures)
@@ -68,7 +67,7 @@ returns-5 c =
     let r = f .before .before .before .before .before in
     let a = r .before .before .before .before .before .args in
     let size = f .before .before .before .before .entry-size .ensures in
-    sym (ask-fine (entriesFor false (a .kind)) (now (a .e)) (a .start) (a .limit) (a .room) _ (read r) (f .before .before .before .if1 .left) (rw size at (f .before .before .if2 .left)) (rw size at (f .before .if3 .left)) (f .first-bad .ensures) (c .enum-told2 .given .1))
+    sym (ask-fine (entriesFor (a .ipv6) (a .kind)) (now (a .e)) (a .start) (a .limit) (a .room) _ (read r) (f .before .before .before .if1 .left) (rw size at (f .before .before .if2 .left)) (rw size at (f .before .if3 .left)) (f .first-bad .ensures) (c .enum-told2 .given .1))
 
 returns-6 : tie.Need-returns-6
 unfolding limitOf
@@ -78,7 +77,7 @@ returns-6 c =
     let a = r .before .before .before .before .before .args in
     let size = f .before .before .before .before .entry-size .ensures in
     rw (c .refused4 .ensures)
-    (sym (ask-bad (entriesFor false (a .kind)) (now (a .e)) (a .start) (a .limit) (a .room) _ (read r) (f .before .before .before .if1 .left) (rw size at (f .before .before .if2 .left)) (rw size at (f .before .if3 .left)) (f .first-bad .ensures) (c .before .before .bad .given .1)))
+    (sym (ask-bad (entriesFor (a .ipv6) (a .kind)) (now (a .e)) (a .start) (a .limit) (a .room) _ (read r) (f .before .before .before .if1 .left) (rw size at (f .before .before .if2 .left)) (rw size at (f .before .if3 .left)) (f .first-bad .ensures) (c .before .before .bad .given .1)))
 
 pub asked-spec : {M : Type 1} → statement M
 asked-spec =

@@ -1,4 +1,4 @@
--- `packing::message::begin` meets its contract: four stores, and in a packed assert four more.
+-- `packing::message::begin` meets its contract: four stores, and in a packed assert four octets more.
 -- Assumes nothing.
 use native.Mathlib.Omega.{arith}
 use Prim.Native.Nat.{_≤_}
@@ -7,8 +7,10 @@ use mathlib.Core.Path.{refl, sym, _∙_}
 use lib.ListN.{length, length-set}
 use denote.Ref.{now}
 use borrow.Author.Needs.{needs}
+use Rattle.octets.specs.Octets.{be}
 use Rattle.octets.proofs.Laws.{stores-put, put-next}
 use Rattle.packing.proofs.ByKind.{front-long, front-short}
+use Rattle.packing.proofs.Writing.{number-fits}
 use Rattle.packing.proofs.message.begin.Statement.{statement}
 use Rattle.packing.proofs.message.begin.Tie as tie
 
@@ -21,26 +23,21 @@ slice-write-d-3 c = simp length-set (omega arith)
 slice-write-d-4 : tie.Need-slice-write-d-4
 slice-write-d-4 c = simp length-set (omega arith)
 
-put-zeros-requires : tie.Need-put-zeros-requires
-put-zeros-requires c κs =
-    let l = c .before .before .before .layout-of in
-    let s = c .before .before .before .before .before in
-    let head : 8 ≤ length (now (s .args .d)) = omega (arith, l .ensures .2, c .before .if1 .taken, s .pre) in
-    simp length-set (omega arith)
-
 same-length : tie.Need-same-length
-same-length c = c .before .before .put-zeros .kept .0 ∙ simp length-set
+same-length c = c .before .before .write32 .kept .0 ∙ simp length-set
 
 returns : tie.Need-returns
+unfolding be
 returns c =
     let l = c .before .before .before .before .before .before .layout-of in
     let s = c .before .before .before .before .before .before .before .before in
     let a = s .args in
     let zero = front-long (a .kind) (sym (l .ensures .2) ∙ c .before .before .before .before .if1 .taken) in
+    let head : 8 ≤ length (now (a .d)) = omega (arith, l .ensures .2, c .before .before .before .before .if1 .taken, s .pre) in
     let first = l .result .octet0 ∷ l .result .octet1 ∷ 0 ∷ 0 ∷ [] in (
       l .ensures .2,
       rw (zero, ← l .ensures .0, ← l .ensures .1)
-          (put-next (now (a .d)) 0 first (0 ∷ 0 ∷ 0 ∷ 0 ∷ []) (stores-put (now (a .d)) 0 first (omega (arith, s .pre))) (c .before .before .put-zeros .ensures) refl),
+          (put-next (now (a .d)) 0 first (be 4 0) (stores-put (now (a .d)) 0 first (omega (arith, s .pre))) (c .before .before .write32 .ensures .1 ∙ number-fits 4 _ 4 0 (simp length-set (omega arith))) refl),
     )
 
 returns-2 : tie.Need-returns-2
@@ -62,7 +59,7 @@ begin-spec =
     slice-write-d-2
     slice-write-d-3
     slice-write-d-4
-    put-zeros-requires
+    (λ c κs. search needs)
     same-length
     returns
     (λ c. search needs)

@@ -1,23 +1,22 @@
--- `packing::message::seal` meets its contract: the two stores are the octets of the checksum.
+-- `packing::message::seal` meets its contract: the field is there.
 -- Assumes nothing.
 use native.Mathlib.Omega.{arith}
-use lib.ListN.{length-set, length-take}
+use mathlib.Core.Path.{ap, _∙_}
 use denote.Ref.{now}
+use lib.ListN.{length-take}
+use Rattle.octets.specs.Octets.{put, be}
+use Rattle.packing.proofs.Writing.{number-fits}
 use borrow.Author.Needs.{needs}
-use Rattle.octets.proofs.Laws.{put-number}
 use Rattle.packing.proofs.message.seal.Statement.{statement}
 use Rattle.packing.proofs.message.seal.Tie as tie
 
 slice-aggregate-checksum : tie.Need-slice-aggregate-checksum
 slice-aggregate-checksum c = simp length-take (omega arith)
 
-slice-write-d-2 : tie.Need-slice-write-d-2
-slice-write-d-2 c = simp length-set (omega arith)
-
 returns : tie.Need-returns
 returns c =
-    let a = c .before .before .before .args in
-    rw (← c .checksum .ensures) (put-number 2 (now (a .d)) 2 (c .checksum .result) (omega arith) (omega arith))
+    let d = now (c .before .before .before .before .before .before .before .args .d) in
+    c .before .before .write16 .ensures .1 ∙ number-fits 2 d 2 (c .before .before .before .before .checksum .result) (omega (arith, c .before .before .before .before .before .before .before .pre)) ∙ ap (λ n. put d 2 (be 2 n)) (c .before .before .before .before .checksum .ensures)
 
 pub seal-spec : {M : Type 1} → statement M
 seal-spec =
@@ -26,9 +25,6 @@ seal-spec =
     (λ c. search needs)
     slice-aggregate-checksum
     (λ c κs. search needs)
-    (λ c. search needs)
-    (λ c. search needs)
-    (λ c. search needs)
-    slice-write-d-2
+    (λ c κs. search needs)
     (λ c. search needs)
     returns)

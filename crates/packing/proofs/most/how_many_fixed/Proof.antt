@@ -22,7 +22,7 @@ returns c =
     let size = c .before .before in
     let l = size .before .before .layout-of in
     let s = size .before .before .before in
-    rw (most-one (s .args .n) (s .args .kind) (s .pre .1) (sym (l .ensures .4) ∙ c .before .if1 .taken), ← size .entry-size .ensures, ← l .ensures .2) (c .smaller .ensures)
+    rw (most-one false (s .args .n) (s .args .kind) (s .pre .1) (sym (l .ensures .4) ∙ c .before .if1 .taken), ← size .entry-size .ensures, ← l .ensures .2) (c .smaller .ensures)
 
 returns-2 : tie.Need-returns-2
 unfolding fitting
@@ -30,7 +30,7 @@ returns-2 c =
     let size = c .before .before in
     let l = size .before .before .layout-of in
     let s = size .before .before .before in
-    rw (most-all (s .args .n) (s .args .kind) (s .pre .0) (sym (l .ensures .4) ∙ c .before .if1 .left), ← size .entry-size .ensures, ← l .ensures .2) (c .smaller2 .ensures)
+    rw (most-all false (s .args .n) (s .args .kind) (s .pre .0) (sym (l .ensures .4) ∙ c .before .if1 .left), ← size .entry-size .ensures, ← l .ensures .2) (c .smaller2 .ensures)
 
 pub how-many-fixed-spec : {M : Type 1} → statement M
 how-many-fixed-spec =

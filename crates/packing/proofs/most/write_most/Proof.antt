@@ -1,5 +1,6 @@
 -- `packing::most::write_most` meets its contract: there are no entries, or the message of those that fit is written.
 -- Assumes nothing.
+use mathlib.Core.Bool.{false}
 use native.Mathlib.Omega.{arith}
 use mathlib.Core.Path.{refl, sym}
 use denote.Ref.{now}
@@ -15,7 +16,7 @@ returns : tie.Need-returns
 unfolding octetsOf tookOf
 returns c =
     let a = c .before .before .before .args in
-    rw (most-none (a .kind) (now (a .e)) (a .from) (a .n) (a .limit) _ refl (c .if1 .taken)) ((refl, refl), sym (put-nil (now (a .d)) 0))
+    rw (most-none false (a .kind) (now (a .e)) (a .from) (a .n) (a .limit) _ refl (c .if1 .taken)) ((refl, refl), sym (put-nil (now (a .d)) 0))
 
 write-message-requires : tie.Need-write-message-requires
 write-message-requires c κs = (c .before .before .before .before .pre .0, omega (arith, c .before .if1 .left), c .before .before .before .before .pre .1, c .before .before .before .before .pre .2, c .before .before .before .before .pre .3)
@@ -25,8 +26,8 @@ unfolding octetsOf tookOf
 returns-2 c =
     let a = c .before .before .before .before .before .before .before .args in
     let wrote = c .before .before .write-message .ensures in
-    let some : 0 < c .before .before .write-message .result .taken = rw (wrote .0) (taken-some (a .kind) (c .before .before .before .before .before .before .before .pre .0) (now (a .e)) (a .from) (a .n) (a .limit) (omega (arith, c .before .before .before .before .if1 .left)) (c .before .before .before .before .before .before .before .pre .2)) in
-    rw (most-some (a .kind) (now (a .e)) (a .from) (a .n) (a .limit) (c .before .before .write-message .result .taken) (wrote .0) some) ((wrote .1 .0, refl), wrote .1 .1)
+    let some : 0 < c .before .before .write-message .result .taken = rw (wrote .0) (taken-some false (a .kind) (c .before .before .before .before .before .before .before .pre .0) (a .limit) (c .before .before .before .before .before .before .before .pre .2) (now (a .e)) (a .from) (a .n) (omega (arith, c .before .before .before .before .if1 .left))) in
+    rw (most-some false (a .kind) (now (a .e)) (a .from) (a .n) (a .limit) (c .before .before .write-message .result .taken) (wrote .0) some) ((wrote .1 .0, refl), wrote .1 .1)
 
 pub write-most-spec : {M : Type 1} → statement M
 write-most-spec = tie.close (tie.spec returns write-message-requires (λ c. search needs) returns-2)
