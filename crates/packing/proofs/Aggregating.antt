@@ -37,9 +37,9 @@ address-sized Group e = length-group ipv4 (e .group)
 address-sized Source e = length-source ipv4 (e .source)
 
 -- addresses one after another have the length of one times their number
-addresses-long : (a : Address) (o : List ℕ) (at n : ℕ) → length (each (addressOctets a) (asserts o at n)) ≡ addressSize a * n
+addresses-long : (a : Address) (o : List ℕ) (at n : ℕ) → length (each (addressOctets a) (asserts ipv4 o at n)) ≡ addressSize a * n
 addresses-long a o at n =
-    length-each (addressOctets a) (addressSize a) (address-sized a) (asserts o at n)
+    length-each (addressOctets a) (addressSize a) (address-sized a) (asserts ipv4 o at n)
     ∙ ap (λ m. addressSize a * m) (length-entriesAt (assertEntries ipv4) o at n)
 
 each-map : {A B : Type 0} (octetsOf : B → List ℕ) (f : A → B) (l : List A) → each octetsOf (map f l) ≡ each (λ a. octetsOf (f a)) l
@@ -104,19 +104,19 @@ grouped v m n x = sym (append-assoc (v ++ m) (n ++ reserved2) x ∙ append-assoc
 
 module _ (o : List ℕ) (at : ℕ) where
   pub group-is : (k : ℕ) → 0 < k
-      → oneOf OfGroup (asserts o at k) ≡ groupOctets ipv4 (numberAt 4 o at) ++ ((be 2 (sourcesIn o at k) ++ reserved2) ++ each (addressOctets Source) (asserts o at (sourcesIn o at k)))
+      → oneOf OfGroup (asserts ipv4 o at k) ≡ groupOctets ipv4 (numberAt 4 o at) ++ ((be 2 (sourcesIn o at k) ++ reserved2) ++ each (addressOctets Source) (asserts ipv4 o at (sourcesIn o at k)))
   unfolding oneOf entriesAt sourcesIn assertAt
   group-is zero h = absurd (omega arith)
   group-is (suc m) h =
-      rw (one-group (numberAt 4 o at) (assertAt ipv4 o at) (asserts o (at + 16) m), length-entriesAt (assertEntries ipv4) o (at + 16) m)
+      rw (one-group (numberAt 4 o at) (assertAt ipv4 o at) (asserts ipv4 o (at + 16) m), length-entriesAt (assertEntries ipv4) o (at + 16) m)
       (go (eqb (suc m) 1 && eqb (numberAt 4 o (at + 4)) 0))
     where
-      go : (b : Bool) → each (groupRecordOctets ipv4) (ofGroup (numberAt 4 o at) (cond b [] (sources (asserts o at (suc m)))) ∷ [])
-          ≡ groupOctets ipv4 (numberAt 4 o at) ++ ((be 2 (cond b 0 (suc m)) ++ reserved2) ++ each (addressOctets Source) (asserts o at (cond b 0 (suc m))))
+      go : (b : Bool) → each (groupRecordOctets ipv4) (ofGroup (numberAt 4 o at) (cond b [] (sources (asserts ipv4 o at (suc m)))) ∷ [])
+          ≡ groupOctets ipv4 (numberAt 4 o at) ++ ((be 2 (cond b 0 (suc m)) ++ reserved2) ++ each (addressOctets Source) (asserts ipv4 o at (cond b 0 (suc m))))
       go true = group-octets (numberAt 4 o at) [] ∙ rw (none-each (sourceOctets ipv4), none-each (addressOctets Source))
       go false =
-          group-octets (numberAt 4 o at) (sources (asserts o at (suc m)))
-          ∙ rw (length-map, length-entriesAt (assertEntries ipv4) o at (suc m), each-sources (asserts o at (suc m)))
+          group-octets (numberAt 4 o at) (sources (asserts ipv4 o at (suc m)))
+          ∙ rw (length-map, length-entriesAt (assertEntries ipv4) o at (suc m), each-sources (asserts ipv4 o at (suc m)))
 
   pub sources-range : (k : ℕ) → sourcesIn o at k ≤ k
   unfolding sourcesIn
@@ -126,7 +126,7 @@ module _ (o : List ℕ) (at : ℕ) where
       go true = omega arith
       go false = omega arith
 
-  pub group-long : (k : ℕ) → 0 < k → length (oneOf OfGroup (asserts o at k)) ≡ 12 + 6 * sourcesIn o at k
+  pub group-long : (k : ℕ) → 0 < k → length (oneOf OfGroup (asserts ipv4 o at k)) ≡ 12 + 6 * sourcesIn o at k
   group-long k h =
       rw (group-is k h)
       (simp (length-append, length-group, length-be, addresses-long) (omega arith))
@@ -134,37 +134,37 @@ module _ (o : List ℕ) (at : ℕ) where
   -- ---- aggregated records
 
   pub source-is : (k : ℕ) → 0 < k → rBit (numberAt 4 o (at + 8)) ≡ false
-      → oneOf Aggregated (asserts o at k)
-      ≡ (be 4 (numberAt 4 o (at + 8)) ++ be 4 (numberAt 4 o (at + 12))) ++ (sourceOctets ipv4 (numberAt 4 o (at + 4)) ++ ((be 2 k ++ reserved2) ++ each (addressOctets Group) (asserts o at k)))
+      → oneOf Aggregated (asserts ipv4 o at k)
+      ≡ (be 4 (numberAt 4 o (at + 8)) ++ be 4 (numberAt 4 o (at + 12))) ++ (sourceOctets ipv4 (numberAt 4 o (at + 4)) ++ ((be 2 k ++ reserved2) ++ each (addressOctets Group) (asserts ipv4 o at k)))
   unfolding oneOf aggregatedOctets entriesAt assertAt
   source-is zero h r = absurd (omega arith)
   source-is (suc m) h r =
       let metric : at + 8 + 4 ≡ at + 12 = omega arith in
-      rw (aggregated-source 4 (assertAt ipv4 o at) (asserts o (at + 16) m) r, length-map, each-groups (asserts o at (suc m)), length-entriesAt (assertEntries ipv4) o (at + 16) m, metric)
+      rw (aggregated-source 4 (assertAt ipv4 o at) (asserts ipv4 o (at + 16) m) r, length-map, each-groups (asserts ipv4 o at (suc m)), length-entriesAt (assertEntries ipv4) o (at + 16) m, metric)
       (counted (be 4 (numberAt 4 o (at + 8))) (be 4 (numberAt 4 o (at + 12))) (sourceOctets ipv4 (numberAt 4 o (at + 4))) (be 2 (suc m)) _)
 
-  pub source-long : (k : ℕ) → 0 < k → rBit (numberAt 4 o (at + 8)) ≡ false → length (oneOf Aggregated (asserts o at k)) ≡ 18 + 8 * k
+  pub source-long : (k : ℕ) → 0 < k → rBit (numberAt 4 o (at + 8)) ≡ false → length (oneOf Aggregated (asserts ipv4 o at k)) ≡ 18 + 8 * k
   source-long k h r =
       rw (source-is k h r)
       (simp (length-append, length-source, length-be, addresses-long) (omega arith))
 
   rp-fields : (m : ℕ) → rBit (numberAt 4 o (at + 8)) ≡ true
-      → oneOf Aggregated (asserts o at (suc m))
-      ≡ ((be 4 (numberAt 4 o (at + 8)) ++ be 4 (numberAt 4 o (at + 8 + 4))) ++ (be 2 (numberOf OfGroup (asserts o at (suc m))) ++ reserved2)) ++ allOf OfGroup (asserts o at (suc m))
+      → oneOf Aggregated (asserts ipv4 o at (suc m))
+      ≡ ((be 4 (numberAt 4 o (at + 8)) ++ be 4 (numberAt 4 o (at + 8 + 4))) ++ (be 2 (numberOf OfGroup (asserts ipv4 o at (suc m))) ++ reserved2)) ++ allOf OfGroup (asserts ipv4 o at (suc m))
   unfolding oneOf allOf numberOf joins aggregatedOctets entriesAt assertAt
   rp-fields m r =
-      rw (aggregated-rp 4 (assertAt ipv4 o at) (asserts o (at + 16) m) r, group-records)
-      (grouped (be 4 (numberAt 4 o (at + 8))) (be 4 (numberAt 4 o (at + 8 + 4))) (be 2 (length (runs sameGroup (asserts o at (suc m))))) _)
+      rw (aggregated-rp 4 (assertAt ipv4 o at) (asserts ipv4 o (at + 16) m) r, group-records)
+      (grouped (be 4 (numberAt 4 o (at + 8))) (be 4 (numberAt 4 o (at + 8 + 4))) (be 2 (length (runs sameGroup (asserts ipv4 o at (suc m))))) _)
 
   pub rp-is : (k : ℕ) → 0 < k → rBit (numberAt 4 o (at + 8)) ≡ true
-      → oneOf Aggregated (asserts o at k)
-      ≡ ((be 4 (numberAt 4 o (at + 8)) ++ be 4 (numberAt 4 o (at + 12))) ++ (be 2 (numberOf OfGroup (asserts o at k)) ++ reserved2)) ++ allOf OfGroup (asserts o at k)
+      → oneOf Aggregated (asserts ipv4 o at k)
+      ≡ ((be 4 (numberAt 4 o (at + 8)) ++ be 4 (numberAt 4 o (at + 12))) ++ (be 2 (numberOf OfGroup (asserts ipv4 o at k)) ++ reserved2)) ++ allOf OfGroup (asserts ipv4 o at k)
   rp-is zero h r = absurd (omega arith)
   rp-is (suc m) h r =
       let metric : at + 8 + 4 ≡ at + 12 = omega arith in
       rw (← metric) (rp-fields m r)
 
-  pub rp-long : (k : ℕ) → 0 < k → rBit (numberAt 4 o (at + 8)) ≡ true → length (oneOf Aggregated (asserts o at k)) ≡ 12 + length (allOf OfGroup (asserts o at k))
+  pub rp-long : (k : ℕ) → 0 < k → rBit (numberAt 4 o (at + 8)) ≡ true → length (oneOf Aggregated (asserts ipv4 o at k)) ≡ 12 + length (allOf OfGroup (asserts ipv4 o at k))
   rp-long k h r =
       rw (rp-is k h r)
       (simp (length-append, length-be) (omega arith))

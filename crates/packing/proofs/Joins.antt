@@ -5,87 +5,107 @@
 --     all-none                               no entries have no octets
 -- Assumes nothing.
 use Prim.Native.Nat.{ℕ, zero, suc, _+_, _-_, _*_, _≤_, _<_}
+use native.Mathlib.Nat.{mul-suc}
 use native.Mathlib.Omega.{arith}
-use mathlib.Core.Path.{_≡_, refl, ap, _∙_}
-use mathlib.Core.Bool.{Bool, true, false, _&&_, _||_, and-true, cond}
+use mathlib.Core.Path.{_≡_, refl, sym, ap, _∙_}
+use mathlib.Core.Bool.{Bool, true, false, _&&_, and-true, cond}
 use mathlib.Core.List.{List, [], _∷_, _++_}
 use lib.ListN.{length, take, drop}
 use lib.Dec.{eqb}
+use borrow.Author.Tests.{eq-eqb, ne-eqb, eqb-true, eqb-false}
 use Rattle.octets.specs.Octets.{numberAt}
 use Rattle.records.specs.Records.{AssertRecord, rBit}
 use Rattle.records.specs.Runs.{run, runs, leading}
 use Rattle.records.specs.Joining.{together, sameGroup, allGroupRecords, joined}
 use Rattle.records.proofs.Runs.{runs-first}
 use Rattle.records.proofs.Joining.{together-cong, sameGroup-cong}
-use Rattle.format.specs.Family.{ipv4}
+use Rattle.format.specs.Family.{Family, ipv4}
 use Rattle.format.specs.Record.{each}
 use Rattle.format.specs.Entry.{assertAt, assertEntries, entriesAt}
 use Rattle.format.proofs.Lengths.{each-append}
 use Rattle.format.proofs.Entries.{length-entriesAt, take-entries, drop-at}
-use Rattle.packing.specs.Joins.{asserts, joins, runLength, Run, Aggregated, Group}
+use Rattle.addresses.proofs.Laws.{halves}
+use Rattle.packing.specs.Joins.{asserts, entrySize, joins, runLength, Run, Aggregated, Group}
 use Rattle.packing.specs.Aggregates.{oneOf, allOf, numberOf}
 
 -- ---- where a run ends
 
-module _ (o : List ℕ) (a b : ℕ) where
-  together-is : joins Aggregated (assertAt ipv4 o a) (assertAt ipv4 o b)
-      ≡ (eqb (numberAt 4 o (a + 8)) (numberAt 4 o (b + 8)) && eqb (numberAt 4 o (a + 12)) (numberAt 4 o (b + 12)) && (rBit (numberAt 4 o (a + 8)) || eqb (numberAt 4 o (a + 4)) (numberAt 4 o (b + 4))))
+module _ (f : Family) (o : List ℕ) (a b : ℕ) where
+  abbrev same-metric : Bool
+  same-metric =
+      eqb (numberAt 4 o (a + 2 * f .width)) (numberAt 4 o (b + 2 * f .width)) && eqb (numberAt 4 o (a + 2 * f .width + 4)) (numberAt 4 o (b + 2 * f .width + 4))
+
+  pub source-joins : rBit (numberAt 4 o (a + 2 * f .width)) ≡ false
+      → joins Aggregated (assertAt f o a) (assertAt f o b) ≡ (same-metric && eqb (numberAt (f .width) o (a + f .width)) (numberAt (f .width) o (b + f .width)))
   unfolding joins together assertAt
-  together-is =
-      let p : a + 8 + 4 ≡ a + 12 = omega arith in
-      let q : b + 8 + 4 ≡ b + 12 = omega arith in
-      rw (p, q)
+  source-joins r = rw r
 
-  pub source-joins : rBit (numberAt 4 o (a + 8)) ≡ false
-      → joins Aggregated (assertAt ipv4 o a) (assertAt ipv4 o b)
-      ≡ (eqb (numberAt 4 o (a + 8)) (numberAt 4 o (b + 8)) && eqb (numberAt 4 o (a + 12)) (numberAt 4 o (b + 12)) && eqb (numberAt 4 o (a + 4)) (numberAt 4 o (b + 4)))
-  source-joins r = rw (together-is, r)
+  pub rp-joins : rBit (numberAt 4 o (a + 2 * f .width)) ≡ true → joins Aggregated (assertAt f o a) (assertAt f o b) ≡ same-metric
+  unfolding joins together assertAt
+  rp-joins r = rw (r, and-true)
 
-  pub rp-joins : rBit (numberAt 4 o (a + 8)) ≡ true
-      → joins Aggregated (assertAt ipv4 o a) (assertAt ipv4 o b) ≡ (eqb (numberAt 4 o (a + 8)) (numberAt 4 o (b + 8)) && eqb (numberAt 4 o (a + 12)) (numberAt 4 o (b + 12)))
-  rp-joins r = rw (together-is, r, and-true)
-
-  pub group-joins : joins Group (assertAt ipv4 o a) (assertAt ipv4 o b) ≡ eqb (numberAt 4 o a) (numberAt 4 o b)
+  pub group-joins : joins Group (assertAt f o a) (assertAt f o b) ≡ eqb (numberAt (f .width) o a) (numberAt (f .width) o b)
   unfolding joins sameGroup assertAt
   group-joins = refl
 
+-- the first of some entries is there
+pub entry-there : (f : Family) (o : List ℕ) (from n : ℕ) → 0 < n → from + entrySize f * n ≤ length o → from + entrySize f ≤ length o
+entry-there f o from zero h there = absurd (omega arith)
+entry-there f o from (suc m) h there = omega (arith, mul-suc (entrySize f) m)
+
+-- two addresses in halves
+pub halves-apart : (ah al bh bl : ℕ) → al < 18446744073709551616 → bl < 18446744073709551616 → (al ≡ bl → ⊥) → false ≡ eqb (halves ah al) (halves bh bl)
+halves-apart ah al bh bl r s n = sym (ne-eqb (halves ah al) (halves bh bl) (λ e. n (omega arith)))
+
+pub halves-equal : (ah al bh bl : ℕ) → al ≡ bl → eqb ah bh ≡ eqb (halves ah al) (halves bh bl)
+halves-equal ah al bh bl e = go (eqb ah bh) refl
+  where
+    go : (b : Bool) → eqb ah bh ≡ b → b ≡ eqb (halves ah al) (halves bh bl)
+    go true t = let same : ah ≡ bh = eqb-true ah bh t in sym (eq-eqb (halves ah al) (halves bh bl) (omega arith))
+    go false t = sym (ne-eqb (halves ah al) (halves bh bl) (λ q. eqb-false ah bh t (omega arith)))
+
 -- what is still to be looked at says how long the run is
-pub record Counting (r : Run) (o : List ℕ) (from n k at : ℕ) : Type 0 where
+pub record Counting (f : Family) (r : Run) (o : List ℕ) (from n k at : ℕ) : Type 0 where
   pub left : ℕ
   pub count : k + left ≡ n
-  pub there : at + 16 * left ≤ length o
-  pub same : k + leading (joins r (assertAt ipv4 o from)) (asserts o at left) ≡ runLength r o from n
+  pub there : at + entrySize f * left ≤ length o
+  pub same : k + leading (joins r (assertAt f o from)) (asserts f o at left) ≡ runLength f r o from n
 
-pub count-start : (r : Run) (o : List ℕ) (from n : ℕ) → 0 < n → from + 16 * n ≤ length o → Counting r o from n 1 (from + 16)
+pub count-start : (f : Family) (r : Run) (o : List ℕ) (from n : ℕ) → 0 < n → from + entrySize f * n ≤ length o → Counting f r o from n 1 (from + entrySize f)
 unfolding runLength
-count-start r o from n h there = record { left = n - 1; count = omega arith; there = omega arith; same = omega arith }
+count-start f r o from zero h there = absurd (omega arith)
+count-start f r o from (suc m) h there =
+    let one : suc m - 1 ≡ m = omega arith in
+    record { left = m; count = omega arith; there = omega (arith, mul-suc (entrySize f) m); same = rw one (omega arith) }
 
-module _ {r : Run} {o : List ℕ} {from n k at : ℕ} (t : Counting r o from n k at) where
-  pub count-there : k < n → at + 16 ≤ length o
-  count-there h = omega (arith, t .count, t .there)
+module _ {f : Family} {r : Run} {o : List ℕ} {from n k at : ℕ} (t : Counting f r o from n k at) where
+  module _ (h : k < n) where
+    -- there is an entry to look at
+    one-left : (X : Type 0) → ((left : ℕ) → k + suc left ≡ n → at + entrySize f + entrySize f * left ≤ length o
+        → k + leading (joins r (assertAt f o from)) (assertAt f o at ∷ asserts f o (at + entrySize f) left) ≡ runLength f r o from n → X) → X
+    unfolding entriesAt
+    one-left X then = go (t .left) (t .count) (t .there) (t .same)
+      where
+        go : (left : ℕ) → k + left ≡ n → at + entrySize f * left ≤ length o → k + leading (joins r (assertAt f o from)) (asserts f o at left) ≡ runLength f r o from n → X
+        go zero e a s = absurd (omega arith)
+        go (suc left) e a s = then left e (omega (arith, mul-suc (entrySize f) left)) s
 
-  pub count-stop : k < n → joins r (assertAt ipv4 o from) (assertAt ipv4 o at) ≡ false → k ≡ runLength r o from n
-  unfolding leading entriesAt
-  count-stop h f = go (t .left) (t .count) (t .same)
-    where
-      go : (left : ℕ) → k + left ≡ n → k + leading (joins r (assertAt ipv4 o from)) (asserts o at left) ≡ runLength r o from n → k ≡ runLength r o from n
-      go zero e s = absurd (omega arith)
-      go (suc left) e s = let s′ = rw f at s in omega arith
+    pub count-there : at + entrySize f ≤ length o
+    count-there = one-left _ (λ left e a s. omega arith)
 
-  pub count-next : k < n → joins r (assertAt ipv4 o from) (assertAt ipv4 o at) ≡ true → Counting r o from n (k + 1) (at + 16)
-  unfolding leading entriesAt
-  count-next h f = go (t .left) (t .count) (t .there) (t .same)
-    where
-      go : (left : ℕ) → k + left ≡ n → at + 16 * left ≤ length o → k + leading (joins r (assertAt ipv4 o from)) (asserts o at left) ≡ runLength r o from n
-          → Counting r o from n (k + 1) (at + 16)
-      go zero e a s = absurd (omega arith)
-      go (suc left) e a s = let s′ = rw f at s in record { left = left; count = omega arith; there = omega arith; same = omega arith }
+    pub count-stop : joins r (assertAt f o from) (assertAt f o at) ≡ false → k ≡ runLength f r o from n
+    unfolding leading
+    count-stop q = one-left _ (λ left e a s. let s′ = rw q at s in omega arith)
 
-  pub count-end : n ≤ k → k ≡ runLength r o from n
+    pub count-next : (at′ : ℕ) → joins r (assertAt f o from) (assertAt f o at) ≡ true → at′ ≡ at + entrySize f → Counting f r o from n (k + 1) at′
+    unfolding leading
+    count-next at′ q p = rw p (one-left _ (λ left e a s. let s′ = rw q at s in record { left = left; count = omega arith; there = a; same = omega arith }))
+
+  pub count-end : n ≤ k → k ≡ runLength f r o from n
   unfolding leading entriesAt
   count-end h = go (t .left) (t .count) (t .same)
     where
-      go : (left : ℕ) → k + left ≡ n → k + leading (joins r (assertAt ipv4 o from)) (asserts o at left) ≡ runLength r o from n → k ≡ runLength r o from n
+      go : (left : ℕ) → k + left ≡ n → k + leading (joins r (assertAt f o from)) (asserts f o at left) ≡ runLength f r o from n → k ≡ runLength f r o from n
       go zero e s = omega arith
       go (suc left) e s = absurd (omega arith)
 
@@ -105,55 +125,58 @@ leading-le p (a ∷ l) = go (p a) (leading-le p l)
     go true h = omega arith
     go false h = omega arith
 
-module _ (r : Run) (o : List ℕ) where
+module _ (f : Family) (r : Run) (o : List ℕ) where
   -- the first run has at least one entry, and no more than there are
-  pub run-range : (at n : ℕ) → 0 < n → (0 < runLength r o at n) × (runLength r o at n ≤ n)
+  pub run-range : (at n : ℕ) → 0 < n → (0 < runLength f r o at n) × (runLength f r o at n ≤ n)
   unfolding runLength
   run-range at n h =
-      let few = leading-le (joins r (assertAt ipv4 o at)) (asserts o (at + 16) (n - 1)) in
-      let long : length (asserts o (at + 16) (n - 1)) ≡ n - 1 = length-entriesAt (assertEntries ipv4) o (at + 16) (n - 1) in
+      let few = leading-le (joins r (assertAt f o at)) (asserts f o (at + entrySize f) (n - 1)) in
+      let long : length (asserts f o (at + entrySize f) (n - 1)) ≡ n - 1 = length-entriesAt (assertEntries f) o (at + entrySize f) (n - 1) in
       (omega arith, omega arith)
 
+  -- the entries after the first that are in its run
+  abbrev more : ℕ → ℕ → ℕ
+  more at m = leading (joins r (assertAt f o at)) (asserts f o (at + entrySize f) m)
+
   -- the runs of entries, by their first
-  runs-at : (at m : ℕ) → runs (joins r) (asserts o at (suc m))
-      ≡ run (assertAt ipv4 o at) (asserts o (at + 16) (leading (joins r (assertAt ipv4 o at)) (asserts o (at + 16) m)))
-      ∷ runs (joins r) (asserts o (at + 16 * suc (leading (joins r (assertAt ipv4 o at)) (asserts o (at + 16) m))) (m - leading (joins r (assertAt ipv4 o at)) (asserts o (at + 16) m)))
+  runs-at : (at m : ℕ) → runs (joins r) (asserts f o at (suc m))
+      ≡ run (assertAt f o at) (asserts f o (at + entrySize f) (more at m)) ∷ runs (joins r) (asserts f o (at + entrySize f * suc (more at m)) (m - more at m))
   unfolding entriesAt
-  runs-at at m = go (leading (joins r (assertAt ipv4 o at)) (asserts o (at + 16) m)) refl
+  runs-at at m = go (more at m) refl
     where
-      go : (k : ℕ) → leading (joins r (assertAt ipv4 o at)) (asserts o (at + 16) m) ≡ k
-          → runs (joins r) (assertAt ipv4 o at ∷ asserts o (at + 16) m)
-          ≡ run (assertAt ipv4 o at) (asserts o (at + 16) k) ∷ runs (joins r) (asserts o (at + 16 * suc k) (m - k))
+      go : (k : ℕ) → more at m ≡ k
+          → runs (joins r) (assertAt f o at ∷ asserts f o (at + entrySize f) m)
+          ≡ run (assertAt f o at) (asserts f o (at + entrySize f) k) ∷ runs (joins r) (asserts f o (at + entrySize f * suc k) (m - k))
       go k e =
-          let few : k ≤ m = omega (arith, e, leading-le (joins r (assertAt ipv4 o at)) (asserts o (at + 16) m), length-entriesAt (assertEntries ipv4) o (at + 16) m) in
+          let few : k ≤ m = omega (arith, e, leading-le (joins r (assertAt f o at)) (asserts f o (at + entrySize f) m), length-entriesAt (assertEntries f) o (at + entrySize f) m) in
           let split : m ≡ k + (m - k) = omega arith in
-          let place : at + 16 + 16 * k ≡ at + 16 * suc k = omega arith in
-          let front : take k (asserts o (at + 16) m) ≡ asserts o (at + 16) k = take-entries (assertEntries ipv4) o k m (at + 16) few in
-          let back : drop k (asserts o (at + 16) m) ≡ asserts o (at + 16 * suc k) (m - k) =
-          ap (λ x. drop k (asserts o (at + 16) x)) split ∙ drop-at (assertEntries ipv4) o k (m - k) (at + 16) ∙ ap (λ x. asserts o x (m - k)) place in
-          rw (runs-first (joins r) (joins-cong r) (assertAt ipv4 o at) (asserts o (at + 16) m), e, front, back)
+          let place : at + entrySize f + entrySize f * k ≡ at + entrySize f * suc k = omega (arith, mul-suc (entrySize f) k) in
+          let front : take k (asserts f o (at + entrySize f) m) ≡ asserts f o (at + entrySize f) k = take-entries (assertEntries f) o k m (at + entrySize f) few in
+          let back : drop k (asserts f o (at + entrySize f) m) ≡ asserts f o (at + entrySize f * suc k) (m - k) =
+          ap (λ x. drop k (asserts f o (at + entrySize f) x)) split ∙ drop-at (assertEntries f) o k (m - k) (at + entrySize f) ∙ ap (λ x. asserts f o x (m - k)) place in
+          rw (runs-first (joins r) (joins-cong r) (assertAt f o at) (asserts f o (at + entrySize f) m), e, front, back)
+
+  length-at : (at m : ℕ) → runLength f r o at (suc m) ≡ suc (more at m)
+  unfolding runLength
+  length-at at m = let one : suc m - 1 ≡ m = omega arith in rw one
 
 sub-suc : (m k : ℕ) → suc m - suc k ≡ m - k
 sub-suc m k = omega arith
 
-length-at : (r : Run) (o : List ℕ) (at m : ℕ) → runLength r o at (suc m) ≡ suc (leading (joins r (assertAt ipv4 o at)) (asserts o (at + 16) m))
-unfolding runLength
-length-at r o at m = let one : suc m - 1 ≡ m = omega arith in rw one
-
 -- the octets of entries are those of the first run, then those of what is left
 pub all-first : (r : Run) (o : List ℕ) (at n : ℕ) → 0 < n
-    → allOf r (asserts o at n) ≡ oneOf r (asserts o at (runLength r o at n)) ++ allOf r (asserts o (at + 16 * runLength r o at n) (n - runLength r o at n))
+    → allOf r (asserts ipv4 o at n) ≡ oneOf r (asserts ipv4 o at (runLength ipv4 r o at n)) ++ allOf r (asserts ipv4 o (at + 16 * runLength ipv4 r o at n) (n - runLength ipv4 r o at n))
 unfolding allOf oneOf joined allGroupRecords each entriesAt joins
 all-first r o at zero h = absurd (omega arith)
-all-first Aggregated o at (suc m) h = rw (length-at Aggregated o at m, sub-suc, runs-at Aggregated o at m)
-all-first Group o at (suc m) h = rw (length-at Group o at m, sub-suc, runs-at Group o at m, each-append)
+all-first Aggregated o at (suc m) h = rw (length-at ipv4 Aggregated o at m, sub-suc, runs-at ipv4 Aggregated o at m)
+all-first Group o at (suc m) h = rw (length-at ipv4 Group o at m, sub-suc, runs-at ipv4 Group o at m, each-append)
 
-pub number-first : (r : Run) (o : List ℕ) (at n : ℕ) → 0 < n → numberOf r (asserts o at n) ≡ suc (numberOf r (asserts o (at + 16 * runLength r o at n) (n - runLength r o at n)))
+pub number-first : (r : Run) (o : List ℕ) (at n : ℕ) → 0 < n → numberOf r (asserts ipv4 o at n) ≡ suc (numberOf r (asserts ipv4 o (at + 16 * runLength ipv4 r o at n) (n - runLength ipv4 r o at n)))
 unfolding numberOf
 number-first r o at zero h = absurd (omega arith)
-number-first r o at (suc m) h = rw (length-at r o at m, sub-suc, runs-at r o at m)
+number-first r o at (suc m) h = rw (length-at ipv4 r o at m, sub-suc, runs-at ipv4 r o at m)
 
-pub all-none : (r : Run) (o : List ℕ) (at : ℕ) → allOf r (asserts o at 0) ≡ []
+pub all-none : (r : Run) (o : List ℕ) (at : ℕ) → allOf r (asserts ipv4 o at 0) ≡ []
 unfolding allOf joined allGroupRecords runs each entriesAt
 all-none Aggregated o at = refl
 all-none Group o at = refl

@@ -54,5 +54,5 @@ sourcesIn o at k = cond (eqb k 1 && eqb (numberAt 4 o (at + 4)) 0) 0 k
 -- k of n entries fit, and if there is one more, that one does not
 pub record MostWithin (octetsOf : List AssertRecord → List ℕ) (o : List ℕ) (from n room k : ℕ) : Type 0 where
   pub inside : k ≤ n
-  pub fits : length (octetsOf (asserts o from k)) ≤ room
-  pub full : k < n → room < length (octetsOf (asserts o from (suc k)))
+  pub fits : length (octetsOf (asserts ipv4 o from k)) ≤ room
+  pub full : k < n → room < length (octetsOf (asserts ipv4 o from (suc k)))

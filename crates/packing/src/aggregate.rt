@@ -54,7 +54,7 @@ fn put_addresses(
 ) -> usize
     requires { ⌜ (from + 16 * n ≤ length (now e)) × (start + addressSize address * n ≤ length (now d)) ⌝ }
     ensures next { λ r. ⌜ r ≡ start + addressSize address * n ⌝ }
-    ensures buffer { λ r. ⌜ now (d .exit) ≡ put (now (d .entry)) start (each (addressOctets address) (asserts (now (e .entry)) from n)) ⌝ }
+    ensures buffer { λ r. ⌜ now (d .exit) ≡ put (now (d .entry)) start (each (addressOctets address) (asserts ipv4 (now (e .entry)) from n)) ⌝ }
 {
     let size = address_size(address);
     let mut i = 0;
@@ -96,9 +96,9 @@ fn number_of_sources(e: &[u8], from: usize, k: usize) -> usize
 
 // The group record of k entries of one group.
 pub(crate) fn put_group_record(e: &[u8], from: usize, k: usize, d: &mut [u8], out: usize) -> usize
-    requires { ⌜ (0 < k) × (from + 16 * k ≤ length (now e)) × (out + length (oneOf Group (asserts (now e) from k)) ≤ length (now d)) ⌝ }
-    ensures next { λ r. ⌜ r ≡ out + length (oneOf Group (asserts (now (e .entry)) from k)) ⌝ }
-    ensures buffer { λ r. ⌜ now (d .exit) ≡ put (now (d .entry)) out (oneOf Group (asserts (now (e .entry)) from k)) ⌝ }
+    requires { ⌜ (0 < k) × (from + 16 * k ≤ length (now e)) × (out + length (oneOf Group (asserts ipv4 (now e) from k)) ≤ length (now d)) ⌝ }
+    ensures next { λ r. ⌜ r ≡ out + length (oneOf Group (asserts ipv4 (now (e .entry)) from k)) ⌝ }
+    ensures buffer { λ r. ⌜ now (d .exit) ≡ put (now (d .entry)) out (oneOf Group (asserts ipv4 (now (e .entry)) from k)) ⌝ }
 {
     let p = number_of_sources(e, from, k);
     put_group(false, e, from, d, out);
@@ -114,9 +114,9 @@ pub(crate) fn put_source_aggregated(
     d: &mut [u8],
     out: usize,
 ) -> usize
-    requires { ⌜ (0 < k) × (from + 16 * k ≤ length (now e)) × (rBit (numberAt 4 (now e) (from + 8)) ≡ false) × (out + length (oneOf Aggregated (asserts (now e) from k)) ≤ length (now d)) ⌝ }
-    ensures next { λ r. ⌜ r ≡ out + length (oneOf Aggregated (asserts (now (e .entry)) from k)) ⌝ }
-    ensures buffer { λ r. ⌜ now (d .exit) ≡ put (now (d .entry)) out (oneOf Aggregated (asserts (now (e .entry)) from k)) ⌝ }
+    requires { ⌜ (0 < k) × (from + 16 * k ≤ length (now e)) × (rBit (numberAt 4 (now e) (from + 8)) ≡ false) × (out + length (oneOf Aggregated (asserts ipv4 (now e) from k)) ≤ length (now d)) ⌝ }
+    ensures next { λ r. ⌜ r ≡ out + length (oneOf Aggregated (asserts ipv4 (now (e .entry)) from k)) ⌝ }
+    ensures buffer { λ r. ⌜ now (d .exit) ≡ put (now (d .entry)) out (oneOf Aggregated (asserts ipv4 (now (e .entry)) from k)) ⌝ }
 {
     put_metric(e, from + 8, d, out);
     put_source(false, e, from + 4, d, out + 8);

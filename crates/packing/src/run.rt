@@ -1,5 +1,9 @@
 // Where a run of entries ends: neighbouring asserts that are joined into one aggregated record, and inside one with R=1
-// those of one group. What the entries of a run share is read once, and the others are compared with it.
+// those of one group. What the entries of a run share is read once, and the others are compared with it. Each run is
+// looked for by a loop in which the family is a literal, so that the compiler makes one for each.
+use addresses::address_at;
+use addresses::width;
+use format::Address;
 use octets::number32;
 ghost use mathlib.Core.Path.{_≡_};
 ghost use mathlib.Core.Bool.{true, false, _&&_};
@@ -8,7 +12,9 @@ ghost use lib.ListN.{length};
 ghost use lib.Dec.{eqb};
 ghost use Rattle.octets.specs.Octets.{numberAt};
 ghost use Rattle.records.specs.Records.{rBit};
-ghost use Rattle.packing.specs.Joins.{runLength, Aggregated, Group};
+ghost use Rattle.format.specs.Family.{familyOf};
+ghost use Rattle.format.specs.Values.{numberOf};
+ghost use Rattle.packing.specs.Joins.{entrySize, runLength, Aggregated, Group};
 
 // The number in the four octets at a place. Of a part of four octets the compiler knows that none is missing.
 pub(crate) fn word(e: &[u8], at: usize) -> u32
@@ -18,73 +24,126 @@ pub(crate) fn word(e: &[u8], at: usize) -> u32
     number32(&e[at..at + 4], 0)
 }
 
-// Whether an entry has this preference, with R, and this metric.
-fn has_metric(e: &[u8], at: usize, preference: u32, metric: u32) -> bool
-    requires { ⌜ at + 16 ≤ length (now e) ⌝ }
-    ensures { λ r. ⌜ r ≡ eqb preference (numberAt 4 (now (e .entry)) (at + 8)) && eqb metric (numberAt 4 (now (e .entry)) (at + 12)) ⌝ }
+// The address at a place.
+pub(crate) fn address(ipv6: bool, e: &[u8], at: usize) -> Address
+    requires { ⌜ at + familyOf ipv6 .width ≤ length (now e) ⌝ }
+    ensures { λ r. ⌜ numberOf r ≡ numberAt (familyOf ipv6 .width) (now (e .entry)) at ⌝ }
 {
-    if preference != word(e, at + 8) {
-        return false;
-    }
-    metric == word(e, at + 12)
+    address_at(ipv6, &e[at..at + width(ipv6)], 0)
 }
 
-// How many of n entries are in the first run with R=0: by equal preference, metric and source.
-pub(crate) fn source_run(e: &[u8], from: usize, n: usize) -> usize
-    requires { ⌜ (0 < n) × (from + 16 * n ≤ length (now e)) × (rBit (numberAt 4 (now e) (from + 8)) ≡ false) ⌝ }
-    ensures { λ r. ⌜ r ≡ runLength Aggregated (now (e .entry)) from n ⌝ }
+fn is_same(a: Address, b: Address) -> bool
+    ensures { λ r. ⌜ r ≡ eqb (numberOf a) (numberOf b) ⌝ }
 {
-    let source = word(e, from + 4);
-    let preference = word(e, from + 8);
-    let metric = word(e, from + 12);
+    if a.low != b.low {
+        return false;
+    }
+    a.high == b.high
+}
+
+// Whether this preference, with R, and this metric stand at a place.
+fn has_metric(e: &[u8], at: usize, preference: u32, metric: u32) -> bool
+    requires { ⌜ at + 8 ≤ length (now e) ⌝ }
+    ensures { λ r. ⌜ r ≡ eqb preference (numberAt 4 (now (e .entry)) at) && eqb metric (numberAt 4 (now (e .entry)) (at + 4)) ⌝ }
+{
+    if preference != word(e, at) {
+        return false;
+    }
+    metric == word(e, at + 4)
+}
+
+fn source_run_of(ipv6: bool, e: &[u8], from: usize, n: usize) -> usize
+    requires { ⌜ (0 < n) × (from + entrySize (familyOf ipv6) * n ≤ length (now e)) × (rBit (numberAt 4 (now e) (from + 2 * familyOf ipv6 .width)) ≡ false) ⌝ }
+    ensures { λ r. ⌜ r ≡ runLength (familyOf ipv6) Aggregated (now (e .entry)) from n ⌝ }
+{
+    let w = width(ipv6);
+    let size = 2 * w + 8;
+    let source = address(ipv6, e, from + w);
+    let preference = word(e, from + 2 * w);
+    let metric = word(e, from + 2 * w + 4);
     let mut k = 1;
-    let mut at = from + 16;
+    let mut at = from + size;
     while k < n {
-        if !has_metric(e, at, preference, metric) {
+        if !has_metric(e, at + 2 * w, preference, metric) {
             return k;
         }
-        if source != word(e, at + 4) {
+        if !is_same(source, address(ipv6, e, at + w)) {
             return k;
         }
         k += 1;
-        at += 16;
+        at += size;
+    }
+    k
+}
+
+// How many of n entries are in the first run with R=0: by equal preference, metric and source.
+pub(crate) fn source_run(ipv6: bool, e: &[u8], from: usize, n: usize) -> usize
+    requires { ⌜ (0 < n) × (from + entrySize (familyOf ipv6) * n ≤ length (now e)) × (rBit (numberAt 4 (now e) (from + 2 * familyOf ipv6 .width)) ≡ false) ⌝ }
+    ensures { λ r. ⌜ r ≡ runLength (familyOf ipv6) Aggregated (now (e .entry)) from n ⌝ }
+{
+    if ipv6 {
+        return source_run_of(true, e, from, n);
+    }
+    source_run_of(false, e, from, n)
+}
+
+fn rp_run_of(ipv6: bool, e: &[u8], from: usize, n: usize) -> usize
+    requires { ⌜ (0 < n) × (from + entrySize (familyOf ipv6) * n ≤ length (now e)) × (rBit (numberAt 4 (now e) (from + 2 * familyOf ipv6 .width)) ≡ true) ⌝ }
+    ensures { λ r. ⌜ r ≡ runLength (familyOf ipv6) Aggregated (now (e .entry)) from n ⌝ }
+{
+    let w = width(ipv6);
+    let size = 2 * w + 8;
+    let preference = word(e, from + 2 * w);
+    let metric = word(e, from + 2 * w + 4);
+    let mut k = 1;
+    let mut at = from + size;
+    while k < n {
+        if !has_metric(e, at + 2 * w, preference, metric) {
+            return k;
+        }
+        k += 1;
+        at += size;
     }
     k
 }
 
 // How many of n entries are in the first run with R=1: by equal preference and metric.
-pub(crate) fn rp_run(e: &[u8], from: usize, n: usize) -> usize
-    requires { ⌜ (0 < n) × (from + 16 * n ≤ length (now e)) × (rBit (numberAt 4 (now e) (from + 8)) ≡ true) ⌝ }
-    ensures { λ r. ⌜ r ≡ runLength Aggregated (now (e .entry)) from n ⌝ }
+pub(crate) fn rp_run(ipv6: bool, e: &[u8], from: usize, n: usize) -> usize
+    requires { ⌜ (0 < n) × (from + entrySize (familyOf ipv6) * n ≤ length (now e)) × (rBit (numberAt 4 (now e) (from + 2 * familyOf ipv6 .width)) ≡ true) ⌝ }
+    ensures { λ r. ⌜ r ≡ runLength (familyOf ipv6) Aggregated (now (e .entry)) from n ⌝ }
 {
-    let preference = word(e, from + 8);
-    let metric = word(e, from + 12);
+    if ipv6 {
+        return rp_run_of(true, e, from, n);
+    }
+    rp_run_of(false, e, from, n)
+}
+
+fn group_run_of(ipv6: bool, e: &[u8], from: usize, n: usize) -> usize
+    requires { ⌜ (0 < n) × (from + entrySize (familyOf ipv6) * n ≤ length (now e)) ⌝ }
+    ensures { λ r. ⌜ r ≡ runLength (familyOf ipv6) Group (now (e .entry)) from n ⌝ }
+{
+    let w = width(ipv6);
+    let size = 2 * w + 8;
+    let group = address(ipv6, e, from);
     let mut k = 1;
-    let mut at = from + 16;
+    let mut at = from + size;
     while k < n {
-        if !has_metric(e, at, preference, metric) {
+        if !is_same(group, address(ipv6, e, at)) {
             return k;
         }
         k += 1;
-        at += 16;
+        at += size;
     }
     k
 }
 
 // How many of n entries are of the first group.
-pub(crate) fn group_run(e: &[u8], from: usize, n: usize) -> usize
-    requires { ⌜ (0 < n) × (from + 16 * n ≤ length (now e)) ⌝ }
-    ensures { λ r. ⌜ r ≡ runLength Group (now (e .entry)) from n ⌝ }
+pub(crate) fn group_run(ipv6: bool, e: &[u8], from: usize, n: usize) -> usize
+    requires { ⌜ (0 < n) × (from + entrySize (familyOf ipv6) * n ≤ length (now e)) ⌝ }
+    ensures { λ r. ⌜ r ≡ runLength (familyOf ipv6) Group (now (e .entry)) from n ⌝ }
 {
-    let group = word(e, from);
-    let mut k = 1;
-    let mut at = from + 16;
-    while k < n {
-        if group != word(e, at) {
-            return k;
-        }
-        k += 1;
-        at += 16;
+    if ipv6 {
+        return group_run_of(true, e, from, n);
     }
-    k
+    group_run_of(false, e, from, n)
 }

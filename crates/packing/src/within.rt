@@ -16,6 +16,7 @@ ghost use Prim.Native.Nat.{_+_, _-_, _*_, _/_, _≤_, _<_, min};
 ghost use lib.ListN.{length};
 ghost use Rattle.octets.specs.Octets.{numberAt, put};
 ghost use Rattle.records.specs.Records.{rBit};
+ghost use Rattle.format.specs.Family.{ipv4};
 ghost use Rattle.packing.specs.Joins.{asserts, runLength, Aggregated, Group};
 ghost use Rattle.packing.specs.Aggregates.{oneOf, allOf, numberOf, MostWithin};
 
@@ -80,9 +81,9 @@ fn put_source_within(
     limit: usize,
 ) -> Fitted
     requires { ⌜ (0 < n) × (from + 16 * n ≤ length (now e)) × (out ≤ limit) × (limit ≤ length (now d)) × (rBit (numberAt 4 (now e) (from + 8)) ≡ false) ⌝ }
-    ensures taken { λ r. ⌜ MostWithin (oneOf Aggregated) (now (e .entry)) from (runLength Aggregated (now (e .entry)) from n) (limit - out) (r .taken) ⌝ }
-    ensures next { λ r. ⌜ r .next ≡ out + length (oneOf Aggregated (asserts (now (e .entry)) from (r .taken))) ⌝ }
-    ensures buffer { λ r. ⌜ now (d .exit) ≡ put (now (d .entry)) out (oneOf Aggregated (asserts (now (e .entry)) from (r .taken))) ⌝ }
+    ensures taken { λ r. ⌜ MostWithin (oneOf Aggregated) (now (e .entry)) from (runLength ipv4 Aggregated (now (e .entry)) from n) (limit - out) (r .taken) ⌝ }
+    ensures next { λ r. ⌜ r .next ≡ out + length (oneOf Aggregated (asserts ipv4 (now (e .entry)) from (r .taken))) ⌝ }
+    ensures buffer { λ r. ⌜ now (d .exit) ≡ put (now (d .entry)) out (oneOf Aggregated (asserts ipv4 (now (e .entry)) from (r .taken))) ⌝ }
 {
     let most = groups_within(n, limit - out);
     if most == 0 {
@@ -91,7 +92,7 @@ fn put_source_within(
             next: out,
         };
     }
-    let taken = source_run(e, from, most);
+    let taken = source_run(false, e, from, most);
     let next = put_source_aggregated(e, from, taken, d, out);
     Fitted { taken, next }
 }
@@ -106,9 +107,9 @@ fn put_group_within(
     limit: usize,
 ) -> Fitted
     requires { ⌜ (0 < n) × (from + 16 * n ≤ length (now e)) × (out ≤ limit) × (limit ≤ length (now d)) ⌝ }
-    ensures taken { λ r. ⌜ MostWithin (oneOf Group) (now (e .entry)) from (runLength Group (now (e .entry)) from n) (limit - out) (r .taken) ⌝ }
-    ensures next { λ r. ⌜ r .next ≡ out + length (oneOf Group (asserts (now (e .entry)) from (r .taken))) ⌝ }
-    ensures buffer { λ r. ⌜ now (d .exit) ≡ put (now (d .entry)) out (oneOf Group (asserts (now (e .entry)) from (r .taken))) ⌝ }
+    ensures taken { λ r. ⌜ MostWithin (oneOf Group) (now (e .entry)) from (runLength ipv4 Group (now (e .entry)) from n) (limit - out) (r .taken) ⌝ }
+    ensures next { λ r. ⌜ r .next ≡ out + length (oneOf Group (asserts ipv4 (now (e .entry)) from (r .taken))) ⌝ }
+    ensures buffer { λ r. ⌜ now (d .exit) ≡ put (now (d .entry)) out (oneOf Group (asserts ipv4 (now (e .entry)) from (r .taken))) ⌝ }
 {
     let most = sources_within(e, from, n, limit - out);
     if most == 0 {
@@ -117,7 +118,7 @@ fn put_group_within(
             next: out,
         };
     }
-    let taken = group_run(e, from, most);
+    let taken = group_run(false, e, from, most);
     let next = put_group_record(e, from, taken, d, out);
     Fitted { taken, next }
 }
@@ -133,9 +134,9 @@ fn put_groups_within(
 ) -> FittedGroups
     requires { ⌜ (from + 16 * n ≤ length (now e)) × (start ≤ limit) × (limit ≤ length (now d)) ⌝ }
     ensures taken { λ r. ⌜ MostWithin (allOf Group) (now (e .entry)) from n (limit - start) (r .taken) ⌝ }
-    ensures next { λ r. ⌜ r .next ≡ start + length (allOf Group (asserts (now (e .entry)) from (r .taken))) ⌝ }
-    ensures number { λ r. ⌜ r .number ≡ numberOf Group (asserts (now (e .entry)) from (r .taken)) ⌝ }
-    ensures buffer { λ r. ⌜ now (d .exit) ≡ put (now (d .entry)) start (allOf Group (asserts (now (e .entry)) from (r .taken))) ⌝ }
+    ensures next { λ r. ⌜ r .next ≡ start + length (allOf Group (asserts ipv4 (now (e .entry)) from (r .taken))) ⌝ }
+    ensures number { λ r. ⌜ r .number ≡ numberOf Group (asserts ipv4 (now (e .entry)) from (r .taken)) ⌝ }
+    ensures buffer { λ r. ⌜ now (d .exit) ≡ put (now (d .entry)) start (allOf Group (asserts ipv4 (now (e .entry)) from (r .taken))) ⌝ }
 {
     let mut taken = 0;
     let mut at = from;
@@ -167,9 +168,9 @@ fn put_groups_within(
 // before them, with their number.
 fn put_rp_within(e: &[u8], from: usize, n: usize, d: &mut [u8], out: usize, limit: usize) -> Fitted
     requires { ⌜ (0 < n) × (from + 16 * n ≤ length (now e)) × (out ≤ limit) × (limit ≤ length (now d)) × (rBit (numberAt 4 (now e) (from + 8)) ≡ true) ⌝ }
-    ensures taken { λ r. ⌜ MostWithin (oneOf Aggregated) (now (e .entry)) from (runLength Aggregated (now (e .entry)) from n) (limit - out) (r .taken) ⌝ }
-    ensures next { λ r. ⌜ r .next ≡ out + length (oneOf Aggregated (asserts (now (e .entry)) from (r .taken))) ⌝ }
-    ensures buffer { λ r. ⌜ now (d .exit) ≡ put (now (d .entry)) out (oneOf Aggregated (asserts (now (e .entry)) from (r .taken))) ⌝ }
+    ensures taken { λ r. ⌜ MostWithin (oneOf Aggregated) (now (e .entry)) from (runLength ipv4 Aggregated (now (e .entry)) from n) (limit - out) (r .taken) ⌝ }
+    ensures next { λ r. ⌜ r .next ≡ out + length (oneOf Aggregated (asserts ipv4 (now (e .entry)) from (r .taken))) ⌝ }
+    ensures buffer { λ r. ⌜ now (d .exit) ≡ put (now (d .entry)) out (oneOf Aggregated (asserts ipv4 (now (e .entry)) from (r .taken))) ⌝ }
 {
     let none = Fitted {
         taken: 0,
@@ -180,7 +181,7 @@ fn put_rp_within(e: &[u8], from: usize, n: usize, d: &mut [u8], out: usize, limi
     }
     // Each entry takes six octets or more, so no run is looked at past what could fit.
     let most = smaller(n, (limit - out) / 6);
-    let k = rp_run(e, from, most);
+    let k = rp_run(false, e, from, most);
     let groups = put_groups_within(e, from, k, d, out + 12, limit);
     if groups.taken == 0 {
         return none;
@@ -203,9 +204,9 @@ fn put_aggregated_within(
     limit: usize,
 ) -> Fitted
     requires { ⌜ (0 < n) × (from + 16 * n ≤ length (now e)) × (out ≤ limit) × (limit ≤ length (now d)) ⌝ }
-    ensures taken { λ r. ⌜ MostWithin (oneOf Aggregated) (now (e .entry)) from (runLength Aggregated (now (e .entry)) from n) (limit - out) (r .taken) ⌝ }
-    ensures next { λ r. ⌜ r .next ≡ out + length (oneOf Aggregated (asserts (now (e .entry)) from (r .taken))) ⌝ }
-    ensures buffer { λ r. ⌜ now (d .exit) ≡ put (now (d .entry)) out (oneOf Aggregated (asserts (now (e .entry)) from (r .taken))) ⌝ }
+    ensures taken { λ r. ⌜ MostWithin (oneOf Aggregated) (now (e .entry)) from (runLength ipv4 Aggregated (now (e .entry)) from n) (limit - out) (r .taken) ⌝ }
+    ensures next { λ r. ⌜ r .next ≡ out + length (oneOf Aggregated (asserts ipv4 (now (e .entry)) from (r .taken))) ⌝ }
+    ensures buffer { λ r. ⌜ now (d .exit) ≡ put (now (d .entry)) out (oneOf Aggregated (asserts ipv4 (now (e .entry)) from (r .taken))) ⌝ }
 {
     if r_bit(word(e, from + 8)) {
         return put_rp_within(e, from, n, d, out, limit);
@@ -224,8 +225,8 @@ pub(crate) fn put_within(
 ) -> Fitted
     requires { ⌜ (from + 16 * n ≤ length (now e)) × (start ≤ limit) × (limit ≤ length (now d)) ⌝ }
     ensures taken { λ r. ⌜ MostWithin (allOf Aggregated) (now (e .entry)) from n (limit - start) (r .taken) ⌝ }
-    ensures next { λ r. ⌜ r .next ≡ start + length (allOf Aggregated (asserts (now (e .entry)) from (r .taken))) ⌝ }
-    ensures buffer { λ r. ⌜ now (d .exit) ≡ put (now (d .entry)) start (allOf Aggregated (asserts (now (e .entry)) from (r .taken))) ⌝ }
+    ensures next { λ r. ⌜ r .next ≡ start + length (allOf Aggregated (asserts ipv4 (now (e .entry)) from (r .taken))) ⌝ }
+    ensures buffer { λ r. ⌜ now (d .exit) ≡ put (now (d .entry)) start (allOf Aggregated (asserts ipv4 (now (e .entry)) from (r .taken))) ⌝ }
 {
     let mut taken = 0;
     let mut at = from;

@@ -50,8 +50,8 @@ returns c =
     let long = group-long o (a .from) (a .k) (c .before .before .before .before .before .before .before .before .before .before .before .before .before .before .before .pre .0) in (
       c .before .before .put-addresses .ensures .0 ∙ omega (arith, p, long),
       rw (group-is o (a .from) (a .k) (c .before .before .before .before .before .before .before .before .before .before .before .before .before .before .before .pre .0), ← p)
-          (put-next (now (a .d)) (a .out) (groupOctets ipv4 (numberAt 4 o (a .from))) ((be 2 (c .before .before .before .before .before .before .before .before .before .before .before .before .number-of-sources .result) ++ reserved2) ++ each (addressOctets Source) (asserts o (a .from) (c .before .before .before .before .before .before .before .before .before .before .before .before .number-of-sources .result))) (c .before .before .before .before .before .before .before .before .before .before .put-group .ensures)
-          (put-next _ (a .out + 8) (be 2 (c .before .before .before .before .before .before .before .before .before .before .before .before .number-of-sources .result) ++ reserved2) (each (addressOctets Source) (asserts o (a .from) (c .before .before .before .before .before .before .before .before .before .before .before .before .number-of-sources .result))) (c .before .before .before .before .before .before .put-number .ensures) (c .before .before .put-addresses .ensures .1) (omega (arith, number-long (c .before .before .before .before .before .before .before .before .before .before .before .before .number-of-sources .result))))
+          (put-next (now (a .d)) (a .out) (groupOctets ipv4 (numberAt 4 o (a .from))) ((be 2 (c .before .before .before .before .before .before .before .before .before .before .before .before .number-of-sources .result) ++ reserved2) ++ each (addressOctets Source) (asserts ipv4 o (a .from) (c .before .before .before .before .before .before .before .before .before .before .before .before .number-of-sources .result))) (c .before .before .before .before .before .before .before .before .before .before .put-group .ensures)
+          (put-next _ (a .out + 8) (be 2 (c .before .before .before .before .before .before .before .before .before .before .before .before .number-of-sources .result) ++ reserved2) (each (addressOctets Source) (asserts ipv4 o (a .from) (c .before .before .before .before .before .before .before .before .before .before .before .before .number-of-sources .result))) (c .before .before .before .before .before .before .put-number .ensures) (c .before .before .put-addresses .ensures .1) (omega (arith, number-long (c .before .before .before .before .before .before .before .before .before .before .before .before .number-of-sources .result))))
           (omega (arith, length-group ipv4 (numberAt 4 o (a .from))))),
     )
 

@@ -51,7 +51,7 @@ returns c =
     let a = c .before .before .before .before .before .before .before .before .before .before .before .before .before .before .before .before .before .before .args in
     let o = now (a .e) in
     let place : a .from + 8 + 4 ≡ a .from + 12 = omega arith in
-    let groups = each (addressOctets Group) (asserts o (a .from) (a .k)) in
+    let groups = each (addressOctets Group) (asserts ipv4 o (a .from) (a .k)) in
     let number = be 2 (a .k) ++ reserved2 in
     let source = sourceOctets ipv4 (numberAt 4 o (a .from + 4)) in (
       c .before .before .put-addresses .ensures .0 ∙ omega (arith, source-long o (a .from) (a .k) (c .before .before .before .before .before .before .before .before .before .before .before .before .before .before .before .before .before .before .pre .0) (c .before .before .before .before .before .before .before .before .before .before .before .before .before .before .before .before .before .before .pre .2)),

@@ -13,4 +13,4 @@ returns-2 c = rw (← c .before .before .word .ensures, ← c .word2 .ensures, e
 
 pub has-metric-spec : {M : Type 1} → statement M
 has-metric-spec =
-    tie.close (tie.spec (λ c. search needs) (λ c κs. search needs) returns (λ c. search needs) (λ c κs. search needs) returns-2)
+    tie.close (tie.spec (λ c κs. search needs) returns (λ c. search needs) (λ c κs. search needs) returns-2)

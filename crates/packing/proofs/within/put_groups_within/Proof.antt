@@ -6,6 +6,7 @@ use mathlib.Core.Path.{_≡_}
 use denote.Ref.{now}
 use Prim.Native.Nat.{_+_, _-_, _*_, _<_, _≤_}
 use lib.ListN.{length}
+use Rattle.format.specs.Family.{ipv4}
 use Rattle.packing.specs.Joins.{asserts, Group}
 use Rattle.packing.specs.Aggregates.{numberOf}
 use Rattle.packing.proofs.Limits.{RunsWithin, within-start, within-there, within-next, within-stop, within-end, number-none, number-next}
@@ -13,7 +14,7 @@ use Rattle.packing.proofs.within.put_groups_within.Statement.{statement
 use Rattle.packing.proofs.within.put_groups_within.Tie as tie
 
 abbrev Inv-loop : tie.InvT-loop
-Inv-loop e from n d₀ start limit taken₀ at₀ out₀ number₀ d taken at out number = RunsWithin Group e from n d₀ start limit d taken at out × (number ≡ numberOf Group (asserts e from taken)) × (number ≤ taken)
+Inv-loop e from n d₀ start limit taken₀ at₀ out₀ number₀ d taken at out number = RunsWithin Group e from n d₀ start limit d taken at out × (number ≡ numberOf Group (asserts ipv4 e from taken)) × (number ≤ taken)
 
 abbrev μ-loop : tie.MeasureT-loop
 μ-loop e from n d₀ start limit taken₀ at₀ out₀ number₀ d taken at out number = n - taken

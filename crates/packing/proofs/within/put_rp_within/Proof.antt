@@ -9,6 +9,7 @@ use lib.ListN.{length, length-append}
 use Rattle.octets.specs.Octets.{numberAt, be}
 use Rattle.octets.proofs.Laws.{put-next, put-before, put-nil}
 use Rattle.format.specs.Record.{reserved2}
+use Rattle.format.specs.Family.{ipv4}
 use Rattle.packing.specs.Joins.{asserts, runLength, Aggregated, Group}
 use Rattle.packing.proofs.Joins.{run-range, all-none}
 use Rattle.packing.specs.Aggregates.{oneOf, allOf, numberOf, MostWithin}
@@ -33,12 +34,12 @@ some c = c .before .before .before .before
 
 -- the run, as far as it could fit
 found : (c : tie.After-rp-run)
-    → c .rp-run .result ≡ runLength Aggregated (now (enter (ran c) .args .e)) (enter (ran c) .args .from) (min (enter (ran c) .args .n) ((enter (ran c) .args .limit - enter (ran c) .args .out) / 6))
+    → c .rp-run .result ≡ runLength ipv4 Aggregated (now (enter (ran c) .args .e)) (enter (ran c) .args .from) (min (enter (ran c) .args .n) ((enter (ran c) .args .limit - enter (ran c) .args .out) / 6))
 found c = rw (c .before .smaller .ensures) at (c .rp-run .ensures)
 
 most : (c : tie.After-put-groups-within)
     → MostWithin (oneOf Aggregated) (now (enter (ran (grouped c)) .args .e)) (enter (ran (grouped c)) .args .from)
-    (runLength Aggregated (now (enter (ran (grouped c)) .args .e)) (enter (ran (grouped c)) .args .from) (enter (ran (grouped c)) .args .n))
+    (runLength ipv4 Aggregated (now (enter (ran (grouped c)) .args .e)) (enter (ran (grouped c)) .args .from) (enter (ran (grouped c)) .args .n))
     (enter (ran (grouped c)) .args .limit - enter (ran (grouped c)) .args .out) (c .put-groups-within .result .taken)
 most c =
     let e = ran (grouped c) in
@@ -66,14 +67,14 @@ put-groups-within-requires c κs =
     let e = ran (c .before) in
     let s = enter e in
     let a = s .args in
-    let range = run-range Aggregated (now (a .e)) (a .from) (min (a .n) ((a .limit - a .out) / 6)) (omega (arith, e .if1 .left, s .pre .0)) in
+    let range = run-range ipv4 Aggregated (now (a .e)) (a .from) (min (a .n) ((a .limit - a .out) / 6)) (omega (arith, e .if1 .left, s .pre .0)) in
     (omega (arith, found (c .before), range .1, s .pre .1), omega (arith, e .if1 .left), s .pre .3)
 
 returns-2 : tie.Need-returns-2
 returns-2 c =
     let g = c .before .before .before .before in
     let a = c .before .before .before .before .before .before .before .before .before .before .before .args in
-    let fit : MostWithin (oneOf Aggregated) (now (a .e)) (a .from) (runLength Aggregated (now (a .e)) (a .from) (a .n)) (a .limit - a .out) (c .before .before .before .before .put-groups-within .result .taken) = most g in
+    let fit : MostWithin (oneOf Aggregated) (now (a .e)) (a .from) (runLength ipv4 Aggregated (now (a .e)) (a .from) (a .n)) (a .limit - a .out) (c .before .before .before .before .put-groups-within .result .taken) = most g in
     (rw (c .if2 .taken) at fit, none-written (now (a .e)) (a .from) Aggregated (a .out) (rw (c .if2 .taken, all-none Group (now (a .e)) (a .from)) at (g .put-groups-within .ensures .1 .1 .1) ∙ put-nil (now (a .d)) (a .out + 12)))
 
 add-put-metric : tie.Need-add-put-metric
@@ -109,13 +110,13 @@ returns-3 c =
     let k = g .put-groups-within .result .taken in
     let any : 0 < g .put-groups-within .result .taken = omega (arith, metric .before .before .if2 .left) in
     let wrote = g .put-groups-within .ensures in
-    let number = be 2 (numberOf Group (asserts o (a .from) k)) ++ reserved2 in
-    let head : length ((be 4 v ++ be 4 m) ++ number) ≡ 12 = length-append (be 4 v ++ be 4 m) number ∙ omega (arith, metric-long v m, number-long (numberOf Group (asserts o (a .from) k))) in (
+    let number = be 2 (numberOf Group (asserts ipv4 o (a .from) k)) ++ reserved2 in
+    let head : length ((be 4 v ++ be 4 m) ++ number) ≡ 12 = length-append (be 4 v ++ be 4 m) number ∙ omega (arith, metric-long v m, number-long (numberOf Group (asserts ipv4 o (a .from) k))) in (
       most g,
       (
         wrote .1 .0 ∙ omega (arith, rp-long o (a .from) k any r),
         rw (rp-is o (a .from) k any r)
-            (put-before (now (a .d)) (a .out) ((be 4 v ++ be 4 m) ++ number) (allOf Group (asserts o (a .from) k)) (wrote .1 .1 .1)
+            (put-before (now (a .d)) (a .out) ((be 4 v ++ be 4 m) ++ number) (allOf Group (asserts ipv4 o (a .from) k)) (wrote .1 .1 .1)
             (put-next _ (a .out) (be 4 v ++ be 4 m) number (rw place at (metric .put-metric .ensures)) (rw (wrote .1 .1 .0) at (put .put-number .ensures)) (omega (arith, metric-long v m)))
             (omega (arith, head)) (omega (arith, enter e .pre, e .if1 .left))),
       ),
