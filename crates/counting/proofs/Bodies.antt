@@ -17,7 +17,7 @@ use Rattle.octets.specs.Octets.{numberAt, value}
 use Rattle.format.specs.Reader.{Read, got, bad, Reader, continue, _>>=_, _>>_, give, octets, number, must, handUp, inRecord, toEnd, records, nothingMore}
 use Rattle.format.specs.Body.{zeroReserved, assertsBody}
 use Rattle.records.specs.Records.{AggregatedRecord, allEntries}
-use Rattle.format.specs.Family.{ipv4}
+use Rattle.format.specs.Family.{Family}
 use Rattle.format.specs.Record.{assertRecord, pairRecord, aggregatedRecord}
 use Rattle.format.specs.declared.Refusal.{Refusal}
 use Rattle.format.specs.declared.Kind.the-variants.{Assert, Simple, Aggregated}
@@ -75,14 +75,14 @@ tallied-back size (got a m) n next e on = on a (ap (got a) (cc)) (cc)
 tallied-back size (bad i p) n next e on = absurd (no-got e)
 
 -- a record's octets are more than its entries
-pub entry-room : (joined g z : Bool) (o : List ℕ) (at n next : ℕ) → at ≤ length o → entryCount joined g z o at ≡ got n next → (n + at < next) × (next ≤ length o)
+pub entry-room : (f : Family) (joined g z : Bool) (o : List ℕ) (at n next : ℕ) → at ≤ length o → entryCount f joined g z o at ≡ got n next → (n + at < next) × (next ≤ length o)
 unfolding entryCount
-entry-room true g z o at n next h e =
-    tallied-back recordCount (aggregatedRecord ipv4 o at) n next e (λ r p q. omega (arith, record-room o at h p))
-entry-room false true z o at n next h e =
-    tallied-back (λ x. 1) (assertRecord ipv4 o at) n next e (λ x p q. let b = assert-back ipv4 o at p in omega (arith, b .1, b .2))
-entry-room false false z o at n next h e =
-    tallied-back (λ x. 1) (pairRecord ipv4 z o at) n next e (λ x p q. let b = pair-back ipv4 z o at p in omega (arith, b .1, b .2))
+entry-room f true g z o at n next h e =
+    tallied-back recordCount (aggregatedRecord f o at) n next e (λ r p q. omega (arith, record-room f o at h p))
+entry-room f false true z o at n next h e =
+    tallied-back (λ x. 1) (assertRecord f o at) n next e (λ x p q. let b = assert-back f o at p in omega (arith, b .1, b .2))
+entry-room f false false z o at n next h e =
+    tallied-back (λ x. 1) (pairRecord f z o at) n next e (λ x p q. let b = pair-back f z o at p in omega (arith, b .1, b .2))
 
 -- counting each record and adding up is counting what they all stand for
 module _ {A : Type 0} (one : A → ℕ) (all : List A → ℕ) (none : all [] ≡ 0) (more : (a : A) (l : List A) → all (a ∷ l) ≡ one a + all l) where
@@ -126,17 +126,17 @@ sum-more n ns = refl
 
 -- ---- bodies
 
-pub count-asserts : (o : List ℕ) (k at : ℕ) → tallied sum (toEnd k (entryCount false true false) o at) ≡ tallied length (toEnd k (assertRecord ipv4) o at)
+pub count-asserts : (f : Family) (o : List ℕ) (k at : ℕ) → tallied sum (toEnd k (entryCount f false true false) o at) ≡ tallied length (toEnd k (assertRecord f) o at)
 unfolding entryCount
-count-asserts o k at = count-all (λ a. 1) length refl (λ a l. omega arith) (assertRecord ipv4) o k at
+count-asserts f o k at = count-all (λ a. 1) length refl (λ a l. omega arith) (assertRecord f) o k at
 
-pub count-pairs : (z : Bool) (o : List ℕ) (k at : ℕ) → tallied sum (toEnd k (entryCount false false z) o at) ≡ tallied length (toEnd k (pairRecord ipv4 z) o at)
+pub count-pairs : (f : Family) (z : Bool) (o : List ℕ) (k at : ℕ) → tallied sum (toEnd k (entryCount f false false z) o at) ≡ tallied length (toEnd k (pairRecord f z) o at)
 unfolding entryCount
-count-pairs z o k at = count-all (λ a. 1) length refl (λ a l. omega arith) (pairRecord ipv4 z) o k at
+count-pairs f z o k at = count-all (λ a. 1) length refl (λ a l. omega arith) (pairRecord f z) o k at
 
-pub count-joined : (o : List ℕ) (k at : ℕ) → tallied sum (toEnd k (entryCount true true false) o at) ≡ tallied recordsCount (toEnd k (aggregatedRecord ipv4) o at)
+pub count-joined : (f : Family) (o : List ℕ) (k at : ℕ) → tallied sum (toEnd k (entryCount f true true false) o at) ≡ tallied recordsCount (toEnd k (aggregatedRecord f) o at)
 unfolding entryCount
-count-joined o k at = count-all recordCount recordsCount records-none records-more (aggregatedRecord ipv4) o k at
+count-joined f o k at = count-all recordCount recordsCount records-none records-more (aggregatedRecord f) o k at
 
 -- Zero, Reserved and records to the end, one at least
 pub packed-body : {A : Type 0} (r : Reader A) (o : List ℕ) → continue (packedStart o 4) (λ u next. toEnd (length o) r o next) ≡ (zeroReserved >> records r) o 4
@@ -159,46 +159,46 @@ joined-count (bad n p) = refl
 
 -- ---- a plain assert
 
-module _ (o : List ℕ) where
-  pub plain-bad : {c : Checked} {x : Refusal} {y : Read ℕ} → c ≡ Bad x → checked c ≡ skipped (assertRecord ipv4 o 4) → y ≡ tallied (λ u. 0) (checked c)
-      → y ≡ tallied length (assertsBody ipv4 Assert o 4)
+module _ (f : Family) (o : List ℕ) where
+  pub plain-bad : {c : Checked} {x : Refusal} {y : Read ℕ} → c ≡ Bad x → checked c ≡ skipped (assertRecord f o 4) → y ≡ tallied (λ u. 0) (checked c)
+      → y ≡ tallied length (assertsBody f Assert o 4)
   unfolding assertsBody _>>=_
-  plain-bad p q t = tallies-bad length (assertRecord ipv4 o 4) _ p q t
+  plain-bad p q t = tallies-bad length (assertRecord f o 4) _ p q t
 
-  pub plain-more : {c : Checked} {n : ℕ} → c ≡ Next n → checked c ≡ skipped (assertRecord ipv4 o 4) → n < length o → bad 6 n ≡ tallied length (assertsBody ipv4 Assert o 4)
+  pub plain-more : {c : Checked} {n : ℕ} → c ≡ Next n → checked c ≡ skipped (assertRecord f o 4) → n < length o → bad 6 n ≡ tallied length (assertsBody f Assert o 4)
   unfolding assertsBody _>>=_ _>>_ nothingMore continue tallied
-  plain-more {n = n} p q h = tallies-on length (assertRecord ipv4 o 4) _ p q (λ e g. rw (lt-leb (length o) n h))
+  plain-more {n = n} p q h = tallies-on length (assertRecord f o 4) _ p q (λ e g. rw (lt-leb (length o) n h))
 
-  pub plain-end : {c : Checked} {n : ℕ} → c ≡ Next n → checked c ≡ skipped (assertRecord ipv4 o 4) → length o ≤ n → got 1 n ≡ tallied length (assertsBody ipv4 Assert o 4)
+  pub plain-end : {c : Checked} {n : ℕ} → c ≡ Next n → checked c ≡ skipped (assertRecord f o 4) → length o ≤ n → got 1 n ≡ tallied length (assertsBody f Assert o 4)
   unfolding assertsBody _>>=_ _>>_ nothingMore continue give tallied
-  plain-end {n = n} p q h = tallies-on length (assertRecord ipv4 o 4) _ p q (λ e g. rw (le-leb (length o) n h))
+  plain-end {n = n} p q h = tallies-on length (assertRecord f o 4) _ p q (λ e g. rw (le-leb (length o) n h))
 
 -- ---- packed asserts
 
-joined-last : {A : Type 0} (x : Read A) (f : ℕ → Read (List AggregatedRecord))
-    → tallied recordsCount (continue x (λ a n. f n)) ≡ tallied length (continue x (λ a n. continue (f n) (λ rs m. got (allEntries rs) m)))
+joined-last : {A : Type 0} (x : Read A) (r : ℕ → Read (List AggregatedRecord))
+    → tallied recordsCount (continue x (λ a n. r n)) ≡ tallied length (continue x (λ a n. continue (r n) (λ rs m. got (allEntries rs) m)))
 unfolding continue tallied
-joined-last (got a n) f = sym (joined-count (f n))
-joined-last (bad n p) f = refl
+joined-last (got a n) r = sym (joined-count (r n))
+joined-last (bad n p) r = refl
 
-module _ (o : List ℕ) where
-  simple-is : tallied length (continue (packedStart o 4) (λ u next. toEnd (length o) (assertRecord ipv4) o next)) ≡ tallied length (assertsBody ipv4 Simple o 4)
+module _ (f : Family) (o : List ℕ) where
+  simple-is : tallied length (continue (packedStart o 4) (λ u next. toEnd (length o) (assertRecord f) o next)) ≡ tallied length (assertsBody f Simple o 4)
   unfolding assertsBody
-  simple-is = ap (tallied length) (packed-body (assertRecord ipv4) o)
+  simple-is = ap (tallied length) (packed-body (assertRecord f) o)
 
-  joined-is : tallied recordsCount (continue (packedStart o 4) (λ u next. toEnd (length o) (aggregatedRecord ipv4) o next)) ≡ tallied length (assertsBody ipv4 Aggregated o 4)
+  joined-is : tallied recordsCount (continue (packedStart o 4) (λ u next. toEnd (length o) (aggregatedRecord f) o next)) ≡ tallied length (assertsBody f Aggregated o 4)
   unfolding assertsBody _>>_ _>>=_ give
-  joined-is = ap (tallied recordsCount) (packed-body (aggregatedRecord ipv4) o) ∙ joined-last (zeroReserved o 4) (λ n. records (aggregatedRecord ipv4) o n)
+  joined-is = ap (tallied recordsCount) (packed-body (aggregatedRecord f) o) ∙ joined-last (zeroReserved o 4) (λ n. records (aggregatedRecord f) o n)
 
   pub packed-bad : (joined : Bool) {w : Checked} {x : Refusal} {y : Read ℕ} → w ≡ Bad x → checked w ≡ skipped (packedStart o 4) → y ≡ tallied (λ u. 0) (checked w)
-      → y ≡ tallied length (assertsBody ipv4 (packedKind joined) o 4)
+      → y ≡ tallied length (assertsBody f (packedKind joined) o 4)
   packed-bad true p q t = tallies-bad recordsCount (packedStart o 4) _ p q t ∙ joined-is
   packed-bad false p q t = tallies-bad length (packedStart o 4) _ p q t ∙ simple-is
 
   pub packed-on : (joined : Bool) {w : Checked} {n : ℕ} {y : Read ℕ} → w ≡ Next n → checked w ≡ skipped (packedStart o 4)
-      → y ≡ tallied sum (toEnd (length o) (entryCount joined true false) o n) → y ≡ tallied length (assertsBody ipv4 (packedKind joined) o 4)
-  packed-on true {n = n} p q t = tallies-on recordsCount (packedStart o 4) _ p q (λ u g. t ∙ count-joined o (length o) n) ∙ joined-is
-  packed-on false {n = n} p q t = tallies-on length (packedStart o 4) _ p q (λ u g. t ∙ count-asserts o (length o) n) ∙ simple-is
+      → y ≡ tallied sum (toEnd (length o) (entryCount f joined true false) o n) → y ≡ tallied length (assertsBody f (packedKind joined) o 4)
+  packed-on true {n = n} p q t = tallies-on recordsCount (packedStart o 4) _ p q (λ u g. t ∙ count-joined f o (length o) n) ∙ joined-is
+  packed-on false {n = n} p q t = tallies-on length (packedStart o 4) _ p q (λ u g. t ∙ count-asserts f o (length o) n) ∙ simple-is
 
   -- a record begins within the message
   pub start-room : {z : Checked} {n : ℕ} → z ≡ Next n → checked z ≡ skipped (packedStart o 4) → n < length o

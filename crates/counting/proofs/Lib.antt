@@ -1,4 +1,4 @@
-pub mod Addresses
 pub mod Bodies
+pub mod Fits
 pub mod Formed
 pub mod Tallied

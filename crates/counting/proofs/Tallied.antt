@@ -24,7 +24,7 @@ use lib.ListN.{length, length-append, length-map}
 use Rattle.records.specs.Records.{GroupRecord, ofGroup, AggregatedRecord, ofSource, ofRp, groupEntries, allGroupEntries, entries, allEntries}
 use Rattle.records.specs.Sizes.{groupRecordsSize, aggregatedSize}
 use Rattle.format.specs.Reader.{Read, Reader, got, bad, continue, _>>=_, _>>_, give, octets, number, must, handUp, times, toEnd}
-use Rattle.format.specs.Family.{ipv4}
+use Rattle.format.specs.Family.{Family}
 use Rattle.format.specs.Address.{groupField, sourceField}
 use Rattle.format.specs.Record.{positive, groupRecord, sourceAggregated, rpAggregated, aggregatedRecord}
 use Rattle.octets.specs.Octets.{numberAt}
@@ -281,61 +281,61 @@ pub records-more : (r : AggregatedRecord) (rs : List AggregatedRecord) → recor
 unfolding recordsCount recordCount allEntries
 records-more r rs = simp length-append
 
-source-alike : (v m : ℕ) (o : List ℕ) (at : ℕ) → tallied recordCount (sourceAggregated ipv4 0 0 o at) ≡ tallied recordCount (sourceAggregated ipv4 v m o at)
+source-alike : (f : Family) (v m : ℕ) (o : List ℕ) (at : ℕ) → tallied recordCount (sourceAggregated f 0 0 o at) ≡ tallied recordCount (sourceAggregated f v m o at)
 unfolding sourceAggregated _>>=_ _>>_ give tallied
-source-alike v m o at =
-    tallied-same recordCount (sourceField ipv4 false o at) _ _ (λ s i.
+source-alike f v m o at =
+    tallied-same recordCount (sourceField f false o at) _ _ (λ s i.
     tallied-same recordCount (positive o i) _ _ (λ n j.
     tallied-same recordCount (octets 2 o j) _ _ (λ x k.
-    tallied-same recordCount (times n (groupField ipv4) o k) _ _ (λ gs l.
+    tallied-same recordCount (times n (groupField f) o k) _ _ (λ gs l.
     ap (λ t. got t l) (record-source 0 0 s gs ∙ sym (record-source v m s gs))))))
 
-rp-alike : (v m : ℕ) (o : List ℕ) (at : ℕ) → tallied recordCount (rpAggregated ipv4 0 0 o at) ≡ tallied recordCount (rpAggregated ipv4 v m o at)
+rp-alike : (f : Family) (v m : ℕ) (o : List ℕ) (at : ℕ) → tallied recordCount (rpAggregated f 0 0 o at) ≡ tallied recordCount (rpAggregated f v m o at)
 unfolding rpAggregated _>>=_ _>>_ give tallied
-rp-alike v m o at =
+rp-alike f v m o at =
     tallied-same recordCount (positive o at) _ _ (λ n j.
     tallied-same recordCount (octets 2 o j) _ _ (λ x k.
-    tallied-same recordCount (times n (groupRecord ipv4) o k) _ _ (λ rs l.
+    tallied-same recordCount (times n (groupRecord f) o k) _ _ (λ rs l.
     ap (λ t. got t l) (record-rp 0 0 rs ∙ sym (record-rp v m rs)))))
 
-pub either-alike : (r : Bool) (v m : ℕ) (o : List ℕ) (at : ℕ) → tallied recordCount (cond r (rpAggregated ipv4 0 0) (sourceAggregated ipv4 0 0) o at)
-    ≡ tallied recordCount (cond r (rpAggregated ipv4 v m) (sourceAggregated ipv4 v m) o at)
-either-alike true v m o at = rp-alike v m o at
-either-alike false v m o at = source-alike v m o at
+pub either-alike : (f : Family) (r : Bool) (v m : ℕ) (o : List ℕ) (at : ℕ) → tallied recordCount (cond r (rpAggregated f 0 0) (sourceAggregated f 0 0) o at)
+    ≡ tallied recordCount (cond r (rpAggregated f v m) (sourceAggregated f v m) o at)
+either-alike f true v m o at = rp-alike f v m o at
+either-alike f false v m o at = source-alike f v m o at
 
 -- ---- an entry takes an octet at least
 
-group-small : (r : GroupRecord) → groupCount r ≤ groupRecordsSize 4 (r ∷ [])
+group-small : (w : ℕ) (r : GroupRecord) → groupCount r ≤ groupRecordsSize w (r ∷ [])
 unfolding groupCount groupEntries groupRecordsSize
-group-small (ofGroup g []) = omega arith
-group-small (ofGroup g (s ∷ ss)) = simp length-map (omega arith)
+group-small w (ofGroup g []) = omega arith
+group-small w (ofGroup g (s ∷ ss)) = simp length-map (omega arith)
 
-size-apart : (r : GroupRecord) (rs : List GroupRecord) → groupRecordsSize 4 (r ∷ rs) ≡ groupRecordsSize 4 (r ∷ []) + groupRecordsSize 4 rs
+size-apart : (w : ℕ) (r : GroupRecord) (rs : List GroupRecord) → groupRecordsSize w (r ∷ rs) ≡ groupRecordsSize w (r ∷ []) + groupRecordsSize w rs
 unfolding groupRecordsSize
-size-apart (ofGroup g ss) rs = omega arith
+size-apart w (ofGroup g ss) rs = omega arith
 
-groups-small : (rs : List GroupRecord) → groupsCount rs ≤ groupRecordsSize 4 rs
-groups-small [] = omega (arith, groups-none)
-groups-small (r ∷ rs) = omega (arith, groups-more r rs, group-small r, groups-small rs, size-apart r rs)
+groups-small : (w : ℕ) (rs : List GroupRecord) → groupsCount rs ≤ groupRecordsSize w rs
+groups-small w [] = omega (arith, groups-none)
+groups-small w (r ∷ rs) = omega (arith, groups-more r rs, group-small w r, groups-small w rs, size-apart w r rs)
 
-record-small : (r : AggregatedRecord) → recordCount r < aggregatedSize 4 r
+record-small : (w : ℕ) (r : AggregatedRecord) → recordCount r < aggregatedSize w r
 unfolding aggregatedSize
-record-small (ofSource v m s gs) = omega (arith, record-source v m s gs)
-record-small (ofRp v m rs) = omega (arith, record-rp v m rs, groups-small rs)
+record-small w (ofSource v m s gs) = omega (arith, record-source v m s gs)
+record-small w (ofRp v m rs) = omega (arith, record-rp v m rs, groups-small w rs)
 
-within : (o : List ℕ) (at : ℕ) {r : GroupRecord} {n : ℕ} → groupRecord ipv4 o at ≡ got r n → at ≤ length o
+within : (f : Family) (o : List ℕ) (at : ℕ) {r : GroupRecord} {n : ℕ} → groupRecord f o at ≡ got r n → at ≤ length o
 unfolding groupRecord _>>=_
-within o at e = continue-back (groupField ipv4 o at) _ e (λ g n p q. omega (arith, group-back ipv4 o at p))
+within f o at e = continue-back (groupField f o at) _ e (λ g n p q. omega (arith, group-back f o at p))
 
-pub group-room : (o : List ℕ) (at : ℕ) {r : GroupRecord} {n : ℕ} → groupRecord ipv4 o at ≡ got r n → groupCount r + at ≤ n
-group-room o at {r} {n} e =
-    let left : at + (length o - at) ≡ length o = omega (arith, within o at e) in
-    let took = rw e at (takes-groupRecord ipv4 (length o - at) .took o at left) in
-    omega (arith, took .1, took .2, group-small r)
+pub group-room : (f : Family) (o : List ℕ) (at : ℕ) {r : GroupRecord} {n : ℕ} → groupRecord f o at ≡ got r n → groupCount r + at ≤ n
+group-room f o at {r} {n} e =
+    let left : at + (length o - at) ≡ length o = omega (arith, within f o at e) in
+    let took = rw e at (takes-groupRecord f (length o - at) .took o at left) in
+    omega (arith, took .1, took .2, group-small (f .width) r)
 
-pub record-room : (o : List ℕ) (at : ℕ) {r : AggregatedRecord} {n : ℕ} → at ≤ length o → aggregatedRecord ipv4 o at ≡ got r n
+pub record-room : (f : Family) (o : List ℕ) (at : ℕ) {r : AggregatedRecord} {n : ℕ} → at ≤ length o → aggregatedRecord f o at ≡ got r n
     → (recordCount r + at < n) × (n ≤ length o)
-record-room o at {r} {n} h e =
+record-room f o at {r} {n} h e =
     let left : at + (length o - at) ≡ length o = omega arith in
-    let took = rw e at (takes-aggregatedRecord ipv4 (length o - at) .took o at left) in
-    (omega (arith, took .1, took .2 .0, record-small r), omega (arith, took .1))
+    let took = rw e at (takes-aggregatedRecord f (length o - at) .took o at left) in
+    (omega (arith, took .1, took .2 .0, record-small (f .width) r), omega (arith, took .1))

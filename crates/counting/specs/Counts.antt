@@ -1,24 +1,24 @@
 -- How many entries octets stand for: the first pass of a reading call counts and writes nothing.
 --     counted, tallied              a count and the next place, and what a reader comes to with its value counted
 --     groupCount .. recordsCount    entries of a group record, of group records, of an aggregated record, of several
---     addressField .. addressForm   a group, or a source of a group record: how many octets it is, and whether they are allowed
---     wholeAddresses                how many of them are there whole
---     recordSize .. wholeRecords    the same of assert records and of pairs
+--     wholeIn                       how many things of a size are there whole
+--     recordSize, recordForm        an assert record, or a pair: how many octets it is, and whether they are allowed
 --     allowedRecords, passedRecords those at the start that are allowed, and are passed by their form alone
 --     entryCount, sum               entries of a record of any sort, and of several
 --     packedKind, packedStart       the two packed forms; what comes before their records
 --     someRecord                    "no record" is found where the first should be
 -- Assumes nothing: these are definitions.
-use Prim.Native.Nat.{ℕ, zero, suc, _+_, _-_, _/_, min}
-use mathlib.Core.Bool.{Bool, true, _&&_, cond}
+use Prim.Native.Nat.{ℕ, zero, suc, _+_, _-_, _/_}
+use mathlib.Core.Bool.{Bool, _&&_, cond}
 use mathlib.Core.List.{List, [], _∷_}
 use lib.ListN.{length, take, drop}
 use lib.Dec.{leb}
 use Rattle.octets.specs.Octets.{numberAt}
 use Rattle.records.specs.Records.{rBit, GroupRecord, AggregatedRecord, groupEntries, allGroupEntries, entries, allEntries}
+use Rattle.records.specs.Sizes.{groupSize, sourceSize, assertSize, pairSize}
 use Rattle.format.specs.Reader.{Read, Reader, got, bad, _>>_}
-use Rattle.format.specs.Family.{ipv4}
-use Rattle.format.specs.Address.{groupForm, groupField, sourceForm, sourceField}
+use Rattle.format.specs.Family.{Family}
+use Rattle.format.specs.Address.{groupForm, sourceForm}
 use Rattle.format.specs.Record.{assertRecord, pairRecord, aggregatedRecord}
 use Rattle.format.specs.declared.Kind.{Kind}
 use Rattle.format.specs.declared.Kind.the-variants.{Simple, Aggregated}
@@ -46,48 +46,36 @@ recordCount r = length (entries r)
 unfoldable pub recordsCount : List AggregatedRecord → ℕ
 recordsCount rs = length (allEntries rs)
 
-unfoldable pub addressField : Bool → Reader ℕ
-addressField isGroup = cond isGroup (groupField ipv4) (sourceField ipv4 true)
-
-unfoldable pub addressSize : Bool → ℕ
-addressSize isGroup = cond isGroup 8 6
-
-unfoldable pub addressForm : Bool → List ℕ → Bool
-addressForm isGroup = cond isGroup (groupForm ipv4) (sourceForm ipv4 true)
-
--- of n addresses, those whose octets are there from a place on
-unfoldable pub wholeAddresses : Bool → List ℕ → ℕ → ℕ → ℕ
-wholeAddresses isGroup o at n = min n ((length o - at) / addressSize isGroup)
+-- how many things of a size are there whole from a place on
+unfoldable pub wholeIn : ℕ → List ℕ → ℕ → ℕ
+wholeIn size o at = (length o - at) / size
 
 -- an assert record, or a pair, that is there whole: how many octets it is, and whether it is allowed, where R says whether an assert's
 -- source may be 0
-unfoldable pub recordSize : Bool → ℕ
-recordSize isAssert = cond isAssert 22 14
+unfoldable pub recordSize : Family → Bool → ℕ
+recordSize f isAssert = cond isAssert (assertSize (f .width)) (pairSize (f .width))
 
-unfoldable pub recordForm : Bool → Bool → List ℕ → ℕ → Bool
-recordForm isAssert zeroAllowed o at =
-    groupForm ipv4 (take 8 (drop at o))
-    && sourceForm ipv4 (cond isAssert (rBit (numberAt 4 o (at + 14))) zeroAllowed) (take 6 (drop (at + 8) o))
-
-unfoldable pub wholeRecords : Bool → List ℕ → ℕ → ℕ
-wholeRecords isAssert o at = (length o - at) / recordSize isAssert
+unfoldable pub recordForm : Family → Bool → Bool → List ℕ → ℕ → Bool
+recordForm f isAssert zeroAllowed o at =
+    groupForm f (take (groupSize (f .width)) (drop at o))
+    && sourceForm f (cond isAssert (rBit (numberAt 4 o (at + pairSize (f .width)))) zeroAllowed) (take (sourceSize (f .width)) (drop (at + groupSize (f .width)) o))
 
 -- of n records from a place on, those before the first that is not allowed
-unfoldable pub allowedRecords : Bool → Bool → ℕ → List ℕ → ℕ → ℕ
-allowedRecords isAssert zeroAllowed zero o at = 0
-allowedRecords isAssert zeroAllowed (suc n) o at =
-    cond (recordForm isAssert zeroAllowed o at) (suc (allowedRecords isAssert zeroAllowed n o (at + recordSize isAssert))) 0
+unfoldable pub allowedRecords : Family → Bool → Bool → ℕ → List ℕ → ℕ → ℕ
+allowedRecords f isAssert zeroAllowed zero o at = 0
+allowedRecords f isAssert zeroAllowed (suc n) o at =
+    cond (recordForm f isAssert zeroAllowed o at) (suc (allowedRecords f isAssert zeroAllowed n o (at + recordSize f isAssert))) 0
 
 -- those that are passed by their form alone: no aggregated one
-unfoldable pub passedRecords : Bool → Bool → Bool → List ℕ → ℕ → ℕ
-passedRecords joined isAssert zeroAllowed o at = cond joined 0 (allowedRecords isAssert zeroAllowed (wholeRecords isAssert o at) o at)
+unfoldable pub passedRecords : Family → Bool → Bool → Bool → List ℕ → ℕ → ℕ
+passedRecords f joined isAssert zeroAllowed o at = cond joined 0 (allowedRecords f isAssert zeroAllowed (wholeIn (recordSize f isAssert) o at) o at)
 
 -- the entries of the record at a place: of an aggregated one, or one of an assert record or a pair
-unfoldable pub entryCount : Bool → Bool → Bool → Reader ℕ
-entryCount joined isAssert zeroAllowed o at =
+unfoldable pub entryCount : Family → Bool → Bool → Bool → Reader ℕ
+entryCount f joined isAssert zeroAllowed o at =
     cond joined
-    (tallied recordCount (aggregatedRecord ipv4 o at))
-    (cond isAssert (tallied (λ e. 1) (assertRecord ipv4 o at)) (tallied (λ e. 1) (pairRecord ipv4 zeroAllowed o at)))
+    (tallied recordCount (aggregatedRecord f o at))
+    (cond isAssert (tallied (λ e. 1) (assertRecord f o at)) (tallied (λ e. 1) (pairRecord f zeroAllowed o at)))
 
 unfoldable pub sum : List ℕ → ℕ
 sum [] = 0

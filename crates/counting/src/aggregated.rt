@@ -1,22 +1,26 @@
 // Aggregated records: checked in octet order, and the entries that they stand for counted.
 use fields::Checked;
+use fields::address_size;
 use fields::bad;
 use fields::group_check;
 use fields::in_record;
-use fields::is_source;
+use fields::is_address;
 use fields::octets_check;
-use fields::r_bit;
 use fields::source_check;
 use format::Refusal;
+use format::r_bit;
 use octets::number16;
+use octets::number32;
 ghost use mathlib.Core.Path.{_≡_};
-ghost use Prim.Native.Nat.{ℕ, _+_, _≤_};
-ghost use lib.ListN.{length, take, drop};
+ghost use mathlib.Core.Bool.{true};
+ghost use Prim.Native.Nat.{ℕ, _+_, _/_, _≤_, min};
+ghost use lib.ListN.{length};
 ghost use Rattle.format.specs.Reader.{times};
-ghost use Rattle.format.specs.Family.{ipv4};
+ghost use Rattle.format.specs.Family.{familyOf};
 ghost use Rattle.format.specs.Record.{positive, groupRecord, sourceAggregated, rpAggregated, aggregatedFields, aggregatedRecord};
 ghost use Rattle.fields.specs.Answers.{checked, skipped};
-ghost use Rattle.counting.specs.Counts.{addressSize, addressForm, addressField, wholeAddresses, counted, tallied, groupCount, groupsCount, recordCount};
+ghost use Rattle.fields.specs.Encoded.{addressSize, addressField};
+ghost use Rattle.counting.specs.Counts.{wholeIn, counted, tallied, groupCount, groupsCount, recordCount};
 
 // What counting finds.
 pub enum Counted {
@@ -25,64 +29,59 @@ pub enum Counted {
     Bad(Refusal),
 }
 
-// The octets of a group, or of a source.
-fn address_size(is_group: bool) -> usize
-    ensures { λ r. ⌜ r ≡ addressSize «is_group» ⌝ }
+// How many groups, or sources, so many octets hold. Each size is divided by as a literal: a division by a number that is
+// known at run time only is slow.
+fn addresses_in(ipv6: bool, is_group: bool, octets: usize) -> usize
+    ensures { λ r. ⌜ r ≡ octets / addressSize (familyOf ipv6) «is_group» ⌝ }
 {
-    if is_group {
-        return 8;
+    if ipv6 {
+        if is_group {
+            return octets / 20;
+        }
+        return octets / 18;
     }
-    6
+    if is_group {
+        return octets / 8;
+    }
+    octets / 6
 }
 
 // How many of n groups, or of n sources, are there whole from a place on.
-fn whole_addresses(m: &[u8], from: usize, n: usize, is_group: bool) -> usize
-    ensures { λ r. ⌜ r ≡ wholeAddresses «is_group» (now (m .entry)) from n ⌝ }
+fn whole_addresses(ipv6: bool, m: &[u8], from: usize, n: usize, is_group: bool) -> usize
+    ensures { λ r. ⌜ r ≡ min n (wholeIn (addressSize (familyOf ipv6) «is_group») (now (m .entry)) from) ⌝ }
 {
     if m.len() < from {
         return 0;
     }
-    let left = m.len() - from;
-    let there = if is_group { left / 8 } else { left / 6 };
+    let there = addresses_in(ipv6, is_group, m.len() - from);
     if there < n {
         return there;
     }
     n
 }
 
-// Whether a group that is there, or a source of a group record, is allowed. The lengths of the parts are literals, so that
-// the compiler leaves out the tests of them.
-fn address_allowed(m: &[u8], at: usize, is_group: bool) -> bool
-    requires { ⌜ at + addressSize «is_group» ≤ length (now m) ⌝ }
-    ensures { λ r. ⌜ r ≡ addressForm «is_group» (take (addressSize «is_group») (drop at (now (m .entry)))) ⌝ }
+// The answer of a group that is there whole, or of a source of a group record: only its form can be at fault.
+fn address_check(ipv6: bool, m: &[u8], at: usize, is_group: bool) -> Checked
+    requires { ⌜ at + addressSize (familyOf ipv6) «is_group» ≤ length (now m) ⌝ }
+    ensures answer { λ r. ⌜ checked r ≡ skipped (addressField (familyOf ipv6) «is_group» true (now (m .entry)) at) ⌝ }
+    ensures next { λ r. ⌜ ((k : ℕ) → r ≡ Checked.Next k → k ≡ at + addressSize (familyOf ipv6) «is_group») ⌝ }
 {
-    if is_group {
-        return fields::is_group(false, &m[at..at + 8]);
-    }
-    is_source(false, &m[at..at + 6], true)
-}
-
-// The answer of a group that is there whole, or of a source: only its form can be at fault.
-fn address_check(m: &[u8], at: usize, is_group: bool) -> Checked
-    requires { ⌜ at + addressSize «is_group» ≤ length (now m) ⌝ }
-    ensures answer { λ r. ⌜ checked r ≡ skipped (addressField «is_group» (now (m .entry)) at) ⌝ }
-    ensures next { λ r. ⌜ ((k : ℕ) → r ≡ Checked.Next k → k ≡ at + addressSize «is_group») ⌝ }
-{
-    if address_allowed(m, at, is_group) {
-        return Checked::Next(at + address_size(is_group));
+    let next = at + address_size(ipv6, is_group);
+    if is_address(ipv6, is_group, &m[at..next], true) {
+        return Checked::Next(next);
     }
     bad(7, at)
 }
 
 // n groups, or n sources of a group record, one after another: those that are there whole, and past them the octets end.
-fn addresses_check(m: &[u8], from: usize, n: usize, is_group: bool) -> Checked
-    ensures { λ r. ⌜ checked r ≡ skipped (times n (addressField «is_group») (now (m .entry)) from) ⌝ }
+fn addresses_check_of(ipv6: bool, m: &[u8], from: usize, n: usize, is_group: bool) -> Checked
+    ensures { λ r. ⌜ checked r ≡ skipped (times n (addressField (familyOf ipv6) «is_group» true) (now (m .entry)) from) ⌝ }
 {
-    let whole = whole_addresses(m, from, n, is_group);
+    let whole = whole_addresses(ipv6, m, from, n, is_group);
     let mut at = from;
     let mut i = 0;
     while i < whole {
-        let c = address_check(m, at, is_group);
+        let c = address_check(ipv6, m, at, is_group);
         let Checked::Next(next) = c else {
             return c;
         };
@@ -93,6 +92,16 @@ fn addresses_check(m: &[u8], from: usize, n: usize, is_group: bool) -> Checked
         return bad(6, at);
     }
     Checked::Next(at)
+}
+
+// The same with the family as a literal, so that the compiler makes the loop for each.
+fn addresses_check(ipv6: bool, m: &[u8], from: usize, n: usize, is_group: bool) -> Checked
+    ensures { λ r. ⌜ checked r ≡ skipped (times n (addressField (familyOf ipv6) «is_group» true) (now (m .entry)) from) ⌝ }
+{
+    if ipv6 {
+        return addresses_check_of(true, m, from, n, is_group);
+    }
+    addresses_check_of(false, m, from, n, is_group)
 }
 
 // A check, as a count of so many entries if it passed.
@@ -106,10 +115,10 @@ pub(crate) fn with_count(entries: usize, c: Checked) -> Counted
 }
 
 // One entry for each source; p=0 is one entry.
-fn group_record(m: &[u8], at: usize) -> Counted
-    ensures { λ r. ⌜ counted r ≡ tallied groupCount (groupRecord ipv4 (now (m .entry)) at) ⌝ }
+fn group_record(ipv6: bool, m: &[u8], at: usize) -> Counted
+    ensures { λ r. ⌜ counted r ≡ tallied groupCount (groupRecord (familyOf ipv6) (now (m .entry)) at) ⌝ }
 {
-    let g = group_check(false, m, at);
+    let g = group_check(ipv6, m, at);
     let Checked::Next(count_at) = g else {
         return with_count(0, g);
     };
@@ -122,7 +131,7 @@ fn group_record(m: &[u8], at: usize) -> Counted
     let Checked::Next(sources_at) = r else {
         return with_count(0, r);
     };
-    let s = addresses_check(m, sources_at, p, false);
+    let s = addresses_check(ipv6, m, sources_at, p, false);
     if p == 0 {
         return with_count(1, s);
     }
@@ -130,14 +139,14 @@ fn group_record(m: &[u8], at: usize) -> Counted
 }
 
 // n group records, one after another.
-fn group_records(m: &[u8], from: usize, n: usize) -> Counted
-    ensures { λ r. ⌜ counted r ≡ tallied groupsCount (times n (groupRecord ipv4) (now (m .entry)) from) ⌝ }
+fn group_records(ipv6: bool, m: &[u8], from: usize, n: usize) -> Counted
+    ensures { λ r. ⌜ counted r ≡ tallied groupsCount (times n (groupRecord (familyOf ipv6)) (now (m .entry)) from) ⌝ }
 {
     let mut at = from;
     let mut total = 0;
     let mut i = 0;
     while i < n {
-        let c = group_record(m, at);
+        let c = group_record(ipv6, m, at);
         let Counted::All { entries, next } = c else {
             return c;
         };
@@ -166,10 +175,10 @@ fn count_check(m: &[u8], at: usize) -> Checked
 }
 
 // What follows R with preference and metric in a source aggregated record.
-fn source_aggregated(m: &[u8], at: usize) -> Counted
-    ensures { λ r. ⌜ counted r ≡ tallied recordCount (sourceAggregated ipv4 0 0 (now (m .entry)) at) ⌝ }
+fn source_aggregated(ipv6: bool, m: &[u8], at: usize) -> Counted
+    ensures { λ r. ⌜ counted r ≡ tallied recordCount (sourceAggregated (familyOf ipv6) 0 0 (now (m .entry)) at) ⌝ }
 {
-    let s = source_check(false, m, at, false);
+    let s = source_check(ipv6, m, at, false);
     let Checked::Next(count_at) = s else {
         return with_count(0, s);
     };
@@ -182,12 +191,12 @@ fn source_aggregated(m: &[u8], at: usize) -> Counted
     let Checked::Next(groups_at) = r else {
         return with_count(0, r);
     };
-    with_count(n, addresses_check(m, groups_at, n, true))
+    with_count(n, addresses_check(ipv6, m, groups_at, n, true))
 }
 
 // And in an RP aggregated record.
-fn rp_aggregated(m: &[u8], at: usize) -> Counted
-    ensures { λ r. ⌜ counted r ≡ tallied recordCount (rpAggregated ipv4 0 0 (now (m .entry)) at) ⌝ }
+fn rp_aggregated(ipv6: bool, m: &[u8], at: usize) -> Counted
+    ensures { λ r. ⌜ counted r ≡ tallied recordCount (rpAggregated (familyOf ipv6) 0 0 (now (m .entry)) at) ⌝ }
 {
     let c = count_check(m, at);
     let Checked::Next(reserved_at) = c else {
@@ -198,12 +207,12 @@ fn rp_aggregated(m: &[u8], at: usize) -> Counted
     let Checked::Next(records_at) = r else {
         return with_count(0, r);
     };
-    group_records(m, records_at, n)
+    group_records(ipv6, m, records_at, n)
 }
 
 // R tells the two forms apart; the number of entries does not depend on preference and metric.
-fn aggregated_fields(m: &[u8], at: usize) -> Counted
-    ensures { λ r. ⌜ counted r ≡ tallied recordCount (aggregatedFields ipv4 (now (m .entry)) at) ⌝ }
+fn aggregated_fields(ipv6: bool, m: &[u8], at: usize) -> Counted
+    ensures { λ r. ⌜ counted r ≡ tallied recordCount (aggregatedFields (familyOf ipv6) (now (m .entry)) at) ⌝ }
 {
     let v = octets_check(m, at, 4);
     let Checked::Next(metric_at) = v else {
@@ -213,17 +222,17 @@ fn aggregated_fields(m: &[u8], at: usize) -> Counted
     let Checked::Next(next) = x else {
         return with_count(0, x);
     };
-    if r_bit(&m[at..at + 4]) {
-        return rp_aggregated(m, next);
+    if r_bit(number32(m, at)) {
+        return rp_aggregated(ipv6, m, next);
     }
-    source_aggregated(m, next)
+    source_aggregated(ipv6, m, next)
 }
 
 // An aggregated record: a fault is handed up with the record's first octet.
-pub(crate) fn aggregated_record(m: &[u8], at: usize) -> Counted
-    ensures { λ r. ⌜ counted r ≡ tallied recordCount (aggregatedRecord ipv4 (now (m .entry)) at) ⌝ }
+pub(crate) fn aggregated_record(ipv6: bool, m: &[u8], at: usize) -> Counted
+    ensures { λ r. ⌜ counted r ≡ tallied recordCount (aggregatedRecord (familyOf ipv6) (now (m .entry)) at) ⌝ }
 {
-    let c = aggregated_fields(m, at);
+    let c = aggregated_fields(ipv6, m, at);
     let Counted::Bad(r) = c else {
         return c;
     };

@@ -15,45 +15,66 @@ ghost use mathlib.Core.Path.{_≡_};
 ghost use Prim.Native.Nat.{_≤_};
 ghost use lib.ListN.{length};
 ghost use Rattle.format.specs.Reader.{toEnd, records};
-ghost use Rattle.format.specs.Family.{ipv4};
+ghost use Rattle.format.specs.Family.{familyOf};
 ghost use Rattle.format.specs.Record.{pairRecord};
 ghost use Rattle.format.specs.Body.{assertsBody, pairsBody};
 ghost use Rattle.fields.specs.Answers.{checked, skipped};
 ghost use Rattle.counting.specs.Counts.{counted, tallied, passedRecords, entryCount, sum, packedKind, packedStart};
 
 // The entries of the record at a place: an aggregated one, an assert record or a pair.
-fn record_count(joined: bool, is_assert: bool, zero_allowed: bool, m: &[u8], at: usize) -> Counted
-    ensures { λ r. ⌜ counted r ≡ entryCount joined «is_assert» «zero_allowed» (now (m .entry)) at ⌝ }
+fn record_count(
+    ipv6: bool,
+    joined: bool,
+    is_assert: bool,
+    zero_allowed: bool,
+    m: &[u8],
+    at: usize,
+) -> Counted
+    ensures { λ r. ⌜ counted r ≡ entryCount (familyOf ipv6) joined «is_assert» «zero_allowed» (now (m .entry)) at ⌝ }
 {
     if joined {
-        return aggregated_record(m, at);
+        return aggregated_record(ipv6, m, at);
     }
     if is_assert {
-        return with_count(1, assert_check(false, m, at));
+        return with_count(1, assert_check(ipv6, m, at));
     }
-    with_count(1, pair_check(false, m, at, zero_allowed))
+    with_count(1, pair_check(ipv6, m, at, zero_allowed))
 }
 
 // How many records are passed by their form alone; of aggregated ones none is.
-fn passed(joined: bool, is_assert: bool, zero_allowed: bool, m: &[u8], from: usize) -> usize
+fn passed(
+    ipv6: bool,
+    joined: bool,
+    is_assert: bool,
+    zero_allowed: bool,
+    m: &[u8],
+    from: usize,
+) -> usize
     requires { ⌜ from ≤ length (now m) ⌝ }
-    ensures { λ r. ⌜ r ≡ passedRecords joined «is_assert» «zero_allowed» (now (m .entry)) from ⌝ }
+    ensures { λ r. ⌜ r ≡ passedRecords (familyOf ipv6) joined «is_assert» «zero_allowed» (now (m .entry)) from ⌝ }
 {
     if joined {
         return 0;
     }
-    allowed_records(m, from, is_assert, zero_allowed)
+    allowed_records(ipv6, m, from, is_assert, zero_allowed)
 }
 
 // The entries of the records up to the end of a message: past those that are passed by their form, field by field.
-fn count_to_end(joined: bool, is_assert: bool, zero_allowed: bool, m: &[u8], from: usize) -> Counted
+fn count_to_end(
+    ipv6: bool,
+    joined: bool,
+    is_assert: bool,
+    zero_allowed: bool,
+    m: &[u8],
+    from: usize,
+) -> Counted
     requires { ⌜ from ≤ length (now m) ⌝ }
-    ensures { λ r. ⌜ counted r ≡ tallied sum (toEnd (length (now (m .entry))) (entryCount joined «is_assert» «zero_allowed») (now (m .entry)) from) ⌝ }
+    ensures { λ r. ⌜ counted r ≡ tallied sum (toEnd (length (now (m .entry))) (entryCount (familyOf ipv6) joined «is_assert» «zero_allowed») (now (m .entry)) from) ⌝ }
 {
-    let mut total = passed(joined, is_assert, zero_allowed, m, from);
-    let mut at = from + total * record_size(is_assert);
+    let mut total = passed(ipv6, joined, is_assert, zero_allowed, m, from);
+    let mut at = from + total * record_size(ipv6, is_assert);
     while at < m.len() {
-        let c = record_count(joined, is_assert, zero_allowed, m, at);
+        let c = record_count(ipv6, joined, is_assert, zero_allowed, m, at);
         let Counted::All { entries, next } = c else {
             return c;
         };
@@ -88,10 +109,10 @@ fn packed_check(m: &[u8]) -> Checked
 }
 
 // One assert record, and nothing more.
-fn count_plain(m: &[u8]) -> Counted
-    ensures { λ r. ⌜ counted r ≡ tallied length (assertsBody ipv4 Kind.Assert (now (m .entry)) 4) ⌝ }
+fn count_plain(ipv6: bool, m: &[u8]) -> Counted
+    ensures { λ r. ⌜ counted r ≡ tallied length (assertsBody (familyOf ipv6) Kind.Assert (now (m .entry)) 4) ⌝ }
 {
-    let c = assert_check(false, m, 4);
+    let c = assert_check(ipv6, m, 4);
     let Checked::Next(next) = c else {
         return with_count(0, c);
     };
@@ -102,50 +123,50 @@ fn count_plain(m: &[u8]) -> Counted
 }
 
 // Packed asserts of either form.
-fn count_packed(joined: bool, m: &[u8]) -> Counted
-    ensures { λ r. ⌜ counted r ≡ tallied length (assertsBody ipv4 (packedKind joined) (now (m .entry)) 4) ⌝ }
+fn count_packed(ipv6: bool, joined: bool, m: &[u8]) -> Counted
+    ensures { λ r. ⌜ counted r ≡ tallied length (assertsBody (familyOf ipv6) (packedKind joined) (now (m .entry)) 4) ⌝ }
 {
     let z = packed_check(m);
     let Checked::Next(first) = z else {
         return with_count(0, z);
     };
-    count_to_end(joined, true, false, m, first)
+    count_to_end(ipv6, joined, true, false, m, first)
 }
 
 // The entries of a message of asserts; 4 for the other kinds.
-pub fn count_asserts(kind: Kind, m: &[u8]) -> Counted
-    ensures { λ r. ⌜ counted r ≡ tallied length (assertsBody ipv4 kind (now (m .entry)) 4) ⌝ }
+pub fn count_asserts(ipv6: bool, kind: Kind, m: &[u8]) -> Counted
+    ensures { λ r. ⌜ counted r ≡ tallied length (assertsBody (familyOf ipv6) kind (now (m .entry)) 4) ⌝ }
 {
     match kind {
         Kind::Hello => with_count(0, bad(4, 0)),
-        Kind::Assert => count_plain(m),
-        Kind::Simple => count_packed(false, m),
-        Kind::Aggregated => count_packed(true, m),
+        Kind::Assert => count_plain(ipv6, m),
+        Kind::Simple => count_packed(ipv6, false, m),
+        Kind::Aggregated => count_packed(ipv6, true, m),
         Kind::NullRegister => with_count(0, bad(4, 0)),
         Kind::RegisterStop => with_count(0, bad(4, 0)),
     }
 }
 
 // Pairs, one at least, whose source may be 0 or not.
-fn count_register(zero_allowed: bool, m: &[u8]) -> Counted
-    ensures { λ r. ⌜ counted r ≡ tallied length (records (pairRecord ipv4 «zero_allowed») (now (m .entry)) 4) ⌝ }
+fn count_register(ipv6: bool, zero_allowed: bool, m: &[u8]) -> Counted
+    ensures { λ r. ⌜ counted r ≡ tallied length (records (pairRecord (familyOf ipv6) «zero_allowed») (now (m .entry)) 4) ⌝ }
 {
     if m.len() <= 4 {
         return with_count(0, bad(5, 4));
     }
-    count_to_end(false, false, zero_allowed, m, 4)
+    count_to_end(ipv6, false, false, zero_allowed, m, 4)
 }
 
 // The entries of a message of pairs; 4 for the other kinds.
-pub fn count_pairs(kind: Kind, m: &[u8]) -> Counted
-    ensures { λ r. ⌜ counted r ≡ tallied length (pairsBody ipv4 kind (now (m .entry)) 4) ⌝ }
+pub fn count_pairs(ipv6: bool, kind: Kind, m: &[u8]) -> Counted
+    ensures { λ r. ⌜ counted r ≡ tallied length (pairsBody (familyOf ipv6) kind (now (m .entry)) 4) ⌝ }
 {
     match kind {
         Kind::Hello => with_count(0, bad(4, 0)),
         Kind::Assert => with_count(0, bad(4, 0)),
         Kind::Simple => with_count(0, bad(4, 0)),
         Kind::Aggregated => with_count(0, bad(4, 0)),
-        Kind::NullRegister => count_register(false, m),
-        Kind::RegisterStop => count_register(true, m),
+        Kind::NullRegister => count_register(ipv6, false, m),
+        Kind::RegisterStop => count_register(ipv6, true, m),
     }
 }

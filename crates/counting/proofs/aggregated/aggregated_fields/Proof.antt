@@ -1,19 +1,15 @@
 -- `counting::aggregated::aggregated_fields` meets its contract: the number of entries does not depend on preference and metric.
 -- Assumes nothing.
-use Prim.Native.Nat.{ℕ, _+_, _≤_}
-use native.Mathlib.Omega.{arith}
+use Prim.Native.Nat.{ℕ}
 use mathlib.Core.Path.{_≡_, refl, sym, ap, _∙_}
 use mathlib.Core.Bool.{Bool, true, false, cond}
 use denote.Ref.{now}
-use lib.ListN.{length}
 use Rattle.records.specs.Records.{rBit}
 use Rattle.format.specs.Reader.{Read, _>>=_, number}
-use Rattle.format.specs.Family.{ipv4}
+use Rattle.format.specs.Family.{familyOf}
 use Rattle.format.specs.Record.{sourceAggregated, rpAggregated, aggregatedFields}
 use Rattle.octets.specs.Octets.{numberAt}
-use Rattle.octets.proofs.Laws.{number-cut}
 use Rattle.counting.specs.Counts.{tallied, recordCount}
-use Rattle.fields.proofs.Fields.{octets-room}
 use Rattle.counting.proofs.Tallied.{tallies-bad, tallies-number, checks-number, either-alike}
 use borrow.Author.Needs.{needs}
 use Rattle.counting.proofs.aggregated.aggregated_fields.Statement.{statement}
@@ -34,10 +30,10 @@ start c = c .before .before .before .before .before
 -- past R with preference
 afterWord : (c : tie.After-known-told) {y : Read ℕ}
     → y ≡ tallied recordCount ((number 4 >>= (λ x. cond (rBit (numberAt 4 (now (start c .args .m)) (start c .args .at)))
-    (rpAggregated ipv4 (numberAt 4 (now (start c .args .m)) (start c .args .at)) x)
-    (sourceAggregated ipv4 (numberAt 4 (now (start c .args .m)) (start c .args .at)) x)))
+    (rpAggregated (familyOf (start c .args .ipv6)) (numberAt 4 (now (start c .args .m)) (start c .args .at)) x)
+    (sourceAggregated (familyOf (start c .args .ipv6)) (numberAt 4 (now (start c .args .m)) (start c .args .at)) x)))
     (now (start c .args .m)) (c .before .v .given .0 .0))
-    → y ≡ tallied recordCount (aggregatedFields ipv4 (now (start c .args .m)) (start c .args .at))
+    → y ≡ tallied recordCount (aggregatedFields (familyOf (start c .args .ipv6)) (now (start c .args .m)) (start c .args .at))
 unfolding aggregatedFields _>>=_
 afterWord c next =
     let a = start c .args in
@@ -53,16 +49,10 @@ returns-2 c =
     (checks-number 4 (now (a .m)) (d .before .v .given .0 .0) (c .before .before .before .octets-check2 .ensures))
     (c .with-count2 .ensures))
 
--- the word is there
-found : (c : tie.After-known-told) → start c .args .at + 4 ≤ length (now (start c .args .m))
-found c =
-    let a = start c .args in
-    octets-room 4 (now (a .m)) (a .at) (c .before .v .given .1) (c .before .before .before .octets-check .ensures) .0
-
 -- past the metric, by R
 byR : (c : tie.After-known-told2) {y : Read ℕ} (r : Bool) → rBit (numberAt 4 (now (start (c .before .before .before .before) .args .m)) (start (c .before .before .before .before) .args .at)) ≡ r
-    → y ≡ tallied recordCount (cond r (rpAggregated ipv4 0 0) (sourceAggregated ipv4 0 0) (now (start (c .before .before .before .before) .args .m)) (c .before .x .given .0 .0))
-    → y ≡ tallied recordCount (aggregatedFields ipv4 (now (start (c .before .before .before .before) .args .m)) (start (c .before .before .before .before) .args .at))
+    → y ≡ tallied recordCount (cond r (rpAggregated (familyOf (start (c .before .before .before .before) .args .ipv6)) 0 0) (sourceAggregated (familyOf (start (c .before .before .before .before) .args .ipv6)) 0 0) (now (start (c .before .before .before .before) .args .m)) (c .before .x .given .0 .0))
+    → y ≡ tallied recordCount (aggregatedFields (familyOf (start (c .before .before .before .before) .args .ipv6)) (now (start (c .before .before .before .before) .args .m)) (start (c .before .before .before .before) .args .at))
 unfolding _>>=_
 byR c r test next =
     let d = c .before .before .before .before in
@@ -71,20 +61,11 @@ byR c r test next =
     let x = numberAt 4 (now (a .m)) (d .before .v .given .0 .0) in
     afterWord d
     (tallies-number recordCount 4 (now (a .m)) (d .before .v .given .0 .0) _ (c .before .x .given .1) (c .before .before .before .octets-check2 .ensures) refl
-    (next ∙ either-alike r v x (now (a .m)) (c .before .x .given .0 .0) ∙ rw (test)))
-
-add-r-bit : tie.Need-add-r-bit
-add-r-bit c = omega (arith, found (c .before .before .before .before))
-
-part-r-bit-end : tie.Need-part-r-bit-end
-part-r-bit-end c = found (c .before .before .before .before)
+    (next ∙ either-alike (familyOf (a .ipv6)) r v x (now (a .m)) (c .before .x .given .0 .0) ∙ rw (test)))
 
 -- R as code has read it is that of the word
 bit-is : (c : tie.After-r-bit) → rBit (numberAt 4 (now (start (c .before .before .before .before .before .before) .args .m)) (start (c .before .before .before .before .before .before) .args .at)) ≡ c .r-bit .result
-bit-is c =
-    let d = c .before .before .before .before .before .before in
-    let a = start d .args in
-    sym (c .r-bit .ensures ∙ ap rBit (number-cut 4 (now (a .m)) (a .at) (a .at + 4) refl (found d)))
+bit-is c = sym (c .r-bit .ensures ∙ ap rBit (c .before .number32 .ensures))
 
 returns-3 : tie.Need-returns-3
 returns-3 c = byR (c .before .before .before .before) true (bit-is (c .before .before) ∙ c .before .if1 .taken) (c .rp-aggregated .ensures)
@@ -106,10 +87,7 @@ aggregated-fields-spec =
     (λ c. search needs)
     (λ c κs. search needs)
     returns-2
-    add-r-bit
-    (λ c. search needs)
-    (λ c. search needs)
-    part-r-bit-end
+    (λ c κs. search needs)
     (λ c κs. search needs)
     (λ c κs. search needs)
     returns-3

@@ -2,7 +2,7 @@
 -- Assumes nothing.
 use denote.Ref.{now}
 use Rattle.format.specs.Reader.{inRecord}
-use Rattle.format.specs.Family.{ipv4}
+use Rattle.format.specs.Family.{familyOf}
 use Rattle.format.specs.Record.{aggregatedFields, aggregatedRecord}
 use Rattle.counting.specs.Counts.{recordCount}
 use Rattle.counting.proofs.Tallied.{handed-all, handed-bad}
@@ -14,14 +14,14 @@ returns : tie.Need-returns
 unfolding aggregatedRecord inRecord
 returns c =
     let a = c .before .before .before .before .args in
-    handed-all recordCount (a .at) (aggregatedFields ipv4 (now (a .m)) (a .at)) (c .enum-told .given .1) (c .before .before .aggregated-fields .ensures)
+    handed-all recordCount (a .at) (aggregatedFields (familyOf (a .ipv6)) (now (a .m)) (a .at)) (c .enum-told .given .1) (c .before .before .aggregated-fields .ensures)
 
 returns-2 : tie.Need-returns-2
 unfolding aggregatedRecord inRecord
 returns-2 c =
     let d = c .before .before .before in
     let a = d .before .before .before .before .args in
-    handed-bad recordCount (a .at) (aggregatedFields ipv4 (now (a .m)) (a .at)) (d .c .given .1) (d .before .before .aggregated-fields .ensures) (c .before .in-record .ensures) (c .with-count .ensures)
+    handed-bad recordCount (a .at) (aggregatedFields (familyOf (a .ipv6)) (now (a .m)) (a .at)) (d .c .given .1) (d .before .before .aggregated-fields .ensures) (c .before .in-record .ensures) (c .with-count .ensures)
 
 pub aggregated-record-spec : {M : Type 1} → statement M
 aggregated-record-spec =

@@ -8,11 +8,12 @@ use lib.ListN.{length}
 use denote.Ref.{now}
 use Rattle.records.specs.Records.{ofGroup}
 use Rattle.format.specs.Reader.{Read, _>>=_, _>>_, give, octets, number, times}
-use Rattle.format.specs.Family.{ipv4}
+use Rattle.format.specs.Family.{familyOf}
 use Rattle.format.specs.Address.{groupField, sourceField}
 use Rattle.format.specs.Record.{groupRecord}
 use Rattle.fields.specs.Answers.{checked}
-use Rattle.counting.specs.Counts.{tallied, groupCount, addressField}
+use Rattle.counting.specs.Counts.{tallied, groupCount}
+use Rattle.fields.specs.Encoded.{addressField}
 use Rattle.counting.proofs.Tallied.{tallies-bad, tallies-on, tallies-number, tallied-last, checks-number, times-length, group-none, group-some}
 use borrow.Author.Needs.{needs}
 use Rattle.counting.proofs.aggregated.group_record.Statement.{statement}
@@ -22,7 +23,7 @@ returns : tie.Need-returns
 unfolding groupRecord _>>=_
 returns c =
     let a = c .before .before .before .before .before .args in
-    tallies-bad groupCount (groupField ipv4 (now (a .m)) (a .at)) _ (c .before .enum-told .given .1) (c .before .before .before .group-check .ensures) (c .with-count .ensures)
+    tallies-bad groupCount (groupField (familyOf (a .ipv6)) (now (a .m)) (a .at)) _ (c .before .enum-told .given .1) (c .before .before .before .group-check .ensures) (c .with-count .ensures)
 
 -- where the function begins
 abbrev start : tie.After-known-told → tie.Start
@@ -31,13 +32,13 @@ start c = c .before .before .before .before .before
 -- past the group
 afterGroup : (c : tie.After-known-told) {y : Read ℕ}
     → ((g : ℕ)
-    → y ≡ tallied groupCount ((number 2 >>= (λ p. octets 2 >> (times p (sourceField ipv4 true) >>= (λ ss. give (ofGroup g ss)))))
+    → y ≡ tallied groupCount ((number 2 >>= (λ p. octets 2 >> (times p (sourceField (familyOf (start c .args .ipv6)) true) >>= (λ ss. give (ofGroup g ss)))))
     (now (start c .args .m)) (c .before .g .given .0 .0)))
-    → y ≡ tallied groupCount (groupRecord ipv4 (now (start c .args .m)) (start c .args .at))
+    → y ≡ tallied groupCount (groupRecord (familyOf (start c .args .ipv6)) (now (start c .args .m)) (start c .args .at))
 unfolding groupRecord _>>=_
 afterGroup c next =
     let a = start c .args in
-    tallies-on groupCount (groupField ipv4 (now (a .m)) (a .at)) _ (c .before .g .given .1) (c .before .before .before .group-check .ensures) (λ g e. next g)
+    tallies-on groupCount (groupField (familyOf (a .ipv6)) (now (a .m)) (a .at)) _ (c .before .g .given .1) (c .before .before .before .group-check .ensures) (λ g e. next g)
 
 returns-2 : tie.Need-returns-2
 unfolding _>>=_
@@ -52,9 +53,9 @@ returns-2 c =
 -- past the number of sources
 afterCount : (c : tie.After-number16) {y : Read ℕ}
     → ((g : ℕ)
-    → y ≡ tallied groupCount ((octets 2 >> (times (c .number16 .result) (sourceField ipv4 true) >>= (λ ss. give (ofGroup g ss))))
+    → y ≡ tallied groupCount ((octets 2 >> (times (c .number16 .result) (sourceField (familyOf (start (c .before .before .before .before .before) .args .ipv6)) true) >>= (λ ss. give (ofGroup g ss))))
     (now (start (c .before .before .before .before .before) .args .m)) (c .before .before .f .given .0 .0)))
-    → y ≡ tallied groupCount (groupRecord ipv4 (now (start (c .before .before .before .before .before) .args .m))
+    → y ≡ tallied groupCount (groupRecord (familyOf (start (c .before .before .before .before .before) .args .ipv6)) (now (start (c .before .before .before .before .before) .args .m))
     (start (c .before .before .before .before .before) .args .at))
 unfolding _>>=_
 afterCount c next =
@@ -79,7 +80,7 @@ returns-3 c =
 -- past the octets that are ignored: so many entries if there are so many sources
 sources : (c : tie.After-addresses-check) {y : Read ℕ} (e : ℕ) → ((g : ℕ) (ss : List ℕ) → length ss ≡ c .before .before .before .before .before .number16 .result → groupCount (ofGroup g ss) ≡ e)
     → y ≡ tallied (λ u. e) (checked (c .addresses-check .result))
-    → y ≡ tallied groupCount (groupRecord ipv4 (now (start (c .before .before .before .before .before .before .before .before .before .before) .args .m))
+    → y ≡ tallied groupCount (groupRecord (familyOf (start (c .before .before .before .before .before .before .before .before .before .before) .args .ipv6)) (now (start (c .before .before .before .before .before .before .before .before .before .before) .args .m))
     (start (c .before .before .before .before .before .before .before .before .before .before) .args .at))
 unfolding _>>_ _>>=_ give addressField
 sources c e count w =
@@ -90,8 +91,8 @@ sources c e count w =
     tallies-on groupCount (octets 2 (now (a .m)) (d .before .before .f .given .0 .0)) _ (r .before .r .given .1) (r .before .before .before .octets-check2 .ensures) (λ x h.
     w
     ∙ ap (tallied (λ u. e)) (c .addresses-check .ensures)
-    ∙ tallied-last groupCount (ofGroup g) (times (d .number16 .result) (sourceField ipv4 true) (now (a .m)) (r .before .r .given .0 .0)) e
-    (λ ss n got. count g ss (times-length (d .number16 .result) (sourceField ipv4 true) (now (a .m)) (r .before .r .given .0 .0) got))))
+    ∙ tallied-last groupCount (ofGroup g) (times (d .number16 .result) (sourceField (familyOf (a .ipv6)) true) (now (a .m)) (r .before .r .given .0 .0)) e
+    (λ ss n got. count g ss (times-length (d .number16 .result) (sourceField (familyOf (a .ipv6)) true) (now (a .m)) (r .before .r .given .0 .0) got))))
 
 returns-4 : tie.Need-returns-4
 returns-4 c =

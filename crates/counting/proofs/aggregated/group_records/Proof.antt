@@ -7,7 +7,7 @@ use mathlib.Core.Path.{_≡_, _∙_}
 use denote.Ref.{now}
 use borrow.Author.Needs.{needs}
 use Rattle.format.specs.Reader.{times}
-use Rattle.format.specs.Family.{ipv4}
+use Rattle.format.specs.Family.{familyOf}
 use Rattle.format.specs.Record.{groupRecord}
 use Rattle.counting.specs.Counts.{counted, tallied, groupCount, groupsCount}
 use Rattle.counting.proofs.Tallied.{counts-next, tally-start, tally-bad, tally-on, tally-end, groups-none, groups-more, group-room}
@@ -15,24 +15,24 @@ use Rattle.counting.proofs.aggregated.group_records.Statement.{statemen
 use Rattle.counting.proofs.aggregated.group_records.Tie as tie
 
 abbrev Inv-loop : tie.InvT-loop
-Inv-loop m from n at₀ total₀ i₀ at total i =
+Inv-loop ipv6 m from n at₀ total₀ i₀ at total i =
     (i ≤ n)
     × ((total ≤ at)
-    × (tallied (λ l. total + groupsCount l) (times (n - i) (groupRecord ipv4) m at) ≡ tallied groupsCount (times n (groupRecord ipv4) m from)))
+    × (tallied (λ l. total + groupsCount l) (times (n - i) (groupRecord (familyOf ipv6)) m at) ≡ tallied groupsCount (times n (groupRecord (familyOf ipv6)) m from)))
 
 abbrev μ-loop : tie.MeasureT-loop
-μ-loop m from n at₀ total₀ i₀ at total i = n - i
+μ-loop ipv6 m from n at₀ total₀ i₀ at total i = n - i
 
 loop-holds : tie.Need-loop-holds Inv-loop μ-loop
 loop-holds c =
     let a = c .before .args in
-    (omega arith, (omega arith, rw sub-zero (tally-start groupsCount (times (a .n) (groupRecord ipv4) (now (a .m)) (a .from)))))
+    (omega arith, (omega arith, rw sub-zero (tally-start groupsCount (times (a .n) (groupRecord (familyOf (a .ipv6))) (now (a .m)) (a .from)))))
 
 returns : tie.Need-returns Inv-loop μ-loop
 returns c =
     let l = c .before .before .before .before in
     let a = l .before .before .args in
-    tally-bad groupCount groupsCount groups-none groups-more (groupRecord ipv4) (now (a .m)) (l .loop .at) (l .loop .total) (a .n) (l .loop .i)
+    tally-bad groupCount groupsCount groups-none groups-more (groupRecord (familyOf (a .ipv6))) (now (a .m)) (l .loop .at) (l .loop .total) (a .n) (l .loop .i)
     (c .before .before .before .loop-test .taken)
     (c .enum-told .given .1)
     (c .before .before .group-record .ensures)
@@ -43,8 +43,8 @@ room : (c : tie.After-known-told Inv-loop μ-loop) → c .before .c .given .0 .0
 room c =
     let l = c .before .before .before .before .before in
     let a = l .before .before .args in
-    counts-next groupCount (groupRecord ipv4 (now (a .m)) (l .loop .at)) (c .before .c .given .1) (c .before .before .before .group-record .ensures) (λ r e s.
-    omega (arith, group-room (now (a .m)) (l .loop .at) e))
+    counts-next groupCount (groupRecord (familyOf (a .ipv6)) (now (a .m)) (l .loop .at)) (c .before .c .given .1) (c .before .before .before .group-record .ensures) (λ r e s.
+    omega (arith, group-room (familyOf (a .ipv6)) (now (a .m)) (l .loop .at) e))
 
 add-total : tie.Need-add-total Inv-loop μ-loop
 add-total c = omega (arith, room c)
@@ -56,7 +56,7 @@ loop-again c =
       omega arith,
       (
         omega (arith, room c),
-        tally-on groupCount groupsCount groups-none groups-more (groupRecord ipv4) (now (a .m)) (l .loop .at) (l .loop .total) (a .n) (l .loop .i)
+        tally-on groupCount groupsCount groups-none groups-more (groupRecord (familyOf (a .ipv6))) (now (a .m)) (l .loop .at) (l .loop .total) (a .n) (l .loop .i)
             (c .before .before .before .before .loop-test .taken)
             (c .before .c .given .1)
             (c .before .before .before .group-record .ensures)
@@ -69,7 +69,7 @@ unfolding counted
 returns-2 c =
     let l = c .before in
     let a = l .before .before .args in
-    tally-end groupCount groupsCount groups-none groups-more (groupRecord ipv4) (now (a .m)) (l .loop .at) (l .loop .total) (a .n) (l .loop .i) (c .loop-test .left)
+    tally-end groupCount groupsCount groups-none groups-more (groupRecord (familyOf (a .ipv6))) (now (a .m)) (l .loop .at) (l .loop .total) (a .n) (l .loop .i) (c .loop-test .left)
     ∙ l .loop .inv .1 .1
 
 pub group-records-spec : {M : Type 1} → statement M

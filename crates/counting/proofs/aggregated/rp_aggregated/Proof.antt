@@ -5,7 +5,7 @@ use mathlib.Core.Path.{_≡_, _∙_}
 use denote.Ref.{now}
 use Rattle.records.specs.Records.{ofRp}
 use Rattle.format.specs.Reader.{Read, _>>=_, _>>_, give, octets, times}
-use Rattle.format.specs.Family.{ipv4}
+use Rattle.format.specs.Family.{familyOf}
 use Rattle.format.specs.Record.{positive, groupRecord, rpAggregated}
 use Rattle.counting.specs.Counts.{tallied, groupsCount, recordCount}
 use Rattle.counting.proofs.Tallied.{tallies-bad, tallies-on, tallies-positive, tallied-value, record-rp}
@@ -25,9 +25,9 @@ start c = c .before .before .before .before .before
 
 -- past the number of group records
 afterCount : (c : tie.After-number16) {y : Read ℕ}
-    → y ≡ tallied recordCount ((octets 2 >> (times (c .number16 .result) (groupRecord ipv4) >>= (λ rs. give (ofRp 0 0 rs))))
+    → y ≡ tallied recordCount ((octets 2 >> (times (c .number16 .result) (groupRecord (familyOf (start (c .before) .args .ipv6))) >>= (λ rs. give (ofRp 0 0 rs))))
     (now (start (c .before) .args .m)) (c .before .before .c .given .0 .0))
-    → y ≡ tallied recordCount (rpAggregated ipv4 0 0 (now (start (c .before) .args .m)) (start (c .before) .args .at))
+    → y ≡ tallied recordCount (rpAggregated (familyOf (start (c .before) .args .ipv6)) 0 0 (now (start (c .before) .args .m)) (start (c .before) .args .at))
 unfolding rpAggregated _>>=_
 afterCount c next =
     let a = start (c .before) .args in
@@ -50,7 +50,7 @@ returns-3 c =
     afterCount d
     (tallies-on recordCount (octets 2 (now (a .m)) (d .before .before .c .given .0 .0)) _ (r .before .r .given .1) (r .before .before .before .octets-check .ensures) (λ x h.
     c .group-records .ensures
-    ∙ tallied-value groupsCount recordCount (ofRp 0 0) (record-rp 0 0) (times (d .number16 .result) (groupRecord ipv4) (now (a .m)) (r .before .r .given .0 .0))))
+    ∙ tallied-value groupsCount recordCount (ofRp 0 0) (record-rp 0 0) (times (d .number16 .result) (groupRecord (familyOf (a .ipv6))) (now (a .m)) (r .before .r .given .0 .0))))
 
 pub rp-aggregated-spec : {M : Type 1} → statement M
 rp-aggregated-spec =

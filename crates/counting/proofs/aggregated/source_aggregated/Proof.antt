@@ -6,10 +6,11 @@ use mathlib.Core.Bool.{false}
 use denote.Ref.{now}
 use Rattle.records.specs.Records.{ofSource}
 use Rattle.format.specs.Reader.{Read, _>>=_, _>>_, give, octets, times}
-use Rattle.format.specs.Family.{ipv4}
+use Rattle.format.specs.Family.{familyOf}
 use Rattle.format.specs.Address.{groupField, sourceField}
 use Rattle.format.specs.Record.{positive, sourceAggregated}
-use Rattle.counting.specs.Counts.{tallied, recordCount, addressField}
+use Rattle.counting.specs.Counts.{tallied, recordCount}
+use Rattle.fields.specs.Encoded.{addressField}
 use Rattle.counting.proofs.Tallied.{tallies-bad, tallies-on, tallies-positive, tallied-last, times-length, record-source}
 use borrow.Author.Needs.{needs}
 use Rattle.counting.proofs.aggregated.source_aggregated.Statement.{statement}
@@ -19,7 +20,7 @@ returns : tie.Need-returns
 unfolding sourceAggregated _>>=_
 returns c =
     let a = c .before .before .before .before .before .args in
-    tallies-bad recordCount (sourceField ipv4 false (now (a .m)) (a .at)) _ (c .before .enum-told .given .1) (c .before .before .before .source-check .ensures) (c .with-count .ensures)
+    tallies-bad recordCount (sourceField (familyOf (a .ipv6)) false (now (a .m)) (a .at)) _ (c .before .enum-told .given .1) (c .before .before .before .source-check .ensures) (c .with-count .ensures)
 
 -- where the function begins
 abbrev start : tie.After-known-told → tie.Start
@@ -28,13 +29,13 @@ start c = c .before .before .before .before .before
 -- past the source
 afterSource : (c : tie.After-known-told) {y : Read ℕ}
     → ((s : ℕ)
-    → y ≡ tallied recordCount ((positive >>= (λ n. octets 2 >> (times n (groupField ipv4) >>= (λ gs. give (ofSource 0 0 s gs)))))
+    → y ≡ tallied recordCount ((positive >>= (λ n. octets 2 >> (times n (groupField (familyOf (start c .args .ipv6))) >>= (λ gs. give (ofSource 0 0 s gs)))))
     (now (start c .args .m)) (c .before .s .given .0 .0)))
-    → y ≡ tallied recordCount (sourceAggregated ipv4 0 0 (now (start c .args .m)) (start c .args .at))
+    → y ≡ tallied recordCount (sourceAggregated (familyOf (start c .args .ipv6)) 0 0 (now (start c .args .m)) (start c .args .at))
 unfolding sourceAggregated _>>=_
 afterSource c next =
     let a = start c .args in
-    tallies-on recordCount (sourceField ipv4 false (now (a .m)) (a .at)) _ (c .before .s .given .1) (c .before .before .before .source-check .ensures) (λ s e. next s)
+    tallies-on recordCount (sourceField (familyOf (a .ipv6)) false (now (a .m)) (a .at)) _ (c .before .s .given .1) (c .before .before .before .source-check .ensures) (λ s e. next s)
 
 returns-2 : tie.Need-returns-2
 unfolding _>>=_
@@ -49,9 +50,9 @@ returns-2 c =
 -- past the number of groups
 afterCount : (c : tie.After-number16) {y : Read ℕ}
     → ((s : ℕ)
-    → y ≡ tallied recordCount ((octets 2 >> (times (c .number16 .result) (groupField ipv4) >>= (λ gs. give (ofSource 0 0 s gs))))
+    → y ≡ tallied recordCount ((octets 2 >> (times (c .number16 .result) (groupField (familyOf (start (c .before .before .before .before .before) .args .ipv6))) >>= (λ gs. give (ofSource 0 0 s gs))))
     (now (start (c .before .before .before .before .before) .args .m)) (c .before .before .c .given .0 .0)))
-    → y ≡ tallied recordCount (sourceAggregated ipv4 0 0 (now (start (c .before .before .before .before .before) .args .m))
+    → y ≡ tallied recordCount (sourceAggregated (familyOf (start (c .before .before .before .before .before) .args .ipv6)) 0 0 (now (start (c .before .before .before .before .before) .args .m))
     (start (c .before .before .before .before .before) .args .at))
 unfolding _>>=_
 afterCount c next =
@@ -84,8 +85,8 @@ returns-4 c =
     tallies-on recordCount (octets 2 (now (a .m)) (d .before .before .c .given .0 .0)) _ (r .before .r .given .1) (r .before .before .before .octets-check .ensures) (λ x h.
     c .with-count4 .ensures
     ∙ ap (tallied (λ u. n)) (c .before .addresses-check .ensures)
-    ∙ tallied-last recordCount (ofSource 0 0 s) (times n (groupField ipv4) (now (a .m)) (r .before .r .given .0 .0)) n
-    (λ gs k got. record-source 0 0 s gs ∙ times-length n (groupField ipv4) (now (a .m)) (r .before .r .given .0 .0) got)))
+    ∙ tallied-last recordCount (ofSource 0 0 s) (times n (groupField (familyOf (a .ipv6))) (now (a .m)) (r .before .r .given .0 .0)) n
+    (λ gs k got. record-source 0 0 s gs ∙ times-length n (groupField (familyOf (a .ipv6))) (now (a .m)) (r .before .r .given .0 .0) got)))
 
 pub source-aggregated-spec : {M : Type 1} → statement M
 source-aggregated-spec =

@@ -2,6 +2,7 @@
 -- Assumes nothing.
 use denote.Ref.{now}
 use borrow.Author.Needs.{needs}
+use Rattle.format.specs.Family.{familyOf}
 use mathlib.Core.Path.{ap, _∙_}
 use Rattle.fields.specs.Answers.{checked}
 use Rattle.counting.specs.Counts.{counted, tallied}
@@ -10,18 +11,18 @@ use Rattle.counting.proofs.entries.count_plain.Statement.{statement}
 use Rattle.counting.proofs.entries.count_plain.Tie as tie
 
 returns : tie.Need-returns
-returns c = plain-bad (now (c .before .before .before .before .before .args .m)) (c .before .enum-told .given .1) (c .before .before .before .assert-check .ensures) (c .with-count .ensures)
+returns c = plain-bad (familyOf (c .before .before .before .before .before .args .ipv6)) (now (c .before .before .before .before .before .args .m)) (c .before .enum-told .given .1) (c .before .before .before .assert-check .ensures) (c .with-count .ensures)
 
 returns-2 : tie.Need-returns-2
 unfolding checked tallied
 returns-2 c =
     c .with-count2 .ensures
     ∙ ap (λ x. tallied (λ u. 0) (checked x)) (c .before .bad .ensures)
-    ∙ plain-more (now (c .before .before .before .before .before .before .before .before .args .m)) (c .before .before .before .before .c .given .1) (c .before .before .before .before .before .before .assert-check .ensures) (c .before .before .if1 .taken)
+    ∙ plain-more (familyOf (c .before .before .before .before .before .before .before .before .args .ipv6)) (now (c .before .before .before .before .before .before .before .before .args .m)) (c .before .before .before .before .c .given .1) (c .before .before .before .before .before .before .assert-check .ensures) (c .before .before .if1 .taken)
 
 returns-3 : tie.Need-returns-3
 unfolding counted
-returns-3 c = plain-end (now (c .before .before .before .before .before .before .args .m)) (c .before .before .c .given .1) (c .before .before .before .before .assert-check .ensures) (c .if1 .left)
+returns-3 c = plain-end (familyOf (c .before .before .before .before .before .before .args .ipv6)) (now (c .before .before .before .before .before .before .args .m)) (c .before .before .c .given .1) (c .before .before .before .before .assert-check .ensures) (c .if1 .left)
 
 pub count-plain-spec : {M : Type 1} → statement M
 count-plain-spec =

@@ -5,7 +5,7 @@ use denote.Ref.{now}
 use borrow.Author.Needs.{needs}
 use mathlib.Core.Path.{sym, ap, _∙_}
 use lib.ListN.{length}
-use Rattle.format.specs.Family.{ipv4}
+use Rattle.format.specs.Family.{familyOf}
 use Rattle.format.specs.Record.{pairRecord}
 use Rattle.fields.specs.Answers.{checked}
 use Rattle.counting.specs.Counts.{tallied}
@@ -19,14 +19,14 @@ returns c =
     let a = c .before .before .before .before .args in
     c .with-count .ensures
     ∙ ap (λ x. tallied (λ u. 0) (checked x)) (c .before .bad .ensures)
-    ∙ sym (ap (tallied length) (records-none-left (pairRecord ipv4 (a .zero-allowed)) (now (a .m)) 4 (omega arith)))
+    ∙ sym (ap (tallied length) (records-none-left (pairRecord (familyOf (a .ipv6)) (a .zero-allowed)) (now (a .m)) 4 (omega arith)))
 
 returns-2 : tie.Need-returns-2
 returns-2 c =
     let a = c .before .before .before .args in
     c .count-to-end .ensures
-    ∙ count-pairs (a .zero-allowed) (now (a .m)) (length (now (a .m))) 4
-    ∙ sym (ap (tallied length) (records-left (pairRecord ipv4 (a .zero-allowed)) (now (a .m)) 4 (omega arith)))
+    ∙ count-pairs (familyOf (a .ipv6)) (a .zero-allowed) (now (a .m)) (length (now (a .m))) 4
+    ∙ sym (ap (tallied length) (records-left (pairRecord (familyOf (a .ipv6)) (a .zero-allowed)) (now (a .m)) 4 (omega arith)))
 
 pub count-register-spec : {M : Type 1} → statement M
 count-register-spec =

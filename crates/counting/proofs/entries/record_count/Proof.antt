@@ -3,7 +3,7 @@
 use mathlib.Core.Path.{ap, _∙_}
 use denote.Ref.{now}
 use borrow.Author.Needs.{needs}
-use Rattle.format.specs.Family.{ipv4}
+use Rattle.format.specs.Family.{familyOf}
 use Rattle.format.specs.Record.{assertRecord, pairRecord}
 use Rattle.counting.specs.Counts.{tallied, entryCount}
 use Rattle.counting.proofs.Bodies.{tallied-skipped}
@@ -20,7 +20,7 @@ returns-2 c =
     let t = c .before .before in
     let a = t .before .before .before .args in
     rw (t .before .if1 .left, t .if2 .taken)
-    (c .with-count .ensures ∙ ap (tallied (λ u. 1)) (c .before .assert-check .ensures) ∙ tallied-skipped 1 (assertRecord ipv4 (now (a .m)) (a .at)))
+    (c .with-count .ensures ∙ ap (tallied (λ u. 1)) (c .before .assert-check .ensures) ∙ tallied-skipped 1 (assertRecord (familyOf (a .ipv6)) (now (a .m)) (a .at)))
 
 returns-3 : tie.Need-returns-3
 unfolding entryCount
@@ -28,7 +28,7 @@ returns-3 c =
     let t = c .before .before in
     let a = t .before .before .before .args in
     rw (t .before .if1 .left, t .if2 .left)
-    (c .with-count2 .ensures ∙ ap (tallied (λ u. 1)) (c .before .pair-check .ensures) ∙ tallied-skipped 1 (pairRecord ipv4 (a .zero-allowed) (now (a .m)) (a .at)))
+    (c .with-count2 .ensures ∙ ap (tallied (λ u. 1)) (c .before .pair-check .ensures) ∙ tallied-skipped 1 (pairRecord (familyOf (a .ipv6)) (a .zero-allowed) (now (a .m)) (a .at)))
 
 pub record-count-spec : {M : Type 1} → statement M
 record-count-spec =

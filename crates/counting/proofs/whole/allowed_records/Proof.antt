@@ -1,89 +1,13 @@
--- `counting::whole::allowed_records` meets its contract. The loop's invariant: those so far, with those that are allowed from here on, are all of
--- them. The measure is how many that are there are left. Assumes nothing.
-use Prim.Native.Nat.{_+_, _-_, _*_, _≤_}
-use native.Mathlib.Omega.{arith}
-use mathlib.Core.Path.{_≡_, sym, ap, _∙_}
+-- `counting::whole::allowed_records` meets its contract: that of the loop, at either literal. Assumes nothing.
 use borrow.Author.Needs.{needs}
-use denote.Ref.{now}
-use lib.ListN.{length}
-use Rattle.counting.specs.Counts.{recordSize, wholeRecords, allowedRecords}
-use Rattle.counting.proofs.Formed.{allowed-first, allowed-no, allowed-on, allowed-end, whole-first, whole-there, whole-after}
 use Rattle.counting.proofs.whole.allowed_records.Statement.{statement}
 use Rattle.counting.proofs.whole.allowed_records.Tie as tie
 
-abbrev Inv-loop : tie.InvT-loop
-Inv-loop m from is-assert zero-allowed whole at₀ i₀ at i =
-    (at ≡ from + i * recordSize is-assert) × (i + allowedRecords is-assert zero-allowed (whole - i) m at ≡ allowedRecords is-assert zero-allowed whole m from)
+returns : tie.Need-returns
+returns c = rw (c .before .if1 .taken) (c .allowed-records-of .ensures)
 
-abbrev μ-loop : tie.MeasureT-loop
-μ-loop m from is-assert zero-allowed whole at₀ i₀ at i = whole - i
-
-abbrev start : tie.At-loop Inv-loop μ-loop → tie.Start Inv-loop μ-loop
-start l = l .before .before .before
-
--- the next is there
-room : (c : tie.In-loop Inv-loop μ-loop) → c .before .loop .at + recordSize (start (c .before) .args .is-assert) ≤ length (now (start (c .before) .args .m))
-room c =
-    let l = c .before in
-    let a = start l .args in
-    whole-there (a .is-assert) (now (a .m)) (a .from) (l .loop .at) (l .before .whole-records .result) (l .loop .i) (l .before .whole-records .ensures) (l .loop .inv .0) (c .loop-test .taken)
-
-loop-holds : tie.Need-loop-holds Inv-loop μ-loop
-loop-holds c =
-    let a = c .before .before .args in
-    (whole-first (a .is-assert) (a .from), allowed-first (a .is-assert) (a .zero-allowed) (now (a .m)) (a .from) (c .whole-records .result) 0)
-
-record-allowed-requires : tie.Need-record-allowed-requires Inv-loop μ-loop
-record-allowed-requires c κs = room c
-
-add-at : tie.Need-add-at Inv-loop μ-loop
-add-at c = omega (arith, room (c .before .before .before), c .record-size .ensures)
-
-loop-again : tie.Need-loop-again Inv-loop μ-loop
-loop-again c =
-    let d = c .before .before in
-    let l = d .before .before in
-    let a = start l .args in (
-      whole-after (a .is-assert) (a .from) (l .loop .at) (l .loop .i) (c .record-size .ensures) (l .loop .inv .0),
-      allowed-on (a .is-assert) (a .zero-allowed) (now (a .m)) (l .loop .at) (l .before .whole-records .result) (l .loop .i) (c .record-size .ensures) (d .before .loop-test .taken)
-          (sym (d .record-allowed .ensures) ∙ c .before .if1 .taken)
-          ∙ l .loop .inv .1,
-    )
-
--- those so far are all of them
-all : (l : tie.At-loop Inv-loop μ-loop) → l .loop .i + allowedRecords (start l .args .is-assert) (start l .args .zero-allowed) (l .before .whole-records .result - l .loop .i) (now (start l .args .m)) (l .loop .at) ≡ l .loop .i
-    → l .loop .i ≡ allowedRecords (start l .args .is-assert) (start l .args .zero-allowed) (wholeRecords (start l .args .is-assert) (now (start l .args .m)) (start l .args .from)) (now (start l .args .m)) (start l .args .from)
-all l e =
-    let a = start l .args in
-    sym e ∙ l .loop .inv .1 ∙ ap (λ w. allowedRecords (a .is-assert) (a .zero-allowed) w (now (a .m)) (a .from)) (l .before .whole-records .ensures)
-
-returns : tie.Need-returns Inv-loop μ-loop
-returns c =
-    let d = c .before in
-    let l = d .before .before in
-    let a = start l .args in
-    all l (allowed-no (a .is-assert) (a .zero-allowed) (now (a .m)) (l .loop .at) (l .before .whole-records .result) (l .loop .i) (d .before .loop-test .taken)
-    (sym (d .record-allowed .ensures) ∙ c .if1 .left))
-
-returns-2 : tie.Need-returns-2 Inv-loop μ-loop
-returns-2 c =
-    let l = c .before in
-    let a = start l .args in
-    all l (allowed-end (a .is-assert) (a .zero-allowed) (now (a .m)) (l .loop .at) (l .before .whole-records .result) (l .loop .i) (c .loop-test .left))
+returns-2 : tie.Need-returns-2
+returns-2 c = rw (c .before .if1 .left) (c .allowed-records-of2 .ensures)
 
 pub allowed-records-spec : {M : Type 1} → statement M
-allowed-records-spec =
-    tie.close
-    (tie.spec
-    Inv-loop
-    μ-loop
-    (λ c κs. search needs)
-    loop-holds
-    record-allowed-requires
-    (λ c κs. search needs)
-    add-at
-    (λ c. search needs)
-    (λ c. search needs)
-    loop-again
-    returns
-    returns-2)
+allowed-records-spec = tie.close (tie.spec (λ c κs. search needs) returns (λ c κs. search needs) returns-2)
