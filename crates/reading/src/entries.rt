@@ -52,7 +52,7 @@ pub fn read_asserts(m: &[u8], d: &mut [u8]) -> Reading
     match h {
         Headed::Refused(r) => Reading::Refused(r),
         Headed::Is(kind) => {
-            let c = count_asserts(kind, m);
+            let c = count_asserts(false, kind, m);
             match c {
                 Counted::Bad(r) => Reading::Refused(r),
                 Counted::All { entries, next: _ } => {
@@ -82,7 +82,7 @@ pub fn read_pairs(m: &[u8], d: &mut [u8]) -> Reading
     match h {
         Headed::Refused(r) => Reading::Refused(r),
         Headed::Is(kind) => {
-            let c = count_pairs(kind, m);
+            let c = count_pairs(false, kind, m);
             match c {
                 Counted::Bad(r) => Reading::Refused(r),
                 Counted::All { entries, next: _ } => {
