@@ -1,13 +1,14 @@
 -- Entries written one after another into a lent buffer, from things that stand one after another in a message.
---     put-number-next                   what is written past a number
+--     copied-past                       octets copied past those that were written
 --     put-one                           one entry, as a list of entries
 --     Left                              what is still to be written gives the whole: left-room, left-step, left-end
 --     Series, series-length             things from a place on, by the first of them: their entries and octets; of one entry each
---     Walk                              where a loop over things stands: walk-start, walk-there, walk-step
---     Turns                             the same in a loop that counts: turns-start, turns-end; in a turn the octets are there and the
---                                       entries fit (turn-there), and the next stands (turn-next)
---     asserts-series, pairs-series, addresses-series, groups-series     the things of a message
---     length-assert-entry, length-pair-entry, length-addresses, length-like     the length of an entry; the number of addresses, and of their entries
+--     Walk                              where a loop over things stands: walk-start, walk-there, walk-step; over a series with one left, the octets are
+--                                       there and the entries fit (turn-there), and the next stands (turn-next); walk-end
+--     records-series, addresses-series, groups-series     the things of a message
+--     length-entry, length-addresses, length-like     the length of an entry; the number of addresses, and of their entries
+--     entry-at, either-there, either-entry     the entry of a record by its numbers; of two addresses the one that is the group, and the one that is the source
+--     fit-inside, copied-inside         what a thing's function asks and promises, by that of what stands in it
 --     group-none, group-some, source-record-is, rp-record-is, size-least     a group record and an aggregated record, by what code tests
 --     ToEnd                             the loop over aggregated records: to-end-start, record-there, record-next, to-end-end
 -- Assumes nothing.
@@ -15,27 +16,33 @@ use Prim.Native.Nat.{ℕ, zero, suc, _+_, _-_, _*_, _≤_, _<_}
 use native.Mathlib.Nat.{mul-add, mul-suc, mul-zero}
 use native.Mathlib.Omega.{arith}
 use mathlib.Core.Path.{_≡_, refl, sym, ap, _∙_}
-use mathlib.Core.Bool.{true, false}
+use mathlib.Core.Bool.{Bool, true, false, cond}
 use mathlib.Core.List.{List, [], _∷_, _++_, map, append-nil}
-use lib.ListN.{length, length-append, length-map}
+use lib.ListN.{length, take, drop, length-append, length-map}
 use borrow.Author.Tests.{le-leb, lt-leb}
-use Rattle.octets.specs.Octets.{numberAt, put, be}
-use Rattle.octets.proofs.Laws.{put-nil, put-put, put-next, length-put, length-be}
+use borrow.Rule.Slice.PartMut.{putMid}
+use Rattle.octets.specs.Octets.{Octets, numberAt, be, put, copied}
+use Rattle.octets.proofs.Laws.{put-nil, put-put, put-next, length-put, length-be, copied-number}
 use Rattle.records.specs.Records.{rBit, AssertRecord, assert, PairRecord, ofGroup, AggregatedRecord, ofSource, ofRp, groupEntries, allGroupEntries, entries, allEntries}
 use Rattle.records.specs.Sizes.{groupRecordSize, groupRecordsSize, aggregatedSize, allSize}
-use Rattle.format.specs.Family.{ipv4}
+use Rattle.format.specs.Family.{Family}
 use Rattle.format.specs.Entry.{assertEntryOctets, pairEntryOctets}
 use Rattle.format.specs.Record.{each}
 use Rattle.format.proofs.Lengths.{each-append, length-each}
 use Rattle.fields.specs.Answers.{plainAssert, plainPair}
-use Rattle.reading.specs.Plain.{plainAsserts, plainPairs, plainAddresses, plainGroupRecord, plainGroupRecords, plainAggregated, plainRecords}
+use Rattle.reading.specs.Copied.{Fit, Copied}
+use Rattle.reading.specs.declared.copy.Places.{Places}
+use Rattle.reading.specs.Plain.{entriesFor, words, entryWith, plainEntry, plainSize, plainEntries, skip, plainAddresses, withAddress, likeEntries, plainGroupRecord, plainGroupRecords, plainAggregated, plainRecords}
 
--- ---- a number
+-- ---- octets
 
--- what is written past a number
-pub put-number-next : (k : ℕ) (d : List ℕ) (at n : ℕ) (f : List ℕ) {d′ d″ : List ℕ} {at′ : ℕ} → d′ ≡ put d at (be k n) → d″ ≡ put d′ at′ f → at′ ≡ at + k
-    → d″ ≡ put d at (be k n ++ f)
-put-number-next k d at n f p q r = put-next d at (be k n) f p q (rw length-be r)
+-- octets of a message, copied past those that were written, from a part into a part that was lent
+pub copied-past : (k : ℕ) (s d : List ℕ) (at end out past start : ℕ) (e : List ℕ) {m x : List ℕ} → Octets s → end ≡ at + k → past ≡ out + k → end ≤ length s → past ≤ length d
+    → out ≡ start + length e → m ≡ put d start e → x ≡ copied k (take (end - at) (drop at s)) (take (past - out) (drop out m))
+    → putMid out (past - out) m x ≡ put d start (e ++ be k (numberAt k s at))
+copied-past k s d at end out past start e {m} {x} octet h l there room place before copy =
+    let long : length m ≡ length d = ap length before ∙ length-put d start e (omega arith) in
+    put-next d start e (be k (numberAt k s at)) before (ap (putMid out (past - out) m) copy ∙ copied-number k s m at end out past octet h l there (rw long room)) place
 
 -- ---- entries of one size
 
@@ -97,7 +104,7 @@ pub record Walk {A : Type 0} (all : ℕ → ℕ → List A) (span : ℕ → ℕ 
   pub ends : at + span at left ≡ from + span from n
   pub written : Left enc k d₀ start (all from n) d out (all at left)
 
-walk-start : {A : Type 0} {all : ℕ → ℕ → List A} {span : ℕ → ℕ → ℕ} {enc : A → List ℕ} {k len from n : ℕ} {d : List ℕ} {start : ℕ}
+pub walk-start : {A : Type 0} {all : ℕ → ℕ → List A} {span : ℕ → ℕ → ℕ} {enc : A → List ℕ} {k len from n : ℕ} {d : List ℕ} {start : ℕ}
     → ((a : A) → length (enc a) ≡ k) → from + span from n ≤ len → start + k * length (all from n) ≤ length d
     → Walk all span enc k len from n d start d from start n
 walk-start sized there room =
@@ -117,187 +124,193 @@ module _ {A : Type 0} {all : ℕ → ℕ → List A} {span : ℕ → ℕ → ℕ
         written = left-step (w .written) es more p r;
       })
 
--- the same in a loop that counts
-pub record Turns {A : Type 0} (all : ℕ → ℕ → List A) (span : ℕ → ℕ → ℕ) (enc : A → List ℕ) (k len from n : ℕ) (d₀ : List ℕ) (start : ℕ) (d : List ℕ) (i at out : ℕ) : Type 0 where
-  pub left : ℕ
-  pub count : i + left ≡ n
-  pub walk : Walk all span enc k len from n d₀ start d at out left
+-- the same over a series
+module _ {A : Type 0} {entries : ℕ → List A} {size : ℕ → ℕ} {all : ℕ → ℕ → List A} {span : ℕ → ℕ → ℕ} (s : Series entries size all span) {enc : A → List ℕ} {k len from n : ℕ} {d₀ : List ℕ} {start : ℕ} {d : List ℕ} {at out : ℕ} where
+  pub turn-there : {left : ℕ} → Walk all span enc k len from n d₀ start d at out left → 0 < left → (at + size at ≤ len) × (out + k * length (entries at) ≤ length d)
+  turn-there {left = zero} w h = absurd (omega arith)
+  turn-there {left = suc left} w h = walk-there w (entries at) (size at) left (s .more at left) (s .further at left)
 
-pub turns-start : {A : Type 0} {all : ℕ → ℕ → List A} {span : ℕ → ℕ → ℕ} {enc : A → List ℕ} {k len from n : ℕ} {d : List ℕ} {start : ℕ}
-    → ((a : A) → length (enc a) ≡ k) → from + span from n ≤ len → start + k * length (all from n) ≤ length d
-    → Turns all span enc k len from n d start d 0 from start
-turns-start {n = n} sized there room = record { left = n; count = omega arith; walk = walk-start sized there room }
+  pub turn-next : {left left′ : ℕ} {d′ : List ℕ} {at′ out′ : ℕ} → Walk all span enc k len from n d₀ start d at out left → left ≡ suc left′
+      → d′ ≡ put d out (each enc (entries at)) → at′ ≡ at + size at → out′ ≡ out + k * length (entries at)
+      → Walk all span enc k len from n d₀ start d′ at′ out′ left′
+  turn-next {left′ = left} w h p q r = walk-step (rw h at w) (entries at) (size at) left (s .more at left) (s .further at left) p q r
 
-module _ {A : Type 0} {entries : ℕ → List A} {size : ℕ → ℕ} {all : ℕ → ℕ → List A} {span : ℕ → ℕ → ℕ} (s : Series entries size all span) {enc : A → List ℕ} {k len from n : ℕ} {d₀ : List ℕ} {start : ℕ} {d : List ℕ} {i at out : ℕ} (t : Turns all span enc k len from n d₀ start d i at out) where
-  pub turn-there : i < n → (at + size at ≤ len) × (out + k * length (entries at) ≤ length d)
-  turn-there h = go (t .left) (t .count) (t .walk)
-    where
-      go : (left : ℕ) → i + left ≡ n → Walk all span enc k len from n d₀ start d at out left → (at + size at ≤ len) × (out + k * length (entries at) ≤ length d)
-      go zero e w = absurd (omega arith)
-      go (suc left) e w = walk-there w (entries at) (size at) left (s .more at left) (s .further at left)
-
-  pub turn-next : {d′ : List ℕ} {i′ at′ out′ : ℕ} → i < n → d′ ≡ put d out (each enc (entries at)) → i′ ≡ i + 1 → at′ ≡ at + size at → out′ ≡ out + k * length (entries at)
-      → Turns all span enc k len from n d₀ start d′ i′ at′ out′
-  turn-next {d′} {i′} {at′} {out′} h p u q r = go (t .left) (t .count) (t .walk)
-    where
-      go : (left : ℕ) → i + left ≡ n → Walk all span enc k len from n d₀ start d at out left → Turns all span enc k len from n d₀ start d′ i′ at′ out′
-      go zero e w = absurd (omega arith)
-      go (suc left) e w =
-          record { left = left; count = omega arith; walk = walk-step w (entries at) (size at) left (s .more at left) (s .further at left) p q r }
-
-  pub turns-end : n ≤ i → (at ≡ from + span from n) × (out ≡ start + k * length (all from n)) × (d ≡ put d₀ start (each enc (all from n)))
-  turns-end h = go (t .left) (t .count) (t .walk)
-    where
-      go : (left : ℕ) → i + left ≡ n → Walk all span enc k len from n d₀ start d at out left
-          → (at ≡ from + span from n) × (out ≡ start + k * length (all from n)) × (d ≡ put d₀ start (each enc (all from n)))
-      go zero e w =
-          let nil : all at 0 ≡ [] = s .none at in
-          let zeros : k * length (all at 0) ≡ 0 = rw (nil, mul-zero) in
-          (omega (arith, s .nothing at), omega arith, left-end (w .written) nil)
-      go (suc left) e w = absurd (omega arith)
+  pub walk-end : {left : ℕ} → Walk all span enc k len from n d₀ start d at out left → left ≤ 0
+      → (at ≡ from + span from n) × (out ≡ start + k * length (all from n)) × (d ≡ put d₀ start (each enc (all from n)))
+  walk-end {left = zero} w h =
+      let nil : all at 0 ≡ [] = s .none at in
+      let zeros : k * length (all at 0) ≡ 0 = rw (nil, mul-zero) in
+      (omega (arith, s .nothing at), omega arith, left-end (w .written) nil)
+  walk-end {left = suc left} w h = absurd (omega arith)
 
 -- ---- the entries, and the things of a message
 
-pub length-assert-entry : (e : AssertRecord) → length (assertEntryOctets ipv4 e) ≡ 16
-unfolding assertEntryOctets
-length-assert-entry e = simp (length-append, length-be)
+pub length-entry : (isAssert : Bool) (f : Family) (e : entriesFor isAssert f .Entry) → length (entriesFor isAssert f .octetsOf e) ≡ 2 * f .width + words isAssert
+unfolding assertEntryOctets pairEntryOctets
+length-entry true f e = simp (length-append, length-be) (omega arith)
+length-entry false f e = simp (length-append, length-be) (omega arith)
 
-pub length-pair-entry : (e : PairRecord) → length (pairEntryOctets ipv4 e) ≡ 8
-unfolding pairEntryOctets
-length-pair-entry e = simp (length-append, length-be)
+-- the metric is the word past R with preference
+pub entry-at : (isAssert : Bool) (f : Family) (o : List ℕ) (at : ℕ) {source word : ℕ} → source ≡ at + (f .width + 6) → word ≡ at + (2 * f .width + 6)
+    → entryWith isAssert f (numberAt (f .width) o (at + 4)) (numberAt (f .width) o source) (numberAt 4 o word) (numberAt 4 o (word + 4)) ≡ plainEntry isAssert f o at
+unfolding entryWith plainEntry plainAssert plainPair
+entry-at true f o at p q =
+    let metric : at + (2 * f .width + 6) + 4 ≡ at + (2 * f .width + 10) = omega arith in
+    rw (p, q, metric)
+entry-at false f o at p q = rw p
 
 -- spans of things of one size
 span-suc : (s n : ℕ) → s * suc n ≡ s + s * n
 span-suc s n = omega (arith, mul-suc s n)
 
-pub asserts-series : (o : List ℕ) → Series (λ at. plainAssert ipv4 o at ∷ []) (λ at. 22) (plainAsserts o) (λ at n. 22 * n)
-unfolding plainAsserts
-asserts-series o = record { none = λ at. refl; more = λ at n. refl; nothing = λ at. refl; further = λ at n. span-suc 22 n }
+pub records-series : (isAssert : Bool) (f : Family) (o : List ℕ)
+    → Series (λ at. plainEntry isAssert f o at ∷ []) (λ at. plainSize isAssert (f .width)) (plainEntries isAssert f o) (λ at n. plainSize isAssert (f .width) * n)
+unfolding plainEntries
+records-series isAssert f o =
+    record { none = λ at. refl; more = λ at n. refl; nothing = λ at. mul-zero (plainSize isAssert (f .width)); further = λ at n. span-suc (plainSize isAssert (f .width)) n }
 
-pub pairs-series : (o : List ℕ) → Series (λ at. plainPair ipv4 o at ∷ []) (λ at. 14) (plainPairs o) (λ at n. 14 * n)
-unfolding plainPairs
-pairs-series o = record { none = λ at. refl; more = λ at n. refl; nothing = λ at. refl; further = λ at n. span-suc 14 n }
-
--- f is what becomes of an address
-pub addresses-series : (skip : ℕ) (o : List ℕ) (f : ℕ → AssertRecord)
-    → Series (λ at. f (numberAt 4 o (at + skip)) ∷ []) (λ at. skip + 4) (λ at n. map f (plainAddresses skip o at n)) (λ at n. (skip + 4) * n)
+-- with is what becomes of an address
+pub addresses-series : (isGroup : Bool) (w : ℕ) (o : List ℕ) (with : ℕ → AssertRecord)
+    → Series (λ at. with (numberAt w o (at + skip isGroup)) ∷ []) (λ at. w + skip isGroup) (λ at n. map with (plainAddresses isGroup w o at n)) (λ at n. (w + skip isGroup) * n)
 unfolding plainAddresses
-addresses-series skip o f = record { none = λ at. refl; more = λ at n. refl; nothing = λ at. mul-zero (skip + 4); further = λ at n. span-suc (skip + 4) n }
+addresses-series isGroup w o with =
+    record { none = λ at. refl; more = λ at n. refl; nothing = λ at. mul-zero (w + skip isGroup); further = λ at n. span-suc (w + skip isGroup) n }
 
-pub length-addresses : (skip : ℕ) (o : List ℕ) (at n : ℕ) → length (plainAddresses skip o at n) ≡ n
+pub length-addresses : (isGroup : Bool) (w : ℕ) (o : List ℕ) (at n : ℕ) → length (plainAddresses isGroup w o at n) ≡ n
 unfolding plainAddresses
-length-addresses skip o at zero = refl
-length-addresses skip o at (suc n) = ap suc (length-addresses skip o (at + (skip + 4)) n)
+length-addresses isGroup w o at zero = refl
+length-addresses isGroup w o at (suc n) = ap suc (length-addresses isGroup w o (at + (w + skip isGroup)) n)
 
-pub groups-series : (o : List ℕ) (v m : ℕ)
-    → Series (λ at. groupEntries v m (plainGroupRecord o at)) (λ at. groupRecordSize 4 (numberAt 2 o (at + 8)))
-    (λ at n. allGroupEntries v m (plainGroupRecords o at n)) (λ at n. groupRecordsSize 4 (plainGroupRecords o at n))
+-- as many entries as addresses
+pub length-like : (isGroup : Bool) (w : ℕ) (o : List ℕ) (with : ℕ → AssertRecord) (at n : ℕ) → length (map with (plainAddresses isGroup w o at n)) ≡ n
+length-like isGroup w o with at n = rw (length-map, length-addresses)
+
+-- the address and the other one: which is the group, and which the source
+pub either-there : (isGroup : Bool) (address other w len : ℕ) {g s : ℕ} → address + w ≤ len → other + w ≤ len → g ≡ cond isGroup address other → s ≡ cond isGroup other address
+    → (g + w ≤ len) × (s + w ≤ len)
+either-there true address other w len h k p q = (omega arith, omega arith)
+either-there false address other w len h k p q = (omega arith, omega arith)
+
+pub either-entry : (isGroup : Bool) (f : Family) (o : List ℕ) (address other word : ℕ) {g s : ℕ} → g ≡ cond isGroup address other → s ≡ cond isGroup other address
+    → entryWith true f (numberAt (f .width) o g) (numberAt (f .width) o s) (numberAt 4 o word) (numberAt 4 o (word + 4))
+    ≡ withAddress isGroup (numberAt (f .width) o other) (numberAt 4 o word) (numberAt 4 o (word + 4)) (numberAt (f .width) o address)
+unfolding entryWith
+either-entry true f o address other word p q = rw (p, q)
+either-entry false f o address other word p q = rw (p, q)
+
+pub groups-series : (w : ℕ) (o : List ℕ) (v m : ℕ)
+    → Series (λ at. groupEntries v m (plainGroupRecord w o at)) (λ at. groupRecordSize w (numberAt 2 o (at + (w + 4))))
+    (λ at n. allGroupEntries v m (plainGroupRecords w o at n)) (λ at n. groupRecordsSize w (plainGroupRecords w o at n))
 unfolding plainGroupRecords plainGroupRecord allGroupEntries groupRecordsSize
-groups-series o v m = record { none = λ at. refl; more = λ at n. refl; nothing = λ at. refl; further = λ at n. rw length-addresses }
+groups-series w o v m = record { none = λ at. refl; more = λ at n. refl; nothing = λ at. refl; further = λ at n. rw length-addresses }
 
 -- a group record with no source, and with some: p sources
-module _ (o : List ℕ) (at v m : ℕ) {p : ℕ} (sources : p ≡ numberAt 2 o (at + 8)) where
-  pub group-none : p ≡ 0 → groupEntries v m (plainGroupRecord o at) ≡ assert (numberAt 4 o (at + 4)) 0 v m ∷ []
+module _ (w : ℕ) (o : List ℕ) (at word : ℕ) {p : ℕ} (sources : p ≡ numberAt 2 o (at + (w + 4))) where
+  pub group-none : p ≡ 0 → groupEntries (numberAt 4 o word) (numberAt 4 o (word + 4)) (plainGroupRecord w o at) ≡ assert (numberAt w o (at + 4)) 0 (numberAt 4 o word) (numberAt 4 o (word + 4)) ∷ []
   unfolding plainGroupRecord plainAddresses groupEntries
   group-none h = rw (← sources, h)
 
-  pub group-some : (p ≡ 0 → ⊥) → groupEntries v m (plainGroupRecord o at) ≡ map (λ s. assert (numberAt 4 o (at + 4)) s v m) (plainAddresses 2 o (at + 12) p)
+  pub group-some : (p ≡ 0 → ⊥) → groupEntries (numberAt 4 o word) (numberAt 4 o (word + 4)) (plainGroupRecord w o at) ≡ likeEntries false w o (at + 4) word (at + (w + 8)) p
   unfolding plainGroupRecord plainAddresses groupEntries
   group-some h = rw (← sources) (go p h)
     where
       go : (n : ℕ) → (n ≡ 0 → ⊥)
-          → groupEntries v m (ofGroup (numberAt 4 o (at + 4)) (plainAddresses 2 o (at + 12) n)) ≡ map (λ s. assert (numberAt 4 o (at + 4)) s v m) (plainAddresses 2 o (at + 12) n)
+          → groupEntries (numberAt 4 o word) (numberAt 4 o (word + 4)) (ofGroup (numberAt w o (at + 4)) (plainAddresses false w o (at + (w + 8)) n)) ≡ likeEntries false w o (at + 4) word (at + (w + 8)) n
       go zero h = absurd (h refl)
       go (suc n) h = refl
 
--- as many entries as addresses
-pub length-like : (skip : ℕ) (o : List ℕ) (f : ℕ → AssertRecord) (at n : ℕ) → length (map f (plainAddresses skip o at n)) ≡ n
-length-like skip o f at n = rw (length-map, length-addresses)
+-- a thing whose entries are those of what stands in it, up to its end
+module _ {f : Family} {at at′ size size′ : ℕ} {d : List ℕ} {out : ℕ} {es es′ : List AssertRecord} (ends : at + size ≡ at′ + size′) (same : es ≡ es′) where
+  pub fit-inside : {o : List ℕ} → Fit f o at size d out es → Fit f o at′ size′ d out es′
+  fit-inside h = record { there = omega (arith, h .there, ends); room = rw same at (h .room) }
+
+  pub copied-inside : {d′ : List ℕ} {past : Places} → Copied f at′ size′ d out es′ d′ past → Copied f at size d out es d′ past
+  copied-inside h = record { read = omega (arith, h .read, ends); written = rw same (h .written); buffer = rw same (h .buffer) }
 
 -- an aggregated record, by R: its octets, and its entries
-module _ (o : List ℕ) (at : ℕ) where
-  pub source-record-is : rBit (numberAt 4 o at) ≡ false → {n : ℕ} → n ≡ numberAt 2 o (at + 14)
-      → (aggregatedSize 4 (plainAggregated o at) ≡ 18 + 8 * n)
-      × (entries (plainAggregated o at) ≡ map (λ g. assert g (numberAt 4 o (at + 10)) (numberAt 4 o at) (numberAt 4 o (at + 4))) (plainAddresses 4 o (at + 18) n))
+module _ (w : ℕ) (o : List ℕ) (at : ℕ) where
+  pub source-record-is : rBit (numberAt 4 o at) ≡ false → {n : ℕ} → n ≡ numberAt 2 o (at + (w + 10))
+      → (aggregatedSize w (plainAggregated w o at) ≡ w + 14 + (w + 4) * n) × (entries (plainAggregated w o at) ≡ likeEntries true w o (at + 10) at (at + (w + 14)) n)
   unfolding plainAggregated aggregatedSize entries
-  source-record-is r groups = rw (← groups, r, length-addresses) (refl, refl)
+  source-record-is r groups = rw (← groups, r, length-addresses) (omega arith, refl)
 
   pub rp-record-is : rBit (numberAt 4 o at) ≡ true → {n : ℕ} → n ≡ numberAt 2 o (at + 8)
-      → (aggregatedSize 4 (plainAggregated o at) ≡ 12 + groupRecordsSize 4 (plainGroupRecords o (at + 12) n))
-      × (entries (plainAggregated o at) ≡ allGroupEntries (numberAt 4 o at) (numberAt 4 o (at + 4)) (plainGroupRecords o (at + 12) n))
+      → (aggregatedSize w (plainAggregated w o at) ≡ 12 + groupRecordsSize w (plainGroupRecords w o (at + 12) n))
+      × (entries (plainAggregated w o at) ≡ allGroupEntries (numberAt 4 o at) (numberAt 4 o (at + 4)) (plainGroupRecords w o (at + 12) n))
   unfolding plainAggregated aggregatedSize entries
   rp-record-is r records = rw (← records, r) (refl, refl)
 
-pub size-least : (r : AggregatedRecord) → 12 ≤ aggregatedSize 4 r
+pub size-least : (w : ℕ) (r : AggregatedRecord) → 12 ≤ aggregatedSize w r
 unfolding aggregatedSize
-size-least (ofSource v m s gs) = omega arith
-size-least (ofRp v m rs) = omega arith
+size-least w (ofSource v m s gs) = omega arith
+size-least w (ofRp v m rs) = omega arith
 
 -- ---- records up to the end
 
-records-more : (o : List ℕ) (at n : ℕ) → at < length o
-    → plainRecords (suc n) o at ≡ plainAggregated o at ∷ plainRecords n o (at + aggregatedSize 4 (plainAggregated o at))
+records-more : (w : ℕ) (o : List ℕ) (at n : ℕ) → at < length o
+    → plainRecords w (suc n) o at ≡ plainAggregated w o at ∷ plainRecords w n o (at + aggregatedSize w (plainAggregated w o at))
 unfolding plainRecords
-records-more o at n h = rw (lt-leb _ _ h)
+records-more w o at n h = rw (lt-leb _ _ h)
 
-records-none : (o : List ℕ) (at n : ℕ) → length o ≤ at → plainRecords n o at ≡ []
+records-none : (w : ℕ) (o : List ℕ) (at n : ℕ) → length o ≤ at → plainRecords w n o at ≡ []
 unfolding plainRecords
-records-none o at zero h = refl
-records-none o at (suc n) h = rw (le-leb _ _ h)
+records-none w o at zero h = refl
+records-none w o at (suc n) h = rw (le-leb _ _ h)
 
-abbrev recordSize : List ℕ → ℕ → ℕ
-recordSize o at = aggregatedSize 4 (plainAggregated o at)
+abbrev recordSize : ℕ → List ℕ → ℕ → ℕ
+recordSize w o at = aggregatedSize w (plainAggregated w o at)
 
-abbrev recordEntries : List ℕ → ℕ → List AssertRecord
-recordEntries o at = entries (plainAggregated o at)
+abbrev recordEntries : ℕ → List ℕ → ℕ → List AssertRecord
+recordEntries w o at = entries (plainAggregated w o at)
 
 -- at most n records
-abbrev recordsSize : List ℕ → ℕ → ℕ → ℕ
-recordsSize o at n = allSize 4 (plainRecords n o at)
+abbrev recordsSize : ℕ → List ℕ → ℕ → ℕ → ℕ
+recordsSize w o at n = allSize w (plainRecords w n o at)
 
-abbrev recordsEntries : List ℕ → ℕ → ℕ → List AssertRecord
-recordsEntries o at n = allEntries (plainRecords n o at)
+abbrev recordsEntries : ℕ → List ℕ → ℕ → ℕ → List AssertRecord
+recordsEntries w o at n = allEntries (plainRecords w n o at)
 
-abbrev RecordsWalk : List ℕ → ℕ → List ℕ → List ℕ → ℕ → ℕ → ℕ → Type 0
-RecordsWalk o from d₀ d at out left = Walk (recordsEntries o) (recordsSize o) (assertEntryOctets ipv4) 16 (length o) from (length o) d₀ 0 d at out left
+abbrev RecordsWalk : Family → List ℕ → ℕ → List ℕ → List ℕ → ℕ → ℕ → ℕ → Type 0
+RecordsWalk f o from d₀ d at out left =
+    Walk (recordsEntries (f .width) o) (recordsSize (f .width) o) (assertEntryOctets f) (2 * f .width + 8) (length o) from (length o) d₀ 0 d at out left
 
 -- where a loop over the records up to the end stands: at most so many are left
-pub record ToEnd (o : List ℕ) (from : ℕ) (d₀ d : List ℕ) (at out : ℕ) : Type 0 where
+pub record ToEnd (f : Family) (o : List ℕ) (from : ℕ) (d₀ d : List ℕ) (at out : ℕ) : Type 0 where
   pub left : ℕ
-  pub whole : from + recordsSize o from (length o) ≡ length o
-  pub walk : RecordsWalk o from d₀ d at out left
+  pub whole : from + recordsSize (f .width) o from (length o) ≡ length o
+  pub walk : RecordsWalk f o from d₀ d at out left
 
-pub to-end-start : {o : List ℕ} {from : ℕ} {d : List ℕ} → from + recordsSize o from (length o) ≡ length o
-    → 16 * length (recordsEntries o from (length o)) ≤ length d → ToEnd o from d d from 0
-to-end-start {o} h room =
+pub to-end-start : {f : Family} {o : List ℕ} {from : ℕ} {d : List ℕ} → from + recordsSize (f .width) o from (length o) ≡ length o
+    → (2 * f .width + 8) * length (recordsEntries (f .width) o from (length o)) ≤ length d → ToEnd f o from d d from 0
+to-end-start {f} {o} h room =
     record {
       left = length o;
       whole = h;
-      walk = walk-start length-assert-entry (omega arith) (omega arith);
+      walk = walk-start (length-entry true f) (omega arith) (omega arith);
     }
 
-module _ {o : List ℕ} {from : ℕ} {d₀ d : List ℕ} {at out : ℕ} (t : ToEnd o from d₀ d at out) where
+module _ {f : Family} {o : List ℕ} {from : ℕ} {d₀ d : List ℕ} {at out : ℕ} (t : ToEnd f o from d₀ d at out) where
   -- before the end there is a record
   first : {C : Type 0} → at < length o
-      → ((n : ℕ) → RecordsWalk o from d₀ d at out (suc n) → recordsEntries o at (suc n) ≡ recordEntries o at ++ recordsEntries o (at + recordSize o at) n
-      → recordsSize o at (suc n) ≡ recordSize o at + recordsSize o (at + recordSize o at) n → C)
+      → ((n : ℕ) → RecordsWalk f o from d₀ d at out (suc n) → recordsEntries (f .width) o at (suc n) ≡ recordEntries (f .width) o at ++ recordsEntries (f .width) o (at + recordSize (f .width) o at) n
+      → recordsSize (f .width) o at (suc n) ≡ recordSize (f .width) o at + recordsSize (f .width) o (at + recordSize (f .width) o at) n → C)
       → C
   unfolding allEntries allSize plainRecords
   first {C} h next = go (t .left) (t .walk)
     where
-      go : (left : ℕ) → RecordsWalk o from d₀ d at out left → C
+      go : (left : ℕ) → RecordsWalk f o from d₀ d at out left → C
       go zero w = absurd (omega (arith, t .whole, w .ends))
-      go (suc n) w = next n w (rw (records-more o at n h)) (rw (records-more o at n h))
+      go (suc n) w = next n w (rw (records-more (f .width) o at n h)) (rw (records-more (f .width) o at n h))
 
-  pub record-there : at < length o → (at + recordSize o at ≤ length o) × (out + 16 * length (recordEntries o at) ≤ length d)
-  record-there h = first h (λ n w more further. walk-there w (recordEntries o at) (recordSize o at) n more further)
+  pub record-there : at < length o → (at + recordSize (f .width) o at ≤ length o) × (out + (2 * f .width + 8) * length (recordEntries (f .width) o at) ≤ length d)
+  record-there h = first h (λ n w more further. walk-there w (recordEntries (f .width) o at) (recordSize (f .width) o at) n more further)
 
-  pub record-next : {d′ : List ℕ} {at′ out′ : ℕ} → at < length o → d′ ≡ put d out (each (assertEntryOctets ipv4) (recordEntries o at)) → at′ ≡ at + recordSize o at
-      → out′ ≡ out + 16 * length (recordEntries o at) → ToEnd o from d₀ d′ at′ out′
+  pub record-next : {d′ : List ℕ} {at′ out′ : ℕ} → at < length o → d′ ≡ put d out (each (assertEntryOctets f) (recordEntries (f .width) o at)) → at′ ≡ at + recordSize (f .width) o at
+      → out′ ≡ out + (2 * f .width + 8) * length (recordEntries (f .width) o at) → ToEnd f o from d₀ d′ at′ out′
   record-next h p q r =
       first h (λ n w more further.
-      record { left = n; whole = t .whole; walk = walk-step w (recordEntries o at) (recordSize o at) n more further p q r })
+      record { left = n; whole = t .whole; walk = walk-step w (recordEntries (f .width) o at) (recordSize (f .width) o at) n more further p q r })
 
-  pub to-end-end : length o ≤ at → d ≡ put d₀ 0 (each (assertEntryOctets ipv4) (recordsEntries o from (length o)))
+  pub to-end-end : length o ≤ at → d ≡ put d₀ 0 (each (assertEntryOctets f) (recordsEntries (f .width) o from (length o)))
   unfolding allEntries
-  to-end-end h = left-end (t .walk .written) (rw (records-none o at (t .left) h))
+  to-end-end h = left-end (t .walk .written) (rw (records-none (f .width) o at (t .left) h))

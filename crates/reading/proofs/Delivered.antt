@@ -2,12 +2,13 @@
 --     to-end-full                  records to the end end there
 --     even-back                    records of one length, one after another
 --     zero-back                    Zero and Reserved are four octets
---     Plainly, plain-entries, simple-entries, joined-entries, pair-entries     what each body stands for
+--     Plainly, Joined, plain-entries .. joined-entries     what each body stands for
+--     Delivers, delivers           the same by the kind
 -- Assumes nothing.
 use Prim.Native.Nat.{ℕ, zero, suc, _+_, _*_, _≤_, _<_}
 use native.Mathlib.Nat.{mul-suc}
 use native.Mathlib.Omega.{arith}
-use mathlib.Core.Path.{_≡_, refl, sym, ap, ap₂, _∙_}
+use mathlib.Core.Path.{_≡_, refl, sym, ap, ap₂, subst, _∙_}
 use mathlib.Core.Bool.{Bool, true, false, cond}
 use mathlib.Core.List.{List, [], _∷_}
 use lib.ListN.{length}
@@ -16,14 +17,14 @@ use borrow.Author.Tests.{leb-true, leb-false}
 use Rattle.records.specs.Records.{AssertRecord, allEntries}
 use Rattle.records.specs.Sizes.{allSize}
 use Rattle.format.specs.Reader.{Read, got, bad, Reader, continue, _>>=_, _>>_, give, octets, number, must, inRecord, toEnd, records, nothingMore}
-use Rattle.format.specs.Family.{ipv4}
-use Rattle.format.specs.Record.{assertRecord, pairRecord, aggregatedRecord}
+use Rattle.format.specs.Family.{Family}
+use Rattle.format.specs.Entry.{assertEntryOctets}
+use Rattle.format.specs.Record.{each, assertRecord, pairRecord, aggregatedRecord}
 use Rattle.format.specs.Body.{zeroReserved, assertsBody, pairsBody}
 use Rattle.format.specs.declared.Kind.{Kind}
 use Rattle.format.specs.declared.Kind.the-variants.{Hello, Assert, Simple, Aggregated, NullRegister, RegisterStop}
-use Rattle.fields.specs.Answers.{plainAssert, plainPair}
-use Rattle.reading.specs.Plain.{plainAsserts, plainPairs, plainAggregated, plainRecords}
-use Rattle.reading.specs.Calls.{valueOf, HasCounted}
+use Rattle.reading.specs.Plain.{entriesFor, plainEntry, plainSize, plainEntries, plainAggregated, plainRecords}
+use Rattle.reading.specs.Calls.{bodyFor, valueOf, HasCounted}
 use Rattle.fields.proofs.Skipped.{no-got, continue-back}
 use Rattle.octets.proofs.Laws.{octets-back, number-back}
 use Rattle.fields.proofs.Plain.{assert-back, pair-back}
@@ -114,70 +115,101 @@ pub record Plainly {A : Type 0} (o : List ℕ) (at size n : ℕ) (r : Read (List
   pub there : at + size * n ≤ length o
   pub entries : valueOf r ≡ list
 
-module _ (o : List ℕ) (n : ℕ) where
-  pub plain-entries : HasCounted (assertsBody ipv4 Assert o 4) n → Plainly o 4 22 n (assertsBody ipv4 Assert o 4) (plainAsserts o 4 n)
-  unfolding assertsBody _>>=_ _>>_ give valueOf plainAsserts
+-- a body that is refused was not counted
+none-counted : {A C : Type 0} {i p n : ℕ} → HasCounted {A = A} (bad i p) n → C
+none-counted {n = n} h = counted-back (bad _ _) n h (λ l next e s. absurd (no-got e))
+
+-- n entries of aggregated records, which end with the octets
+pub record Joined (isAssert : Bool) (f : Family) (o : List ℕ) (n : ℕ) (r : Read (List (entriesFor isAssert f .Entry))) : Type 0 where
+  pub is : isAssert ≡ true
+  pub whole : 8 + allSize (f .width) (plainRecords (f .width) (length o) o 8) ≡ length o
+  pub count : length (allEntries (plainRecords (f .width) (length o) o 8)) ≡ n
+  pub octets : each (entriesFor isAssert f .octetsOf) (valueOf r) ≡ each (assertEntryOctets f) (allEntries (plainRecords (f .width) (length o) o 8))
+
+module _ (f : Family) (o : List ℕ) (n : ℕ) where
+  plain-entries : HasCounted (assertsBody f Assert o 4) n → Plainly o 4 (plainSize true (f .width)) n (assertsBody f Assert o 4) (plainEntries true f o 4 n)
+  unfolding assertsBody _>>=_ _>>_ give valueOf plainEntries plainEntry
   plain-entries h =
-      counted-back (assertsBody ipv4 Assert o 4) n h (λ l next e s.
-      continue-back (assertRecord ipv4 o 4) _ e (λ a m first rest.
+      counted-back (assertsBody f Assert o 4) n h (λ l next e s.
+      continue-back (assertRecord f o 4) _ e (λ a m first rest.
       continue-back (nothingMore o m) _ rest (λ u k second last.
-      let b = assert-back ipv4 o 4 first in
+      let b = assert-back f o 4 first in
       let one : 1 ≡ n = ap length (got-value last) ∙ s in
       record {
-        there = omega (arith, b .1, b .2);
+        there = rw (← one) (omega (arith, b .1, b .2));
         entries = rw (e, ← one) (sym (got-value last) ∙ ap (λ (x : AssertRecord). x ∷ []) (b .0));
       })))
 
   -- the records of a packed body
-  asserts-at : (at : ℕ) (l : List AssertRecord) (m : ℕ) → at ≤ length o → toEnd (length o) (assertRecord ipv4) o at ≡ got l m → Back o at l m (plainAsserts o at (length l)) (22 * length l)
-  unfolding plainAsserts
-  asserts-at at l m h e = even-back (assertRecord ipv4) o 22 (plainAssert ipv4 o) (plainAsserts o) (λ at. refl) (λ at n. refl) (λ at a n e. assert-back ipv4 o at e) (length o) at l m h e
+  records-entries : (isAssert : Bool) (r : Reader (entriesFor isAssert f .Entry)) (at : ℕ)
+      → ((at : ℕ) (a : entriesFor isAssert f .Entry) (n : ℕ) → r o at ≡ got a n → (a ≡ plainEntry isAssert f o at) × (n ≡ at + plainSize isAssert (f .width)) × (n ≤ length o))
+      → HasCounted (records r o at) n → Plainly o at (plainSize isAssert (f .width)) n (records r o at) (plainEntries isAssert f o at n)
+  unfolding valueOf plainEntries
+  records-entries isAssert r at one h =
+      counted-back (records r o at) n h (λ l next e s.
+      let t = records-back r o at l next e in
+      let size = plainSize isAssert (f .width) in
+      let b = even-back r o size (plainEntry isAssert f o) (plainEntries isAssert f o) (λ at. refl) (λ at n. refl) one (length o) at l next (omega (arith, t .0)) (t .1) in
+      record { there = omega (arith, b .next, b .inside, ap (λ (x : ℕ). size * x) s); entries = rw (e, ← s) (b .value) })
 
-  pub simple-entries : HasCounted (assertsBody ipv4 Simple o 4) n → Plainly o 8 22 n (assertsBody ipv4 Simple o 4) (plainAsserts o 8 n)
-  unfolding assertsBody _>>_ valueOf
+  -- past Zero and Reserved
+  simple-entries : HasCounted (assertsBody f Simple o 4) n → Plainly o 8 (plainSize true (f .width)) n (assertsBody f Simple o 4) (plainEntries true f o 8 n)
+  unfolding assertsBody _>>_ continue plainEntry
   simple-entries h =
-      counted-back (assertsBody ipv4 Simple o 4) n h (λ l next e s.
+      counted-back (assertsBody f Simple o 4) n h (λ l next e s.
       continue-back (zeroReserved o 4) _ e (λ u at first rest.
       let z = zero-back o u at first in
-      let r = records-back (assertRecord ipv4) o at l next rest in
-      let b = rw (z .0) at (asserts-at at l next (omega (arith, r .0)) (r .1)) in
-      record { there = omega (arith, b .next, b .inside, ap (λ (x : ℕ). 22 * x) s); entries = rw (e, ← s) (b .value) }))
+      let body : assertsBody f Simple o 4 ≡ records (assertRecord f) o 8 = rw (first, z .0) in
+      rw body
+      (records-entries true (assertRecord f) 8 (λ at a n e. assert-back f o at e) (rw body at h))))
 
-  pub joined-entries : HasCounted (assertsBody ipv4 Aggregated o 4) n
-      → (8 + allSize 4 (plainRecords (length o) o 8) ≡ length o) × (length (allEntries (plainRecords (length o) o 8)) ≡ n)
-      × (valueOf (assertsBody ipv4 Aggregated o 4) ≡ allEntries (plainRecords (length o) o 8))
+  pair-entries : (z : Bool) → HasCounted (records (pairRecord f z) o 4) n → Plainly o 4 (plainSize false (f .width)) n (records (pairRecord f z) o 4) (plainEntries false f o 4 n)
+  unfolding plainEntry
+  pair-entries z h = records-entries false (pairRecord f z) 4 (λ at a n e. let b = pair-back f z o at e in (b .0, omega (arith, b .1), b .2)) h
+
+  joined-entries : HasCounted (assertsBody f Aggregated o 4) n → Joined true f o n (assertsBody f Aggregated o 4)
   unfolding assertsBody _>>_ _>>=_ give valueOf
   joined-entries h =
-      counted-back (assertsBody ipv4 Aggregated o 4) n h (λ l next e s.
+      counted-back (assertsBody f Aggregated o 4) n h (λ l next e s.
       continue-back (zeroReserved o 4) _ e (λ u at first rest.
-      continue-back (records (aggregatedRecord ipv4) o at) _ rest (λ rs end second last.
+      continue-back (records (aggregatedRecord f) o at) _ rest (λ rs end second last.
       let z = zero-back o u at first in
-      let r = rw (z .0) at (records-back (aggregatedRecord ipv4) o at rs end second) in
-      let b = aggregates-back o (length o) 8 rs end (omega (arith, r .0)) (r .1) in
-      let full = to-end-full (aggregatedRecord ipv4) o (λ i a k g. omega (arith, aggregated-back o i a k g .next, size-least (plainAggregated o i))) (length o) 8 rs end (omega arith) (r .1) in
-      let same : l ≡ allEntries (plainRecords (length o) o 8) = sym (got-value last) ∙ ap allEntries (b .value) in
-      (omega (arith, b .next, b .inside, full), sym (ap length same) ∙ s, rw e same))))
+      let r = rw (z .0) at (records-back (aggregatedRecord f) o at rs end second) in
+      let b = aggregates-back f o (length o) 8 rs end (omega (arith, r .0)) (r .1) in
+      let full = to-end-full (aggregatedRecord f) o (λ i a k g. omega (arith, aggregated-back f o i a k g .next, size-least (f .width) (plainAggregated (f .width) o i))) (length o) 8 rs end (omega arith) (r .1) in
+      let same : l ≡ allEntries (plainRecords (f .width) (length o) o 8) = sym (got-value last) ∙ ap allEntries (b .value) in
+      record {
+        is = refl;
+        whole = omega (arith, b .next, b .inside, full);
+        count = sym (ap length same) ∙ s;
+        octets = rw e (ap (each (assertEntryOctets f)) same);
+      })))
 
-module _ (o : List ℕ) (n : ℕ) (z : Bool) where
-  -- the pairs of either kind
-  pairs-entries : HasCounted (records (pairRecord ipv4 z) o 4) n → Plainly o 4 14 n (records (pairRecord ipv4 z) o 4) (plainPairs o 4 n)
-  unfolding valueOf plainPairs
-  pairs-entries h =
-      counted-back (records (pairRecord ipv4 z) o 4) n h (λ l next e s.
-      let r = records-back (pairRecord ipv4 z) o 4 l next e in
-      let b = even-back (pairRecord ipv4 z) o 14 (plainPair ipv4 o) (plainPairs o) (λ at. refl) (λ at n. refl) (λ at a n e. pair-back ipv4 z o at e) (length o) 4 l next (omega (arith, r .0)) (r .1) in
-      record { there = omega (arith, b .next, b .inside, ap (λ (x : ℕ). 14 * x) s); entries = rw (e, ← s) (b .value) })
+-- by the kind: where the records begin, and which they are
+abbrev pub Delivers : (isAssert : Bool) (f : Family) → List ℕ → ℕ → Read (List (entriesFor isAssert f .Entry)) → Kind → Type 0
+Delivers isAssert f o n r Hello = ⊥
+Delivers isAssert f o n r Assert = Plainly o 4 (plainSize isAssert (f .width)) n r (plainEntries isAssert f o 4 n)
+Delivers isAssert f o n r Simple = Plainly o 8 (plainSize isAssert (f .width)) n r (plainEntries isAssert f o 8 n)
+Delivers isAssert f o n r Aggregated = Joined isAssert f o n r
+Delivers isAssert f o n r NullRegister = Plainly o 4 (plainSize isAssert (f .width)) n r (plainEntries isAssert f o 4 n)
+Delivers isAssert f o n r RegisterStop = Plainly o 4 (plainSize isAssert (f .width)) n r (plainEntries isAssert f o 4 n)
 
--- of a kind of which pairs were counted
-pub pair-entries : (kind : Kind) (o : List ℕ) (n : ℕ) → HasCounted (pairsBody ipv4 kind o 4) n → Plainly o 4 14 n (pairsBody ipv4 kind o 4) (plainPairs o 4 n)
-unfolding pairsBody
-pair-entries Hello o n h = counted-back (bad 4 0) n h (λ l next e s. absurd (no-got e))
-pair-entries Assert o n h = counted-back (bad 4 0) n h (λ l next e s. absurd (no-got e))
-pair-entries Simple o n h = counted-back (bad 4 0) n h (λ l next e s. absurd (no-got e))
-pair-entries Aggregated o n h = counted-back (bad 4 0) n h (λ l next e s. absurd (no-got e))
-pair-entries NullRegister o n h = pairs-entries o n false h
-pair-entries RegisterStop o n h = pairs-entries o n true h
+delivers-of : (isAssert : Bool) (f : Family) (o : List ℕ) (n : ℕ) (kind : Kind) → HasCounted (bodyFor isAssert f kind o 4) n → Delivers isAssert f o n (bodyFor isAssert f kind o 4) kind
+unfolding assertsBody pairsBody
+delivers-of true f o n Hello h = none-counted h
+delivers-of true f o n Assert h = plain-entries f o n h
+delivers-of true f o n Simple h = simple-entries f o n h
+delivers-of true f o n Aggregated h = joined-entries f o n h
+delivers-of true f o n NullRegister h = none-counted h
+delivers-of true f o n RegisterStop h = none-counted h
+delivers-of false f o n Hello h = none-counted h
+delivers-of false f o n Assert h = none-counted h
+delivers-of false f o n Simple h = none-counted h
+delivers-of false f o n Aggregated h = none-counted h
+delivers-of false f o n NullRegister h = pair-entries f o n false h
+delivers-of false f o n RegisterStop h = pair-entries f o n true h
 
--- a body that is refused was not counted
-pub none-counted : {A : Type 0} {i p n : ℕ} → HasCounted {A = A} (bad i p) n → ⊥
-none-counted {n = n} h = counted-back (bad _ _) n h (λ l next e s. no-got e)
+-- of a kind that code has found to be one of these
+pub delivers : (isAssert : Bool) (f : Family) (o : List ℕ) (n : ℕ) {kind k : Kind} → kind ≡ k → HasCounted (bodyFor isAssert f kind o 4) n
+    → Delivers isAssert f o n (bodyFor isAssert f kind o 4) k
+delivers isAssert f o n {kind} e h = subst (λ k. Delivers isAssert f o n (bodyFor isAssert f kind o 4) k) e (delivers-of isAssert f o n kind h)

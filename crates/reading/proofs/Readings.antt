@@ -1,30 +1,32 @@
 -- What a reading call comes to, by what its two passes found.
---     read-refused, read-bad, read-short, read-all     of any sort of entries: refused by the header, by a fault, for want of room, or delivered
+--     room-short, room-all, room-entries     whether n entries fit
+--     read-refused, read-bad, read-short, read-all     refused by the header, by a fault, for want of room, or delivered
 --     headed-refuses, headed-gives, counted-bad, counted-all     what the answers of the passes say
---     asserts-by, pairs-by     the two calls in these terms
 -- Assumes nothing.
-use Prim.Native.Nat.{ℕ, _*_, _≤_, _<_}
+use Prim.Native.Nat.{ℕ, _+_, _*_, _/_, _≤_, _<_}
+use native.Mathlib.Nat.{mul-comm, div-lt-iff-lt-mul, le-div-iff-mul-le}
+use native.Mathlib.Omega.{arith}
 use mathlib.Core.Path.{_≡_, refl, sym, ap, ap₂, _∙_}
-use mathlib.Core.Bool.{false}
+use mathlib.Core.Bool.{Bool, true, false}
 use mathlib.Core.List.{List}
 use lib.ListN.{length}
 use borrow.Author.Tests.{lt-ltb, le-ltb}
 use Rattle.octets.specs.Octets.{put}
 use Rattle.format.specs.Outcome
 use Rattle.format.specs.Outcome.{Outcome, gives, refuses, refuseIf}
-use Rattle.format.specs.Reader.{Read, got, bad, Reader, outcome, from}
+use Rattle.format.specs.Reader.{Read, got, bad, outcome, from}
 use Rattle.format.specs.Header.{header}
-use Rattle.format.specs.Entry.{Entries, assertEntries, pairEntries, entriesOctets}
+use Rattle.format.specs.Entry.{entriesOctets}
 use Rattle.format.specs.Record.{each}
 use Rattle.format.specs.Unpacking.{Unpacked, unpacked, unpackAsserts, unpackPairs}
 use Rattle.format.specs.Reading.{ReadingCall, found, roomFor, delivered, reading, readAsserts, readPairs}
-use Rattle.format.specs.Body.{assertsBody, pairsBody}
-use Rattle.format.specs.Family.{ipv4}
+use Rattle.format.specs.Family.{Family}
 use Rattle.format.specs.declared.Kind.{Kind}
 use Rattle.format.specs.declared.Refusal.{Refusal}
 use Rattle.headers.specs.Answers.{headed}
 use Rattle.counting.specs.Counts.{counted, tallied}
-use Rattle.reading.specs.Calls.{valueOf, HasCounted}
+use Rattle.reading.specs.Plain.{entriesFor, words}
+use Rattle.reading.specs.Calls.{bodyFor, readFor, valueOf, HasCounted}
 use Rattle.headers.specs.declared.message.Headed.{Headed}
 use Rattle.headers.specs.declared.message.Headed.the-variants.{Is, Refused}
 use Rattle.counting.specs.declared.aggregated.Counted.{Counted}
@@ -51,40 +53,55 @@ pub counted-all : {A : Type 0} (x : Read (List A)) {c : Counted} {n next : ℕ} 
 unfolding counted
 counted-all x {next = next} p q = record { next = next; counts = sym q ∙ ap counted p }
 
+-- ---- room for n entries, as code tests it
+
+size-is : (isAssert : Bool) (f : Family) → entriesFor isAssert f .size ≡ 2 * f .width + words isAssert
+size-is true f = refl
+size-is false f = omega arith
+
+module _ (isAssert : Bool) (f : Family) {size len n : ℕ} (is : size ≡ 2 * f .width + words isAssert) (some : 0 < size) where
+  pub room-short : len / size < n → len < entriesFor isAssert f .size * n
+  room-short h = rw (size-is isAssert f, ← is, mul-comm) (div-lt-iff-lt-mul some .0 h)
+
+  pub room-all : n ≤ len / size → entriesFor isAssert f .size * n ≤ len
+  room-all h = rw (size-is isAssert f, ← is, mul-comm) (le-div-iff-mul-le some .0 h)
+
+  pub room-entries : n ≤ len / size → (2 * f .width + words isAssert) * n ≤ len
+  room-entries h = rw (← is, mul-comm) (le-div-iff-mul-le some .0 h)
+
 -- ---- what the call comes to
 
-module _ (E : Entries) (body : Kind → Reader (List (E .Entry))) (o d : List ℕ) where
-  -- what a message unpacks to, by the bodies of the kinds
-  unfoldable pub unpackBy : Outcome (Unpacked (E .Entry))
-  unpackBy = Outcome._>>=_ (header o) (λ k. Outcome._>>=_ (from 4 (body k) o) (λ es. gives (unpacked k es)))
+-- what a message unpacks to, by the bodies of the kinds
+unfoldable unpackBy : (isAssert : Bool) (f : Family) → List ℕ → Outcome (Unpacked (entriesFor isAssert f .Entry))
+unpackBy isAssert f o = Outcome._>>=_ (header o) (λ k. Outcome._>>=_ (from 4 (bodyFor isAssert f k) o) (λ es. gives (unpacked k es)))
 
-  pub read-refused : {n p : ℕ} → header o ≡ refuses n p → reading E unpackBy d ≡ record { answer = refuses n p; lent = d }
+call-by : (isAssert : Bool) (f : Family) (o d : List ℕ) → readFor isAssert f o d ≡ reading (entriesFor isAssert f) (unpackBy isAssert f o) d
+unfolding readAsserts readPairs unpackAsserts unpackPairs unpackBy
+call-by true f o d = refl
+call-by false f o d = refl
+
+module _ (isAssert : Bool) (f : Family) (o d : List ℕ) where
+  pub read-refused : {n p : ℕ} → header o ≡ refuses n p → readFor isAssert f o d ≡ record { answer = refuses n p; lent = d }
   unfolding unpackBy reading delivered Outcome._>>=_
-  read-refused e = rw e
+  read-refused e = call-by isAssert f o d ∙ rw e
 
-  pub read-bad : {k : Kind} {n p : ℕ} → header o ≡ gives k → body k o 4 ≡ bad n p → reading E unpackBy d ≡ record { answer = refuses n p; lent = d }
+  pub read-bad : {k : Kind} {n p : ℕ} → header o ≡ gives k → bodyFor isAssert f k o 4 ≡ bad n p → readFor isAssert f o d ≡ record { answer = refuses n p; lent = d }
   unfolding unpackBy reading delivered from outcome Outcome._>>=_
-  read-bad e b = rw (e, b)
+  read-bad e b = call-by isAssert f o d ∙ rw (e, b)
 
-  pub read-short : {k : Kind} {n : ℕ} → header o ≡ gives k → HasCounted (body k o 4) n → length d < E .size * n → reading E unpackBy d ≡ record { answer = refuses 8 0; lent = d }
+  pub read-short : {k : Kind} {n : ℕ} → header o ≡ gives k → HasCounted (bodyFor isAssert f k o 4) n → length d < entriesFor isAssert f .size * n → readFor isAssert f o d ≡ record { answer = refuses 8 0; lent = d }
   unfolding unpackBy reading delivered from outcome roomFor refuseIf Outcome._>>=_ Outcome._>>_
   read-short {k} {n} e h short =
-      counted-back (body k o 4) n h (λ l next b s. rw (e, b, s, lt-ltb (length d) (E .size * n) short))
+      call-by isAssert f o d ∙ counted-back (bodyFor isAssert f k o 4) n h (λ l next b s. rw (e, b, s, lt-ltb (length d) (entriesFor isAssert f .size * n) short))
 
-  pub read-all : {k : Kind} {n : ℕ} → header o ≡ gives k → HasCounted (body k o 4) n → E .size * n ≤ length d
-      → reading E unpackBy d ≡ record { answer = gives (found k n); lent = put d 0 (each (E .octetsOf) (valueOf (body k o 4))) }
+  pub read-all : {k : Kind} {n : ℕ} → header o ≡ gives k → HasCounted (bodyFor isAssert f k o 4) n → entriesFor isAssert f .size * n ≤ length d
+      → readFor isAssert f o d ≡ record { answer = gives (found k n); lent = put d 0 (each (entriesFor isAssert f .octetsOf) (valueOf (bodyFor isAssert f k o 4))) }
   unfolding unpackBy reading delivered from outcome roomFor refuseIf valueOf entriesOctets Outcome._>>=_ Outcome._>>_
   read-all {k} {n} e h room =
-      counted-back (body k o 4) n h (λ l next b s.
-      let done : ℕ → ReadingCall = λ x. record { answer = gives (found k x); lent = put d 0 (each (E .octetsOf) l) } in
-      rw (e, b, s, le-ltb (length d) (E .size * n) room) (ap done s))
+      call-by isAssert f o d ∙ counted-back (bodyFor isAssert f k o 4) n h (λ l next b s.
+      let done : ℕ → ReadingCall = λ x. record { answer = gives (found k x); lent = put d 0 (each (entriesFor isAssert f .octetsOf) l) } in
+      rw (e, b, s, le-ltb (length d) (entriesFor isAssert f .size * n) room) (ap done s))
 
--- ---- the two calls
-
-pub asserts-by : (o d : List ℕ) → readAsserts ipv4 o d ≡ reading (assertEntries ipv4) (unpackBy (assertEntries ipv4) (assertsBody ipv4) o d) d
-unfolding readAsserts unpackAsserts unpackBy
-asserts-by o d = refl
-
-pub pairs-by : (o d : List ℕ) → readPairs ipv4 o d ≡ reading (pairEntries ipv4 false) (unpackBy (pairEntries ipv4 false) (pairsBody ipv4) o d) d
-unfolding readPairs unpackPairs unpackBy
-pairs-by o d = refl
+-- the two promises of a call
+pub both : {x y : ReadingCall} → x ≡ y → (y .answer ≡ x .answer) × (y .lent ≡ x .lent)
+both e = (sym (ap (λ x. x .answer) e), sym (ap (λ x. x .lent) e))

@@ -9,17 +9,17 @@ use mathlib.Core.Path.{_≡_}
 use lib.ListN.{length}
 use Rattle.octets.specs.Octets.{put}
 use Rattle.records.specs.Records.{AssertRecord}
-use Rattle.format.specs.Family.{ipv4}
+use Rattle.format.specs.Family.{Family}
 use Rattle.format.specs.Record.{each}
 use Rattle.format.specs.Entry.{assertEntryOctets}
 use Rattle.reading.specs.declared.copy.Places.{Places}
 
-pub record Fit (o : List ℕ) (at size : ℕ) (d : List ℕ) (out : ℕ) (es : List AssertRecord) : Type 0 where
+pub record Fit (f : Family) (o : List ℕ) (at size : ℕ) (d : List ℕ) (out : ℕ) (es : List AssertRecord) : Type 0 where
   pub there : at + size ≤ length o
-  -- an entry is 16 octets
-  pub room : out + 16 * length es ≤ length d
+  -- an entry is two addresses and 8 octets
+  pub room : out + (2 * f .width + 8) * length es ≤ length d
 
-pub record Copied (at size : ℕ) (d : List ℕ) (out : ℕ) (es : List AssertRecord) (d′ : List ℕ) (past : Places) : Type 0 where
+pub record Copied (f : Family) (at size : ℕ) (d : List ℕ) (out : ℕ) (es : List AssertRecord) (d′ : List ℕ) (past : Places) : Type 0 where
   pub read : past .at ≡ at + size
-  pub written : past .out ≡ out + 16 * length es
-  pub buffer : d′ ≡ put d out (each (assertEntryOctets ipv4) es)
+  pub written : past .out ≡ out + (2 * f .width + 8) * length es
+  pub buffer : d′ ≡ put d out (each (assertEntryOctets f) es)

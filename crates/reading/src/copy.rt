@@ -1,40 +1,52 @@
 // The second pass of a reading call: the entries of octets that were checked, written one after another.
 // Octets are copied as they stand; no number is read but the counts.
 // Nothing is refused here: each function knows that its octets are there and that the entries fit.
-use fields::r_bit;
+// A loop over n things is two functions, the loop and one that calls it with the family as a literal: so the compiler
+// makes a loop for each family.
+use addresses::copy_address;
+use addresses::width;
+use format::r_bit;
+use octets::copy4;
 use octets::number16;
+use octets::number32;
 ghost use mathlib.Core.Path.{_≡_};
-ghost use mathlib.Core.List.{map};
+ghost use mathlib.Core.Bool.{true, cond};
+ghost use mathlib.Core.List.{_++_};
 ghost use Prim.Native.Nat.{_+_, _≤_, _*_};
 ghost use lib.ListN.{length};
-ghost use Rattle.octets.specs.Octets.{numberAt, put, be};
+ghost use Rattle.octets.specs.Octets.{numberAt, be, put};
 ghost use Rattle.records.specs.Sizes.{groupRecordSize, groupRecordsSize, aggregatedSize, allSize};
-ghost use Rattle.records.specs.Records.{assert, groupEntries, allGroupEntries, entries, allEntries};
-ghost use Rattle.format.specs.Family.{ipv4};
+ghost use Rattle.records.specs.Records.{groupEntries, allGroupEntries, entries, allEntries};
+ghost use Rattle.format.specs.Family.{familyOf};
 ghost use Rattle.format.specs.Record.{each};
-ghost use Rattle.format.specs.Entry.{assertEntryOctets, pairEntryOctets};
-ghost use Rattle.reading.specs.Plain.{plainAsserts, plainPairs, plainAddresses, plainGroupRecord, plainGroupRecords, plainAggregated, plainRecords};
+ghost use Rattle.format.specs.Entry.{assertEntryOctets};
+ghost use Rattle.reading.specs.Plain.{entriesFor, words, entryWith, plainSize, plainEntries, skip, likeEntries, plainGroupRecord, plainGroupRecords, plainAggregated, plainRecords};
 ghost use Rattle.reading.specs.Copied.{Fit, Copied};
 
-// Four octets, as they stand. They are read before the first is stored: the compiler does not know that the two
-// slices are apart.
-fn copy4(m: &[u8], at: usize, d: &mut [u8], out: usize)
-    requires { ⌜ (at + 4 ≤ length (now m)) × (out + 4 ≤ length (now d)) ⌝ }
-    ensures { λ r. ⌜ now (d .exit) ≡ put (now (d .entry)) out (be 4 (numberAt 4 (now (m .entry)) at)) ⌝ }
+// One of two numbers.
+pub(crate) fn either(first: bool, a: usize, b: usize) -> usize
+    ensures { λ r. ⌜ (r ≡ cond first a b) × (r ≤ a + b) ⌝ }
 {
-    let a = m[at];
-    let b = m[at + 1];
-    let c = m[at + 2];
-    let e = m[at + 3];
-    d[out] = a;
-    d[out + 1] = b;
-    d[out + 2] = c;
-    d[out + 3] = e;
+    if first {
+        return a;
+    }
+    b
 }
 
-// An assert entry, from the places of its group and of its word R with preference, after which the metric stands. The
-// source is lent apart: a group record without sources has none in the message.
+// R with preference, and metric.
+fn copy_words(m: &[u8], word: usize, d: &mut [u8], out: usize)
+    requires { ⌜ (word + 8 ≤ length (now m)) × (out + 8 ≤ length (now d)) ⌝ }
+    ensures { λ r. ⌜ now (d .exit) ≡ put (now (d .entry)) out (be 4 (numberAt 4 (now (m .entry)) word) ++ be 4 (numberAt 4 (now (m .entry)) (word + 4))) ⌝ }
+{
+    copy4(&m[word..word + 4], &mut d[out..out + 4]);
+    copy4(&m[word + 4..word + 8], &mut d[out + 4..out + 8]);
+}
+
+// An entry, from the places of its group and, of an assert, of its word R with preference, after which the metric stands.
+// The source is lent apart: a group record without sources has none in the message.
 fn copy_entry(
+    ipv6: bool,
+    is_assert: bool,
     m: &[u8],
     group: usize,
     s: &[u8],
@@ -43,94 +55,52 @@ fn copy_entry(
     d: &mut [u8],
     out: usize,
 )
-    requires { ⌜ (group + 4 ≤ length (now m)) × (source + 4 ≤ length (now s)) × (word + 8 ≤ length (now m)) × (out + 16 ≤ length (now d)) ⌝ }
-    ensures { λ r. ⌜ now (d .exit) ≡ put (now (d .entry)) out (assertEntryOctets ipv4 (assert (numberAt 4 (now (m .entry)) group) (numberAt 4 (now (s .entry)) source) (numberAt 4 (now (m .entry)) word) (numberAt 4 (now (m .entry)) (word + 4)))) ⌝ }
+    requires { ⌜ (group + familyOf ipv6 .width ≤ length (now m)) × (source + familyOf ipv6 .width ≤ length (now s)) × (word + words «is_assert» ≤ length (now m)) × (out + (2 * familyOf ipv6 .width + words «is_assert») ≤ length (now d)) ⌝ }
+    ensures { λ r. ⌜ now (d .exit) ≡ put (now (d .entry)) out (entriesFor «is_assert» (familyOf ipv6) .octetsOf (entryWith «is_assert» (familyOf ipv6) (numberAt (familyOf ipv6 .width) (now (m .entry)) group) (numberAt (familyOf ipv6 .width) (now (s .entry)) source) (numberAt 4 (now (m .entry)) word) (numberAt 4 (now (m .entry)) (word + 4)))) ⌝ }
 {
-    copy4(m, group, d, out);
-    copy4(s, source, d, out + 4);
-    copy4(m, word, d, out + 8);
-    copy4(m, word + 4, d, out + 12);
-}
-
-// n assert records, one after another.
-pub(crate) fn copy_asserts(m: &[u8], from: usize, n: usize, d: &mut [u8])
-    requires { ⌜ (from + 22 * n ≤ length (now m)) × (16 * n ≤ length (now d)) ⌝ }
-    ensures { λ r. ⌜ now (d .exit) ≡ put (now (d .entry)) 0 (each (assertEntryOctets ipv4) (plainAsserts (now (m .entry)) from n)) ⌝ }
-{
-    let mut i = 0;
-    let mut at = from;
-    let mut out = 0;
-    while i < n {
-        copy_entry(m, at + 4, m, at + 10, at + 14, d, out);
-        at += 22;
-        out += 16;
-        i += 1;
+    let w = width(ipv6);
+    copy_address(ipv6, &m[group..group + w], &mut d[out..out + w]);
+    let past = out + 2 * w;
+    copy_address(ipv6, &s[source..source + w], &mut d[out + w..past]);
+    if is_assert {
+        copy_words(m, word, d, past);
     }
 }
 
-// n pairs, one after another.
-pub(crate) fn copy_pairs(m: &[u8], from: usize, n: usize, d: &mut [u8])
-    requires { ⌜ (from + 14 * n ≤ length (now m)) × (8 * n ≤ length (now d)) ⌝ }
-    ensures { λ r. ⌜ now (d .exit) ≡ put (now (d .entry)) 0 (each (pairEntryOctets ipv4) (plainPairs (now (m .entry)) from n)) ⌝ }
+// n assert records, or n pairs, one after another.
+fn copy_records_of(ipv6: bool, is_assert: bool, m: &[u8], from: usize, n: usize, d: &mut [u8])
+    requires { ⌜ (from + plainSize «is_assert» (familyOf ipv6 .width) * n ≤ length (now m)) × ((2 * familyOf ipv6 .width + words «is_assert») * n ≤ length (now d)) ⌝ }
+    ensures { λ r. ⌜ now (d .exit) ≡ put (now (d .entry)) 0 (each (entriesFor «is_assert» (familyOf ipv6) .octetsOf) (plainEntries «is_assert» (familyOf ipv6) (now (m .entry)) from n)) ⌝ }
 {
-    let mut i = 0;
+    let w = width(ipv6);
+    let size = 2 * w + either(is_assert, 8, 0);
+    let mut left = n;
     let mut at = from;
     let mut out = 0;
-    while i < n {
-        copy4(m, at + 4, d, out);
-        copy4(m, at + 10, d, out + 4);
-        at += 14;
-        out += 8;
-        i += 1;
+    while left > 0 {
+        let source = at + (w + 6);
+        copy_entry(ipv6, is_assert, m, at + 4, m, source, source + w, d, out);
+        at += size + 6;
+        out += size;
+        left -= 1;
     }
 }
 
-// One entry for each of n groups, all with one source and one word.
-fn copy_groups(
+pub(crate) fn copy_records(
+    ipv6: bool,
+    is_assert: bool,
     m: &[u8],
     from: usize,
     n: usize,
-    source: usize,
-    word: usize,
     d: &mut [u8],
-    start: usize,
 )
-    requires { ⌜ (from + 8 * n ≤ length (now m)) × (source + 4 ≤ length (now m)) × (word + 8 ≤ length (now m)) × (start + 16 * n ≤ length (now d)) ⌝ }
-    ensures { λ r. ⌜ now (d .exit) ≡ put (now (d .entry)) start (each (assertEntryOctets ipv4) (map (λ g. assert g (numberAt 4 (now (m .entry)) source) (numberAt 4 (now (m .entry)) word) (numberAt 4 (now (m .entry)) (word + 4))) (plainAddresses 4 (now (m .entry)) from n))) ⌝ }
+    requires { ⌜ (from + plainSize «is_assert» (familyOf ipv6 .width) * n ≤ length (now m)) × ((2 * familyOf ipv6 .width + words «is_assert») * n ≤ length (now d)) ⌝ }
+    ensures { λ r. ⌜ now (d .exit) ≡ put (now (d .entry)) 0 (each (entriesFor «is_assert» (familyOf ipv6) .octetsOf) (plainEntries «is_assert» (familyOf ipv6) (now (m .entry)) from n)) ⌝ }
 {
-    let mut i = 0;
-    let mut at = from;
-    let mut out = start;
-    while i < n {
-        copy_entry(m, at + 4, m, source, word, d, out);
-        at += 8;
-        out += 16;
-        i += 1;
+    if ipv6 {
+        return copy_records_of(true, is_assert, m, from, n, d);
     }
-}
-
-// One entry for each of n sources, all with one group and one word.
-fn copy_sources(
-    m: &[u8],
-    from: usize,
-    n: usize,
-    group: usize,
-    word: usize,
-    d: &mut [u8],
-    start: usize,
-)
-    requires { ⌜ (from + 6 * n ≤ length (now m)) × (group + 4 ≤ length (now m)) × (word + 8 ≤ length (now m)) × (start + 16 * n ≤ length (now d)) ⌝ }
-    ensures { λ r. ⌜ now (d .exit) ≡ put (now (d .entry)) start (each (assertEntryOctets ipv4) (map (λ s. assert (numberAt 4 (now (m .entry)) group) s (numberAt 4 (now (m .entry)) word) (numberAt 4 (now (m .entry)) (word + 4))) (plainAddresses 2 (now (m .entry)) from n))) ⌝ }
-{
-    let mut i = 0;
-    let mut at = from;
-    let mut out = start;
-    while i < n {
-        copy_entry(m, group, m, at + 2, word, d, out);
-        at += 6;
-        out += 16;
-        i += 1;
-    }
+    copy_records_of(false, is_assert, m, from, n, d)
 }
 
 // The places past what was read and past what was written.
@@ -139,28 +109,86 @@ struct Places {
     out: usize,
 }
 
-// The entries of a group record; with no source one entry with source 0.
-fn copy_group_record(m: &[u8], at: usize, d: &mut [u8], out: usize, word: usize) -> Places
-    requires { ⌜ (word + 8 ≤ length (now m)) × Fit (now m) at (groupRecordSize 4 (numberAt 2 (now m) (at + 8))) (now d) out (groupEntries (numberAt 4 (now m) word) (numberAt 4 (now m) (word + 4)) (plainGroupRecord (now m) at)) ⌝ }
-    ensures { λ r. ⌜ Copied at (groupRecordSize 4 (numberAt 2 (now (m .entry)) (at + 8))) (now (d .entry)) out (groupEntries (numberAt 4 (now (m .entry)) word) (numberAt 4 (now (m .entry)) (word + 4)) (plainGroupRecord (now (m .entry)) at)) (now (d .exit)) r ⌝ }
+// One entry for each of n groups, or of n sources, all with one other address and one word.
+fn copy_addresses_of(
+    ipv6: bool,
+    is_group: bool,
+    m: &[u8],
+    from: usize,
+    n: usize,
+    other: usize,
+    word: usize,
+    d: &mut [u8],
+    start: usize,
+) -> Places
+    requires { ⌜ (other + familyOf ipv6 .width ≤ length (now m)) × (word + 8 ≤ length (now m)) × Fit (familyOf ipv6) (now m) from ((familyOf ipv6 .width + skip «is_group») * n) (now d) start (likeEntries «is_group» (familyOf ipv6 .width) (now m) other word from n) ⌝ }
+    ensures { λ r. ⌜ Copied (familyOf ipv6) from ((familyOf ipv6 .width + skip «is_group») * n) (now (d .entry)) start (likeEntries «is_group» (familyOf ipv6 .width) (now (m .entry)) other word from n) (now (d .exit)) r ⌝ }
 {
-    let p = number16(&m[at + 8..at + 10], 0);
+    let w = width(ipv6);
+    let mut left = n;
+    let mut at = from;
+    let mut out = start;
+    while left > 0 {
+        let address = at + either(is_group, 4, 2);
+        let group = either(is_group, address, other);
+        let source = either(is_group, other, address);
+        copy_entry(ipv6, true, m, group, m, source, word, d, out);
+        at = address + w;
+        out += 2 * w + 8;
+        left -= 1;
+    }
+    Places { at, out }
+}
+
+fn copy_addresses(
+    ipv6: bool,
+    is_group: bool,
+    m: &[u8],
+    from: usize,
+    n: usize,
+    other: usize,
+    word: usize,
+    d: &mut [u8],
+    start: usize,
+) -> Places
+    requires { ⌜ (other + familyOf ipv6 .width ≤ length (now m)) × (word + 8 ≤ length (now m)) × Fit (familyOf ipv6) (now m) from ((familyOf ipv6 .width + skip «is_group») * n) (now d) start (likeEntries «is_group» (familyOf ipv6 .width) (now m) other word from n) ⌝ }
+    ensures { λ r. ⌜ Copied (familyOf ipv6) from ((familyOf ipv6 .width + skip «is_group») * n) (now (d .entry)) start (likeEntries «is_group» (familyOf ipv6 .width) (now (m .entry)) other word from n) (now (d .exit)) r ⌝ }
+{
+    if ipv6 {
+        return copy_addresses_of(true, is_group, m, from, n, other, word, d, start);
+    }
+    copy_addresses_of(false, is_group, m, from, n, other, word, d, start)
+}
+
+// The entries of a group record; with no source one entry with source 0.
+fn copy_group_record(
+    ipv6: bool,
+    m: &[u8],
+    at: usize,
+    d: &mut [u8],
+    out: usize,
+    word: usize,
+) -> Places
+    requires { ⌜ (word + 8 ≤ length (now m)) × Fit (familyOf ipv6) (now m) at (groupRecordSize (familyOf ipv6 .width) (numberAt 2 (now m) (at + (familyOf ipv6 .width + 4)))) (now d) out (groupEntries (numberAt 4 (now m) word) (numberAt 4 (now m) (word + 4)) (plainGroupRecord (familyOf ipv6 .width) (now m) at)) ⌝ }
+    ensures { λ r. ⌜ Copied (familyOf ipv6) at (groupRecordSize (familyOf ipv6 .width) (numberAt 2 (now (m .entry)) (at + (familyOf ipv6 .width + 4)))) (now (d .entry)) out (groupEntries (numberAt 4 (now (m .entry)) word) (numberAt 4 (now (m .entry)) (word + 4)) (plainGroupRecord (familyOf ipv6 .width) (now (m .entry)) at)) (now (d .exit)) r ⌝ }
+{
+    let w = width(ipv6);
+    let sources = at + (w + 8);
+    let p = number16(&m[at + (w + 4)..at + (w + 6)], 0);
     if p == 0 {
-        copy_entry(m, at + 4, b"\x00\x00\x00\x00", 0, word, d, out);
+        let zeros = b"\x00\x00\x00\x00\x00\x00\x00\x00\x00\x00\x00\x00\x00\x00\x00\x00";
+        copy_entry(ipv6, true, m, at + 4, zeros, 0, word, d, out);
         return Places {
-            at: at + 12,
-            out: out + 16,
+            at: sources,
+            out: out + (2 * w + 8),
         };
     }
-    copy_sources(m, at + 12, p, at + 4, word, d, out);
-    Places {
-        at: at + 12 + 6 * p,
-        out: out + 16 * p,
-    }
+    copy_addresses(ipv6, false, m, sources, p, at + 4, word, d, out)
 }
 
 // The entries of n group records, one after another.
 fn copy_group_records(
+    ipv6: bool,
     m: &[u8],
     from: usize,
     n: usize,
@@ -168,47 +196,44 @@ fn copy_group_records(
     start: usize,
     word: usize,
 ) -> Places
-    requires { ⌜ (word + 8 ≤ length (now m)) × Fit (now m) from (groupRecordsSize 4 (plainGroupRecords (now m) from n)) (now d) start (allGroupEntries (numberAt 4 (now m) word) (numberAt 4 (now m) (word + 4)) (plainGroupRecords (now m) from n)) ⌝ }
-    ensures { λ r. ⌜ Copied from (groupRecordsSize 4 (plainGroupRecords (now (m .entry)) from n)) (now (d .entry)) start (allGroupEntries (numberAt 4 (now (m .entry)) word) (numberAt 4 (now (m .entry)) (word + 4)) (plainGroupRecords (now (m .entry)) from n)) (now (d .exit)) r ⌝ }
+    requires { ⌜ (word + 8 ≤ length (now m)) × Fit (familyOf ipv6) (now m) from (groupRecordsSize (familyOf ipv6 .width) (plainGroupRecords (familyOf ipv6 .width) (now m) from n)) (now d) start (allGroupEntries (numberAt 4 (now m) word) (numberAt 4 (now m) (word + 4)) (plainGroupRecords (familyOf ipv6 .width) (now m) from n)) ⌝ }
+    ensures { λ r. ⌜ Copied (familyOf ipv6) from (groupRecordsSize (familyOf ipv6 .width) (plainGroupRecords (familyOf ipv6 .width) (now (m .entry)) from n)) (now (d .entry)) start (allGroupEntries (numberAt 4 (now (m .entry)) word) (numberAt 4 (now (m .entry)) (word + 4)) (plainGroupRecords (familyOf ipv6 .width) (now (m .entry)) from n)) (now (d .exit)) r ⌝ }
 {
-    let mut i = 0;
+    let mut left = n;
     let mut at = from;
     let mut out = start;
-    while i < n {
-        let p = copy_group_record(m, at, d, out, word);
+    while left > 0 {
+        let p = copy_group_record(ipv6, m, at, d, out, word);
         at = p.at;
         out = p.out;
-        i += 1;
+        left -= 1;
     }
     Places { at, out }
 }
 
 // The entries of an aggregated record, of which R tells the two forms apart.
-fn copy_record(m: &[u8], at: usize, d: &mut [u8], out: usize) -> Places
-    requires { ⌜ Fit (now m) at (aggregatedSize 4 (plainAggregated (now m) at)) (now d) out (entries (plainAggregated (now m) at)) ⌝ }
-    ensures { λ r. ⌜ Copied at (aggregatedSize 4 (plainAggregated (now (m .entry)) at)) (now (d .entry)) out (entries (plainAggregated (now (m .entry)) at)) (now (d .exit)) r ⌝ }
+fn copy_record(ipv6: bool, m: &[u8], at: usize, d: &mut [u8], out: usize) -> Places
+    requires { ⌜ Fit (familyOf ipv6) (now m) at (aggregatedSize (familyOf ipv6 .width) (plainAggregated (familyOf ipv6 .width) (now m) at)) (now d) out (entries (plainAggregated (familyOf ipv6 .width) (now m) at)) ⌝ }
+    ensures { λ r. ⌜ Copied (familyOf ipv6) at (aggregatedSize (familyOf ipv6 .width) (plainAggregated (familyOf ipv6 .width) (now (m .entry)) at)) (now (d .entry)) out (entries (plainAggregated (familyOf ipv6 .width) (now (m .entry)) at)) (now (d .exit)) r ⌝ }
 {
-    if r_bit(&m[at..at + 4]) {
+    if r_bit(number32(&m[at..at + 4], 0)) {
         let n = number16(&m[at + 8..at + 10], 0);
-        return copy_group_records(m, at + 12, n, d, out, at);
+        return copy_group_records(ipv6, m, at + 12, n, d, out, at);
     }
-    let n = number16(&m[at + 14..at + 16], 0);
-    copy_groups(m, at + 18, n, at + 10, at, d, out);
-    Places {
-        at: at + 18 + 8 * n,
-        out: out + 16 * n,
-    }
+    let w = width(ipv6);
+    let n = number16(&m[at + (w + 10)..at + (w + 12)], 0);
+    copy_addresses(ipv6, true, m, at + (w + 14), n, at + 10, at, d, out)
 }
 
 // The entries of the aggregated records up to the end of a message.
-pub(crate) fn copy_aggregated(m: &[u8], from: usize, d: &mut [u8])
-    requires { ⌜ (from + allSize 4 (plainRecords (length (now m)) (now m) from) ≡ length (now m)) × (16 * length (allEntries (plainRecords (length (now m)) (now m) from)) ≤ length (now d)) ⌝ }
-    ensures { λ r. ⌜ now (d .exit) ≡ put (now (d .entry)) 0 (each (assertEntryOctets ipv4) (allEntries (plainRecords (length (now (m .entry))) (now (m .entry)) from))) ⌝ }
+pub(crate) fn copy_aggregated(ipv6: bool, m: &[u8], from: usize, d: &mut [u8])
+    requires { ⌜ (from + allSize (familyOf ipv6 .width) (plainRecords (familyOf ipv6 .width) (length (now m)) (now m) from) ≡ length (now m)) × ((2 * familyOf ipv6 .width + 8) * length (allEntries (plainRecords (familyOf ipv6 .width) (length (now m)) (now m) from)) ≤ length (now d)) ⌝ }
+    ensures { λ r. ⌜ now (d .exit) ≡ put (now (d .entry)) 0 (each (assertEntryOctets (familyOf ipv6)) (allEntries (plainRecords (familyOf ipv6 .width) (length (now (m .entry))) (now (m .entry)) from))) ⌝ }
 {
     let mut at = from;
     let mut out = 0;
     while at < m.len() {
-        let p = copy_record(m, at, d, out);
+        let p = copy_record(ipv6, m, at, d, out);
         at = p.at;
         out = p.out;
     }

@@ -5,16 +5,17 @@ use Prim.Native.Nat.{_-_}
 use native.Mathlib.Omega.{arith}
 use lib.ListN.{length}
 use denote.Ref.{now}
+use Rattle.format.specs.Family.{familyOf}
 use Rattle.reading.specs.Plain.{plainAggregated}
 use Rattle.reading.proofs.Copying.{ToEnd, to-end-start, record-there, record-next, to-end-end, size-least}
 use Rattle.reading.proofs.copy.copy_aggregated.Statement.{statement}
 use Rattle.reading.proofs.copy.copy_aggregated.Tie as tie
 
 abbrev Inv-loop : tie.InvT-loop
-Inv-loop m from d₀ at₀ out₀ d at out = ToEnd m from d₀ d at out
+Inv-loop ipv6 m from d₀ at₀ out₀ d at out = ToEnd (familyOf ipv6) m from d₀ d at out
 
 abbrev μ-loop : tie.MeasureT-loop
-μ-loop m from d₀ at₀ out₀ d at out = length m - at
+μ-loop ipv6 m from d₀ at₀ out₀ d at out = length m - at
 
 loop-holds : tie.Need-loop-holds Inv-loop μ-loop
 loop-holds c = to-end-start (c .before .before .pre .0) (c .before .before .pre .1)
@@ -24,16 +25,14 @@ copy-record-requires c κs = let h = record-there (c .before .before .loop .inv)
 
 loop-less : tie.Need-loop-less Inv-loop μ-loop
 loop-less c =
-    let b = c .before .before in
-    let l = b .before .before .before in
-    omega (arith, size-least (plainAggregated (now (l .before .before .before .args .m)) (l .loop .at)), b .copy-record .ensures .read)
+    let a = c .before .before .before .before .before .before .before .before .args in
+    let w = familyOf (a .ipv6) .width in
+    omega (arith, size-least w (plainAggregated w (now (a .m)) (c .before .before .before .before .before .loop .at)), c .before .before .copy-record .ensures .read)
 
 loop-again : tie.Need-loop-again Inv-loop μ-loop
 loop-again c =
-    let b = c .before .before in
-    let l = b .before .before .before in
-    let e = b .copy-record .ensures in
-    record-next (l .loop .inv) (b .before .before .loop-test .taken) (e .buffer) (e .read) (e .written)
+    let e = c .before .before .copy-record .ensures in
+    record-next (c .before .before .before .before .before .loop .inv) (c .before .before .before .before .loop-test .taken) (e .buffer) (e .read) (e .written)
 
 same-length : tie.Need-same-length Inv-loop μ-loop
 same-length c = c .before .loop .inv .walk .written .same

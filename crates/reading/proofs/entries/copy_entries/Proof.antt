@@ -1,63 +1,61 @@
 -- `reading::entries::copy_entries` meets its contract, kind by kind: what was counted is there, and is what is copied.
 -- Assumes nothing.
-use Prim.Native.Nat.{ℕ, _*_}
+use Prim.Native.Nat.{ℕ, _+_, _*_}
 use native.Mathlib.Omega.{arith}
-use mathlib.Core.Path.{ap}
+use mathlib.Core.Path.{_≡_, ap}
 use denote.Ref.{now}
+use Rattle.format.specs.Family.{familyOf}
+use Rattle.format.specs.declared.Kind.{Kind}
+use Rattle.reading.specs.Plain.{words}
+use Rattle.reading.specs.Calls.{bodyFor}
+use Rattle.reading.proofs.Delivered.{Delivers, delivers}
 use borrow.Author.Needs.{needs}
-use Rattle.format.specs.Body.{assertsBody}
-use Rattle.reading.proofs.Delivered.{plain-entries, simple-entries, joined-entries, none-counted}
 use Rattle.reading.proofs.entries.copy_entries.Statement.{statement}
 use Rattle.reading.proofs.entries.copy_entries.Tie as tie
 
-copy-asserts-requires : tie.Need-copy-asserts-requires
-copy-asserts-requires c κs =
-    let a = c .before .before .before .before .before in
-    (plain-entries (now (a .args .m)) (a .args .n) (rw (c .before .enum-told2 .given .1) at (a .pre .0)) .there, a .pre .1)
+-- what is delivered, of the kind that code has found
+there : (s : tie.Start) {k : Kind} → s .args .kind ≡ k
+    → let a = s .args in
+    Delivers (a .is-assert) (familyOf (a .ipv6)) (now (a .m)) (a .n) (bodyFor (a .is-assert) (familyOf (a .ipv6)) (a .kind) (now (a .m)) 4) k
+there s e = let a = s .args in delivers (a .is-assert) (familyOf (a .ipv6)) (now (a .m)) (a .n) e (s .pre .0)
 
-copy-asserts-requires-2 : tie.Need-copy-asserts-requires-2
-copy-asserts-requires-2 c κs =
-    let a = c .before .before .before .before .before in
-    (simple-entries (now (a .args .m)) (a .args .n) (rw (c .before .enum-told3 .given .1) at (a .pre .0)) .there, a .pre .1)
+copy-records-requires : tie.Need-copy-records-requires
+copy-records-requires c κs = let s = c .before .before .before .before .before in (there s (c .before .enum-told2 .given .1) .there, s .pre .1)
+
+copy-records-requires-2 : tie.Need-copy-records-requires-2
+copy-records-requires-2 c κs = let s = c .before .before .before .before .before in (there s (c .before .enum-told3 .given .1) .there, s .pre .1)
 
 copy-aggregated-requires : tie.Need-copy-aggregated-requires
 copy-aggregated-requires c κs =
-    let a = c .before .before .before .before .before in
-    let j = joined-entries (now (a .args .m)) (a .args .n) (rw (c .before .enum-told4 .given .1) at (a .pre .0)) in
-    (j .0, omega (arith, ap (λ (x : ℕ). 16 * x) (j .1), a .pre .1))
+    let s = c .before .before .before .before .before in
+    let w = familyOf (s .args .ipv6) .width in
+    let j = there s (c .before .enum-told4 .given .1) in
+    let eight : (2 * w + words (s .args .is-assert)) * s .args .n ≡ (2 * w + 8) * s .args .n = ap (λ x. (2 * w + words x) * s .args .n) (j .is) in
+    (j .whole, omega (arith, ap (λ (x : ℕ). (2 * w + 8) * x) (j .count), eight, s .pre .1))
+
+copy-records-requires-3 : tie.Need-copy-records-requires-3
+copy-records-requires-3 c κs = let s = c .before .before .before .before .before in (there s (c .before .enum-told5 .given .1) .there, s .pre .1)
+
+copy-records-requires-4 : tie.Need-copy-records-requires-4
+copy-records-requires-4 c κs = let s = c .before .before .before .before .before in (there s (c .before .enum-told6 .given .1) .there, s .pre .1)
 
 returns : tie.Need-returns
-unfolding assertsBody
-returns c =
-    absurd (none-counted (rw (c .enum-told .given .1) at (c .before .before .before .before .pre .0)))
+returns c = absurd (there (c .before .before .before .before) (c .enum-told .given .1))
 
 returns-2 : tie.Need-returns-2
-returns-2 c =
-    let a = c .before .before .before .before .before .before .before .before in
-    let p = plain-entries (now (a .args .m)) (a .args .n) (rw (c .before .before .before .before .enum-told2 .given .1) at (a .pre .0)) in
-    rw (c .before .before .before .before .enum-told2 .given .1, p .entries) (c .before .before .copy-asserts .ensures)
+returns-2 c = rw (there (c .before .before .before .before .before .before .before .before) (c .before .before .before .before .enum-told2 .given .1) .entries) (c .before .before .copy-records .ensures)
 
 returns-3 : tie.Need-returns-3
-returns-3 c =
-    let a = c .before .before .before .before .before .before .before .before in
-    let p = simple-entries (now (a .args .m)) (a .args .n) (rw (c .before .before .before .before .enum-told3 .given .1) at (a .pre .0)) in
-    rw (c .before .before .before .before .enum-told3 .given .1, p .entries) (c .before .before .copy-asserts2 .ensures)
+returns-3 c = rw (there (c .before .before .before .before .before .before .before .before) (c .before .before .before .before .enum-told3 .given .1) .entries) (c .before .before .copy-records2 .ensures)
 
 returns-4 : tie.Need-returns-4
-returns-4 c =
-    let a = c .before .before .before .before .before .before .before .before in
-    let p = joined-entries (now (a .args .m)) (a .args .n) (rw (c .before .before .before .before .enum-told4 .given .1) at (a .pre .0)) in
-    rw (c .before .before .before .before .enum-told4 .given .1, p .2) (c .before .before .copy-aggregated .ensures)
+returns-4 c = rw (there (c .before .before .before .before .before .before .before .before) (c .before .before .before .before .enum-told4 .given .1) .octets) (c .before .before .copy-aggregated .ensures)
 
 returns-5 : tie.Need-returns-5
-unfolding assertsBody
-returns-5 c =
-    absurd (none-counted (rw (c .enum-told5 .given .1) at (c .before .before .before .before .pre .0)))
+returns-5 c = rw (there (c .before .before .before .before .before .before .before .before) (c .before .before .before .before .enum-told5 .given .1) .entries) (c .before .before .copy-records3 .ensures)
 
 returns-6 : tie.Need-returns-6
-unfolding assertsBody
-returns-6 c =
-    absurd (none-counted (rw (c .enum-told6 .given .1) at (c .before .before .before .before .pre .0)))
+returns-6 c = rw (there (c .before .before .before .before .before .before .before .before) (c .before .before .before .before .enum-told6 .given .1) .entries) (c .before .before .copy-records4 .ensures)
 
 pub copy-entries-spec : {M : Type 1} → statement M
 copy-entries-spec =
@@ -65,13 +63,15 @@ copy-entries-spec =
     (tie.spec
     (λ c. search needs)
     (λ c. search needs)
-    copy-asserts-requires
+    copy-records-requires
     (λ c. search needs)
-    copy-asserts-requires-2
+    copy-records-requires-2
     (λ c. search needs)
     copy-aggregated-requires
     (λ c. search needs)
+    copy-records-requires-3
     (λ c. search needs)
+    copy-records-requires-4
     returns
     (λ c. search needs)
     returns-2
@@ -79,5 +79,7 @@ copy-entries-spec =
     returns-3
     (λ c. search needs)
     returns-4
+    (λ c. search needs)
     returns-5
+    (λ c. search needs)
     returns-6)
