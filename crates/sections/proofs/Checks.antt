@@ -24,14 +24,14 @@ module _ (L : Layout) (f : Family) (o : List ℕ) (c : Counts) {a : Section}
   unfolding checkSections sectionBy _>>_
   sections-asserts e = rw (← asserts, e) refl
 
-  module _ (sound : a ≡ Sound) {b : Section} (pairs : sectionBy b ≡ checkEntries (pairsIn f) o (pairsFrom L f c) (c .pairs)) where
+  module _ (sound : a ≡ Sound) {from : ℕ} (past : from ≡ pairsFrom L f c) {b : Section} (pairs : sectionBy b ≡ checkEntries (pairsIn f) o from (c .pairs)) where
     pub sections-pairs : {p : ℕ} → b ≡ Fault p → sectionBy b ≡ checkSections L f o c
     unfolding checkSections sectionBy _>>_
-    sections-pairs e = rw (← asserts, sound, ← pairs, e) refl
+    sections-pairs e = rw (← asserts, sound, ← past, ← pairs, e) refl
 
-    pub sections-rows : b ≡ Sound → {r : Outcome (Unit {0})} → r ≡ checkRows f o [] (rowsFrom L f c) (c .neighbours) → r ≡ checkSections L f o c
+    pub sections-rows : b ≡ Sound → {r : Outcome (Unit {0})} {last : ℕ} → last ≡ rowsFrom L f c → r ≡ checkRows f o [] last (c .neighbours) → r ≡ checkSections L f o c
     unfolding checkSections sectionBy _>>_
-    sections-rows e rows = rw (← asserts, sound, ← pairs, e) rows
+    sections-rows e end rows = rw (← asserts, sound, ← past, ← pairs, e, ← end) rows
 
 -- a line more after three
 regroup : {A : Type 0} (a b r : Outcome (Unit {0})) (y : Outcome A) → a >> (b >> (r >> y)) ≡ (a >> (b >> r)) >> y

@@ -1,5 +1,5 @@
 -- The entries of a part of a sheet, and of the sheet from a place on.
---     allowed-part                  an entry of a part is allowed as at its place in the whole, for every kind
+--     allowed-part                  an entry of a part is allowed as at its place in the whole, assert or pair
 --     bad-within                    the number of a bad entry
 --     Found, entries-sound, entries-bad, bad-there    what code finds in a part says what the section comes to
 -- Assumes nothing.
@@ -13,13 +13,12 @@ use lib.ListN.{length, take, drop, length-drop}
 use lib.Seq.{length-take-le}
 use Rattle.octets.proofs.Laws.{number-part}
 use Rattle.format.specs.Outcome.{Outcome, gives, refuses, refuseIf, _>>_}
-use Rattle.format.specs.Family.{Family}
+use Rattle.format.specs.Family.{Family, familyOf}
 use Rattle.format.specs.Entry.{Entries, assertAt, pairAt, count, allowedAssert, allowedPair}
 use Rattle.format.specs.Packing.{firstBadAt, firstBad}
 use Rattle.format.specs.declared.Kind.{Kind}
-use Rattle.format.specs.declared.Kind.the-variants.{Hello, Assert, Simple, Aggregated, NullRegister, RegisterStop}
 use Rattle.format.proofs.Outcomes.{no-refusal}
-use Rattle.entries.specs.Kinds.{entriesFor, listedBy}
+use Rattle.entries.specs.Kinds.{isAssert, isStop, entriesBy, entriesFor, listedBy}
 use Rattle.entries.proofs.ByKind.{size-range}
 use Rattle.entries.specs.declared.Listed.{Listed}
 use Rattle.entries.specs.declared.Listed.the-variants.{Allowed, Bad}
@@ -46,13 +45,10 @@ module _ (o : List ℕ) (from n : ℕ) (there : from + n ≤ length o) where
         number-part o from n there (f .width) (at + f .width) (from + at + f .width) (omega arith) (omega arith),
       )
 
-  pub allowed-part : (k : Kind) (at : ℕ) → at + entriesFor false k .size ≤ n → entriesFor false k .allowedAt (take n (drop from o)) at ≡ entriesFor false k .allowedAt o (from + at)
-  allowed-part Hello at h = ap (allowedAssert _) (assert-part _ at h)
-  allowed-part Assert at h = ap (allowedAssert _) (assert-part _ at h)
-  allowed-part Simple at h = ap (allowedAssert _) (assert-part _ at h)
-  allowed-part Aggregated at h = ap (allowedAssert _) (assert-part _ at h)
-  allowed-part NullRegister at h = ap (allowedPair _ _) (pair-part _ at h)
-  allowed-part RegisterStop at h = ap (allowedPair _ _) (pair-part _ at h)
+  pub allowed-part : (f : Family) (asserts stop : Bool) (at : ℕ) → at + entriesBy f asserts stop .size ≤ n
+      → entriesBy f asserts stop .allowedAt (take n (drop from o)) at ≡ entriesBy f asserts stop .allowedAt o (from + at)
+  allowed-part f true stop at h = ap (allowedAssert _) (assert-part f at h)
+  allowed-part f false stop at h = ap (allowedPair _ _) (pair-part f at h)
 
 -- ---- the first bad entry
 
@@ -90,45 +86,45 @@ module _ (E : Entries) (o s : List ℕ) (from n : ℕ) (same : (at : ℕ) → at
 -- ---- what code finds in a part
 
 -- the octets of so many entries from a place on
-abbrev section : Kind → List ℕ → ℕ → ℕ → List ℕ
-section k o from m = take (entriesFor false k .size * m) (drop from o)
+abbrev section : Bool → Kind → List ℕ → ℕ → ℕ → List ℕ
+section ipv6 k o from m = take (entriesFor ipv6 k .size * m) (drop from o)
 
 -- what `first_bad` promises of them
-abbrev pub Found : Kind → List ℕ → ℕ → ℕ → Listed → Type 0
-Found k o from m x = listedBy x ≡ firstBad (entriesFor false k) (section k o from m) 0
+abbrev pub Found : Bool → Kind → List ℕ → ℕ → ℕ → Listed → Type 0
+Found ipv6 k o from m x = listedBy x ≡ firstBad (entriesFor ipv6 k) (section ipv6 k o from m) 0
 
-module _ (k : Kind) (o : List ℕ) (from m : ℕ) (there : from + entriesFor false k .size * m ≤ length o) where
-  part-count : count (entriesFor false k) (section k o from m) ≡ m
+module _ (ipv6 : Bool) (k : Kind) (o : List ℕ) (from m : ℕ) (there : from + entriesFor ipv6 k .size * m ≤ length o) where
+  part-count : count (entriesFor ipv6 k) (section ipv6 k o from m) ≡ m
   unfolding count
   part-count =
-      let full : length (section k o from m) ≡ entriesFor false k .size * m =
-      length-take-le (entriesFor false k .size * m) (drop from o) (simp length-drop (omega arith)) in
-      rw full (mul-div-cancel-left m (omega (arith, size-range false k)))
+      let full : length (section ipv6 k o from m) ≡ entriesFor ipv6 k .size * m =
+      length-take-le (entriesFor ipv6 k .size * m) (drop from o) (simp length-drop (omega arith)) in
+      rw full (mul-div-cancel-left m (omega (arith, size-range ipv6 k)))
 
-  section-is : checkEntries (entriesFor false k) o from m ≡ placed from (entriesFor false k .size) (firstBad (entriesFor false k) (section k o from m) 0)
+  section-is : checkEntries (entriesFor ipv6 k) o from m ≡ placed from (entriesFor ipv6 k .size) (firstBad (entriesFor ipv6 k) (section ipv6 k o from m) 0)
   unfolding firstBad
   section-is =
-      let none : entriesFor false k .size * 0 ≡ 0 = mul-zero (entriesFor false k .size) in
-      let all : count (entriesFor false k) (section k o from m) - 0 ≡ m = omega (arith, part-count) in
+      let none : entriesFor ipv6 k .size * 0 ≡ 0 = mul-zero (entriesFor ipv6 k .size) in
+      let all : count (entriesFor ipv6 k) (section ipv6 k o from m) - 0 ≡ m = omega (arith, part-count) in
       rw all
-      (check-part (entriesFor false k) o (section k o from m) from (entriesFor false k .size * m) (allowed-part o from (entriesFor false k .size * m) there k)
-      m 0 from (entriesFor false k .size * 0) refl (omega arith) (omega arith))
+      (check-part (entriesFor ipv6 k) o (section ipv6 k o from m) from (entriesFor ipv6 k .size * m) (allowed-part o from (entriesFor ipv6 k .size * m) there (familyOf ipv6) (isAssert k) (isStop k))
+      m 0 from (entriesFor ipv6 k .size * 0) refl (omega arith) (omega arith))
 
-  module _ {x : Listed} (found : Found k o from m x) where
-    pub entries-sound : x ≡ Allowed → gives tt ≡ checkEntries (entriesFor false k) o from m
+  module _ {x : Listed} (found : Found ipv6 k o from m x) where
+    pub entries-sound : x ≡ Allowed → gives tt ≡ checkEntries (entriesFor ipv6 k) o from m
     unfolding listedBy
-    entries-sound e = sym (section-is ∙ ap (placed from (entriesFor false k .size)) (sym (rw e at found)))
+    entries-sound e = sym (section-is ∙ ap (placed from (entriesFor ipv6 k .size)) (sym (rw e at found)))
 
-    pub entries-bad : {i : ℕ} → x ≡ Bad i → refuses 14 (from + entriesFor false k .size * i) ≡ checkEntries (entriesFor false k) o from m
+    pub entries-bad : {i : ℕ} → x ≡ Bad i → refuses 14 (from + entriesFor ipv6 k .size * i) ≡ checkEntries (entriesFor ipv6 k) o from m
     unfolding listedBy
-    entries-bad e = sym (section-is ∙ ap (placed from (entriesFor false k .size)) (sym (rw e at found)))
+    entries-bad e = sym (section-is ∙ ap (placed from (entriesFor ipv6 k .size)) (sym (rw e at found)))
 
     -- the place of a bad entry is in the section
-    pub bad-there : {i : ℕ} → x ≡ Bad i → from + entriesFor false k .size * i ≤ length o
+    pub bad-there : {i : ℕ} → x ≡ Bad i → from + entriesFor ipv6 k .size * i ≤ length o
     unfolding listedBy firstBad
     bad-there {i} e =
-        let below : i < 0 + (count (entriesFor false k) (section k o from m) - 0) =
-        bad-within (entriesFor false k) (section k o from m) _ 0 _ (rw e at found) in
+        let below : i < 0 + (count (entriesFor ipv6 k) (section ipv6 k o from m) - 0) =
+        bad-within (entriesFor ipv6 k) (section ipv6 k o from m) _ 0 _ (rw e at found) in
         let few : i ≤ m = omega (arith, part-count) in
-        let less : entriesFor false k .size * i ≤ entriesFor false k .size * m = mul-le-mul-left (entriesFor false k .size) few in
+        let less : entriesFor ipv6 k .size * i ≤ entriesFor ipv6 k .size * m = mul-le-mul-left (entriesFor ipv6 k .size) few in
         omega arith

@@ -1,13 +1,17 @@
 -- The header of a sheet, test by test.
 --     counts-within                                               counts that are allowed
---     counts-are, end-is, agree-is                                the counts, the end and the offsets by the numbers that code has
+--     counts-are, few                                             the counts as code reads them; their products are small
+--     no-places, are-places, pairs-place, rows-place, end-place   where the sections are
+--     agree-is, base-places                                       the offsets, and the places in IPv4, by the numbers that code has
 --     header-short, header-counts, header-offsets, header-fine    what a header comes to
---     header-end                                                  a sheet whose header is in order is as long as it says
+--     header-end                                                  counts in order are allowed, and the sheet is as long as they say
 -- Assumes nothing.
-use mathlib.Core.Path.{_≡_, refl, _∙_}
+use mathlib.Core.Path.{_≡_, refl, ap, _∙_}
 use mathlib.Core.Bool.{Bool, true, false, not, _&&_}
 use mathlib.Core.List.{List}
 use Prim.Native.Nat.{ℕ, _+_, _*_, _≤_, _<_}
+use native.Mathlib.Nat.{mul-le-mul-left}
+use native.Mathlib.Omega.{arith}
 use borrow.Author.Tests.{lt-ltb, le-ltb, leb-true, eqb-true, not-false}
 use lib.ListN.{length}
 use lib.Dec.{eqb, leb}
@@ -18,7 +22,9 @@ use Rattle.format.proofs.Outcomes.{gives-same, unless-gives}
 use Rattle.neighbours.proofs.Tables.{and-true}
 use Rattle.sections.specs.Layout.{Layout, base, headerSize, pairsFrom, rowsFrom, end}
 use Rattle.sections.specs.Checking.{fault, countsIn, countsAllowed, offsetsAgree, checkHeader}
+use Rattle.sections.specs.Sections.{placesOf}
 use Rattle.sections.specs.declared.Counts.{Counts}
+use Rattle.sections.specs.declared.layout.Places.{Places}
 
 pub counts-within : (L : Layout) (c : Counts) → countsAllowed L c ≡ true
     → (c .asserts ≤ L .assertLimit) × (c .pairs ≤ L .pairLimit) × (c .neighbours ≤ L .rowLimit)
@@ -33,17 +39,45 @@ pub counts-are : (o : List ℕ) {x y z : ℕ} → x ≡ numberAt 2 o 0 → y ≡
 unfolding countsIn
 counts-are o ex ey ez = rw (ex, ey, ez) refl
 
--- the end, where code reckons with it
-pub end-is : (o : List ℕ) (c : Counts) → length o ≡ end base ipv4 c → length o ≡ 12 + 16 * c .asserts + 8 * c .pairs + 12 * c .neighbours
-unfolding pairsFrom rowsFrom end
-end-is o c e = e
+-- no product of a size and a count is past 64 bits
+pub few : (size n : ℕ) → size ≤ 40 → n ≤ 1024 → size * n ≤ 40960
+few size n h g = omega (arith, mul-le-mul-left size g)
 
-pub agree-is : (o : List ℕ) (c : Counts) {x y z : ℕ} → x ≡ numberAt 2 o 2 → y ≡ numberAt 2 o 6 → z ≡ numberAt 2 o 10
-    → offsetsAgree base ipv4 o c
-    ≡ (eqb x 12 && (eqb y (12 + 16 * c .asserts)
-    && (eqb z (12 + 16 * c .asserts + 8 * c .pairs) && eqb (length o) (12 + 16 * c .asserts + 8 * c .pairs + 12 * c .neighbours))))
-unfolding offsetsAgree pairsFrom rowsFrom end
-agree-is o c ex ey ez = rw (ex, ey, ez) refl
+-- ---- the places of the sections
+
+module _ (L : Layout) (f : Family) (c : Counts) where
+  pub no-places : countsAllowed L c ≡ false → placesOf L f c ≡ record { pairs = 0; rows = 0; end = 0 }
+  unfolding placesOf
+  no-places e = rw e
+
+  module _ (allowed : countsAllowed L c ≡ true) where
+    pub are-places : placesOf L f c ≡ record { pairs = pairsFrom L f c; rows = rowsFrom L f c; end = end L f c }
+    unfolding placesOf
+    are-places = rw allowed
+
+    module _ {p : Places} (e : p ≡ placesOf L f c) where
+      pub pairs-place : p .pairs ≡ pairsFrom L f c
+      pairs-place = ap (λ q. q .pairs) (e ∙ are-places)
+
+      pub rows-place : p .rows ≡ rowsFrom L f c
+      rows-place = ap (λ q. q .rows) (e ∙ are-places)
+
+      pub end-place : p .end ≡ end L f c
+      end-place = ap (λ q. q .end) (e ∙ are-places)
+
+pub agree-is : (f : Family) (o : List ℕ) (c : Counts) {p : Places} {x y z : ℕ} → countsAllowed base c ≡ true → p ≡ placesOf base f c
+    → x ≡ numberAt 2 o 2 → y ≡ numberAt 2 o 6 → z ≡ numberAt 2 o 10
+    → offsetsAgree base f o c ≡ (eqb x 12 && (eqb y (p .pairs) && (eqb z (p .rows) && eqb (length o) (p .end))))
+unfolding offsetsAgree
+agree-is f o c ok e ex ey ez = rw (ex, ey, ez, pairs-place base f c ok e, rows-place base f c ok e, end-place base f c ok e)
+
+-- in IPv4, as code reckons with them
+pub base-places : (c : Counts) {p : Places} → countsAllowed base c ≡ true → p ≡ placesOf base ipv4 c
+    → (p .pairs ≡ 12 + 16 * c .asserts) × (p .rows ≡ 12 + 16 * c .asserts + 8 * c .pairs) × (p .end ≡ 12 + 16 * c .asserts + 8 * c .pairs + 12 * c .neighbours)
+unfolding pairsFrom rowsFrom end
+base-places c ok e = (pairs-place base ipv4 c ok e, rows-place base ipv4 c ok e, end-place base ipv4 c ok e)
+
+-- ---- test by test
 
 module _ (L : Layout) (f : Family) (o : List ℕ) where
   pub header-short : length o < headerSize L → checkHeader L f o ≡ refuses 14 0
@@ -71,10 +105,10 @@ module _ (L : Layout) (f : Family) (o : List ℕ) where
       let from-rows = and-true (eqb (numberAt (L .width) o (3 * L .width)) (pairsFrom L f c)) _ from-pairs .1 in
       eqb-true (length o) (end L f c) (and-true (eqb (numberAt (L .width) o (5 * L .width)) (rowsFrom L f c)) _ from-rows .1)
 
-  pub header-end : (c : Counts) → checkHeader L f o ≡ gives c → length o ≡ end L f c
+  pub header-end : (c : Counts) → checkHeader L f o ≡ gives c → (countsAllowed L c ≡ true) × (length o ≡ end L f c)
   unfolding checkHeader fault
   header-end c e =
       unless-gives _ 14 0 _ c e
       (λ long e₁. unless-gives _ 14 0 _ c e₁
       (λ within e₂. unless-gives _ 14 0 _ c e₂
-      (λ agrees e₃. agreed-end (countsIn L o) (not-false _ agrees) ∙ rw (gives-same e₃))))
+      (λ agrees e₃. rw (← gives-same e₃) (not-false _ within, agreed-end (countsIn L o) (not-false _ agrees)))))

@@ -1,14 +1,19 @@
 // The sections of a stored sheet, and whether a sheet is valid. Reading and writing a sheet are in `sheet`.
 //
+// layout.rt      which counts are allowed, and where the sections begin
 // row.rt         a neighbour's row
 // head.rt        the header
 // section.rt     the sections one by one
 mod head;
+mod layout;
 mod row;
 mod section;
 
 use format::Refusal;
 use head::check_header;
+pub use layout::Places;
+pub use layout::counts_allowed;
+pub use layout::places_of;
 pub use row::row_at;
 use section::Section;
 use section::check_sections;
@@ -23,7 +28,7 @@ pub const ASSERT_LIMIT: usize = 1024;
 
 pub const PAIR_LIMIT: usize = 1024;
 
-// The octets of a header, an assert, a pair and a neighbour.
+// The octets of a header, and of an assert, a pair and a neighbour in IPv4.
 pub const HEADER: usize = 12;
 
 pub const ASSERT: usize = 16;
@@ -57,7 +62,7 @@ pub(crate) fn refused(place: usize) -> Verdict
 pub fn check_sheet(o: &[u8]) -> Verdict
     ensures { λ r. ⌜ checkedBy r ≡ checking base ipv4 (now (o .entry)) ⌝ }
 {
-    let x = check_header(o);
+    let x = check_header(false, o);
     let Verdict::Valid(c) = x else {
         return x;
     };

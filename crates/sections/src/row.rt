@@ -1,4 +1,5 @@
 // A neighbour's row in a sheet, read from its octets.
+use addresses::width;
 use neighbours::Neighbour;
 use octets::number16;
 use octets::number32;
@@ -6,8 +7,16 @@ ghost use mathlib.Core.Path.{_≡_};
 ghost use Prim.Native.Nat.{_≤_};
 ghost use lib.ListN.{length};
 ghost use Rattle.octets.specs.Octets.{numberAt};
-ghost use Rattle.format.specs.Family.{ipv4};
+ghost use Rattle.format.specs.Family.{ipv4, familyOf};
+ghost use Rattle.sections.specs.Layout.{rowSize};
 ghost use Rattle.sections.specs.Contents.{rowAt};
+
+// The octets of a row: its address, and eight more.
+pub(crate) fn row_size(ipv6: bool) -> usize
+    ensures { λ r. ⌜ (r ≡ rowSize (familyOf ipv6)) × (r ≤ 24) ⌝ }
+{
+    width(ipv6) + 8
+}
 
 // The octet at a place, or 0 where none is there.
 pub(crate) fn number8(o: &[u8], at: usize) -> u8

@@ -1,10 +1,9 @@
 // The sections of a sheet whose header is in order: entries as messages may have them, and rows of which none has the
 // address of an earlier one.
-use crate::ASSERT;
 use crate::Counts;
 use crate::HEADER;
-use crate::PAIR;
 use crate::ROW;
+use crate::layout::places_of;
 use crate::row::number8;
 use crate::row::row_at;
 use entries::Listed;
@@ -14,7 +13,7 @@ use format::Kind;
 use neighbours::is_allowed;
 use octets::number32;
 ghost use mathlib.Core.Path.{_≡_};
-ghost use mathlib.Core.Bool.{false};
+ghost use mathlib.Core.Bool.{true};
 ghost use mathlib.Core.List.{[]};
 ghost use Prim.Native.Nat.{_+_, _*_, _≤_};
 ghost use lib.ListN.{length};
@@ -22,7 +21,7 @@ ghost use Rattle.format.specs.Family.{ipv4};
 ghost use Rattle.neighbours.specs.Rows.{has};
 ghost use Rattle.entries.specs.Kinds.{entriesFor};
 ghost use Rattle.sections.specs.Layout.{base, end};
-ghost use Rattle.sections.specs.Checking.{checkEntries, rowFits, checkRows};
+ghost use Rattle.sections.specs.Checking.{countsAllowed, checkEntries, rowFits, checkRows};
 ghost use Rattle.sections.specs.Sections.{earlierRows, checkSections, sectionBy};
 
 // What checking a section finds.
@@ -33,13 +32,13 @@ pub(crate) enum Section {
 }
 
 // So many entries from a place on, as messages of a kind may have them.
-fn check_entries(kind: Kind, o: &[u8], from: usize, count: usize) -> Section
-    requires { ⌜ from + entriesFor false kind .size * count ≤ length (now o) ⌝ }
-    ensures { λ r. ⌜ sectionBy r ≡ checkEntries (entriesFor false kind) (now (o .entry)) from count ⌝ }
+fn check_entries(ipv6: bool, kind: Kind, o: &[u8], from: usize, count: usize) -> Section
+    requires { ⌜ from + entriesFor ipv6 kind .size * count ≤ length (now o) ⌝ }
+    ensures { λ r. ⌜ sectionBy r ≡ checkEntries (entriesFor ipv6 kind) (now (o .entry)) from count ⌝ }
 {
-    let size = entry_size(false, kind);
+    let size = entry_size(ipv6, kind);
     let end = from + size * count;
-    let x = first_bad(false, kind, &o[from..end], 0);
+    let x = first_bad(ipv6, kind, &o[from..end], 0);
     match x {
         Listed::Allowed => Section::Sound,
         Listed::Bad(i) => Section::Fault(from + size * i),
@@ -95,20 +94,19 @@ fn check_rows(o: &[u8], from: usize, count: usize) -> Section
     Section::Sound
 }
 
-// The three sections, in their order.
+// The three sections, in their order: rows are IPv4, and so are the entries beside them.
 pub(crate) fn check_sections(o: &[u8], c: Counts) -> Section
-    requires { ⌜ length (now o) ≡ end base ipv4 c ⌝ }
+    requires { ⌜ (countsAllowed base c ≡ true) × (length (now o) ≡ end base ipv4 c) ⌝ }
     ensures { λ r. ⌜ sectionBy r ≡ checkSections base ipv4 (now (o .entry)) c ⌝ }
 {
-    let pairs_from = HEADER + ASSERT * c.asserts;
-    let rows_from = pairs_from + PAIR * c.pairs;
-    let a = check_entries(Kind::Simple, o, HEADER, c.asserts);
+    let from = places_of(false, c);
+    let a = check_entries(false, Kind::Simple, o, HEADER, c.asserts);
     let Section::Sound = a else {
         return a;
     };
-    let p = check_entries(Kind::RegisterStop, o, pairs_from, c.pairs);
+    let p = check_entries(false, Kind::RegisterStop, o, from.pairs, c.pairs);
     let Section::Sound = p else {
         return p;
     };
-    check_rows(o, rows_from, c.neighbours)
+    check_rows(o, from.rows, c.neighbours)
 }

@@ -1,97 +1,111 @@
 -- Writing a sheet, by the tests that code makes.
---     length-sheet, used-few                the octets of a sheet, by its parts; rows in use
+--     length-sheet                          the octets of a sheet of whole lists
 --     whole-not, whole-both                 10: both lists are whole
---     Storable, storable-asserts, storable-pairs, storable-rest     14: no count is over its limit, and the table is valid
---     storable-limits                       what that says of lengths
+--     storable-is, due-long                 14: no count is over its limit, and the table is valid; the length that is due
 --     listed-fine, listed-bad, seven-not, seven-fine     7: every entry of a list is allowed
 --     due-10, due-14, due-8, due-7, due-7-pairs, due-fine     what writing asks, test by test
 --     due-gives                             an answer of a length says that the octets are those of the sheet
 --     stored-answer, stored-buffer, stored-nothing     the answer and the buffer are those of the call
---     counted, Filling, filling             the counts as code has them, and what filling a buffer asks
+--     Filling, filling                      what filling a buffer asks
 --     filled                                a sheet written part by part
 -- Assumes nothing.
-use Prim.Native.Nat.{ℕ, _+_, _*_, _/_, _%_, _≤_, _<_}
+use Prim.Native.Nat.{ℕ, _+_, _*_, _%_, _≤_, _<_}
 use native.Mathlib.Omega.{arith}
 use mathlib.Core.Path.{_≡_, refl, sym, ap, _∙_}
 use mathlib.Core.Bool.{Bool, true, false, not, cond, _&&_}
 use mathlib.Core.List.{List, _++_}
-use borrow.Author.Tests.{not-true, not-false, lt-leb, le-leb, lt-ltb, le-ltb, leb-true, eqb-true, eq-eqb, ne-eqb}
+use borrow.Author.Tests.{not-true, not-false, lt-ltb, le-ltb, leb-true, leb-false, eq-eqb, ne-eqb}
 use lib.Dec.{eqb, leb}
-use lib.ListN.{length, take, drop, length-append, length-take}
+use lib.ListN.{length, take, drop, length-append}
 use lib.Seq.{take-length}
 use Rattle.octets.specs.Octets.{put}
 use Rattle.octets.proofs.Laws.{put-next}
 use Rattle.format.specs.Outcome
 use Rattle.format.specs.Outcome.{Outcome, gives, refuses, refuseIf}
-use Rattle.format.specs.Family.{ipv4}
+use Rattle.format.specs.Family.{Family, ipv4}
 use Rattle.format.specs.Entry.{Entries, count, whole}
 use Rattle.format.specs.Packing.{firstBad}
 use Rattle.format.specs.Record.{each}
 use Rattle.format.specs.declared.Refusal.{Refusal}
 use Rattle.format.proofs.Outcomes.{no-refusal}
+use Rattle.format.proofs.Faithful.{whole-long}
 use Rattle.entries.specs.Kinds.{listedBy}
 use Rattle.entries.specs.declared.Listed.{Listed}
 use Rattle.entries.specs.declared.Listed.the-variants.{Allowed, Bad}
 use Rattle.neighbours.specs.Rows.{most, used, valid}
 use Rattle.neighbours.specs.declared.Table.{Table}
 use Rattle.neighbours.proofs.Rows.{used-long}
-use Rattle.neighbours.proofs.Tables.{and-true, valid-parts}
-use Rattle.sections.specs.Layout.{base, assertsIn, pairsIn, headerOctets}
+use Rattle.neighbours.proofs.Tables.{and-true, valid-over, valid-parts}
+use Rattle.sections.specs.Layout.{Layout, base, assertsIn, pairsIn, rowSize, pairsFrom, rowsFrom, end, headerOctets}
 use Rattle.sections.specs.Contents.{rowOctets, countsOf, sheetOctets}
 use Rattle.sections.specs.Checking.{countsAllowed}
+use Rattle.sections.specs.Sections.{placesOf}
 use Rattle.sections.specs.declared.Counts.{Counts}
-use Rattle.sheet.specs.Calls.{contentsOf, atZero, asked, lengthOf, stored, storedBy, writing}
+use Rattle.sections.specs.declared.layout.Places.{Places}
+use Rattle.sections.proofs.Header.{end-place}
+use Rattle.sheet.specs.Calls.{contentsOf, counted, atZero, asked, lengthOf, stored, storedBy, writing}
 use Rattle.sheet.specs.declared.Stored.{Stored}
 use Rattle.sheet.specs.declared.Stored.the-variants.{Wrote, Refused}
 use Rattle.sheet.proofs.Rows.{length-rows}
 use Rattle.sheet.proofs.Written.{accepted, asked-is, length-header}
 
-pub length-sheet : (ea ep : List ℕ) (t : Table) {n : ℕ} → length (used t) ≡ n
-    → length (sheetOctets base ipv4 (contentsOf ea ep t)) ≡ 12 + length ea + length ep + 12 * n
-unfolding sheetOctets contentsOf
-length-sheet ea ep t {n} e =
-    let rows : length (each (rowOctets ipv4) (used t)) ≡ 12 * n = length-rows ipv4 (used t) ∙ ap (λ x. 12 * x) e in
-    simp (length-append, length-header, rows) (omega arith)
-
--- the rows in use are rows of the array
-pub used-few : (t : Table) → length (t .rows) ≡ most → length (used t) ≤ most
-used-few t e = simp length-take (omega arith)
+pub length-sheet : (L : Layout) (f : Family) (ea ep : List ℕ) (t : Table) {n : ℕ} → (whole (assertsIn f) ea && whole (pairsIn f) ep) ≡ true → length (used t) ≡ n
+    → length (sheetOctets L f (contentsOf ea ep t)) ≡ end L f (counted f ea ep n)
+unfolding sheetOctets contentsOf counted pairsFrom rowsFrom end
+length-sheet L f ea ep t {n} w e =
+    let both = and-true (whole (assertsIn f) ea) (whole (pairsIn f) ep) w in
+    let asserts : length ea ≡ assertsIn f .size * count (assertsIn f) ea = sym (whole-long (assertsIn f) ea (both .0)) in
+    let pairs : length ep ≡ pairsIn f .size * count (pairsIn f) ep = sym (whole-long (pairsIn f) ep (both .1)) in
+    let rows : length (each (rowOctets f) (used t)) ≡ rowSize f * n = length-rows f (used t) ∙ ap (λ x. rowSize f * x) e in
+    simp (length-append, length-header, asserts, pairs, rows) (omega arith)
 
 -- ---- 10 and 14
 
-module _ (ea ep : List ℕ) where
-  pub whole-not : (length ea % 16 ≡ 0 → ⊥) → false ≡ (whole (assertsIn ipv4) ea && whole (pairsIn ipv4) ep)
+module _ (f : Family) (ea ep : List ℕ) where
+  pub whole-not : {s : ℕ} → s ≡ assertsIn f .size → (length ea % s ≡ 0 → ⊥) → false ≡ (whole (assertsIn f) ea && whole (pairsIn f) ep)
   unfolding whole
-  whole-not h = rw (ne-eqb (length ea % 16) 0 h)
+  whole-not e h = rw (← e, ne-eqb _ 0 h)
 
-  pub whole-both : length ea % 16 ≡ 0 → eqb (length ep % 8) 0 ≡ (whole (assertsIn ipv4) ea && whole (pairsIn ipv4) ep)
+  pub whole-both : {s r : ℕ} → s ≡ assertsIn f .size → length ea % s ≡ 0 → r ≡ pairsIn f .size → eqb (length ep % r) 0 ≡ (whole (assertsIn f) ea && whole (pairsIn f) ep)
   unfolding whole
-  whole-both h = rw (eq-eqb (length ea % 16) 0 h)
+  whole-both e h g = rw (g, ← e, eq-eqb _ 0 h)
 
-  module _ (t : Table) where
-    abbrev pub Storable : Bool
-    Storable = countsAllowed base (countsOf ipv4 (contentsOf ea ep t)) && valid t
+-- where one part of two fails, the other does not matter
+either : (a b : Bool) {v : Bool} → false ≡ v → (a && v) ≡ (b && v)
+either true true e = refl
+either true false e = sym e
+either false true e = e
+either false false e = refl
 
-    pub storable-asserts : 1024 < length ea / 16 → false ≡ Storable
-    unfolding countsAllowed countsOf contentsOf count
-    storable-asserts h = rw (lt-leb (length ea / 16) 1024 h)
+-- a and p entries, and so many rows
+abbrev with-rows : ℕ → ℕ → ℕ → Counts
+with-rows a p n = record { asserts = a; pairs = p; neighbours = n }
 
-    pub storable-pairs : length ea / 16 ≤ 1024 → 1024 < length ep / 8 → false ≡ Storable
-    unfolding countsAllowed countsOf contentsOf count
-    storable-pairs h g = rw (le-leb (length ea / 16) 1024 h, lt-leb (length ep / 8) 1024 g)
+-- the rows in use are as many as the table says, or it is refused
+rows-same : (t : Table) → length (t .rows) ≡ most → (a p : ℕ) (b : Bool) → leb (t .count) most ≡ b
+    → (countsAllowed base (with-rows a p (t .count)) && valid t) ≡ (countsAllowed base (with-rows a p (length (used t))) && valid t)
+rows-same t full a p true e =
+    let many : length (used t) ≡ t .count = used-long (t .rows) (t .count) (omega (arith, full, leb-true (t .count) most e)) in
+    rw many
+rows-same t full a p false e =
+    either (countsAllowed base (with-rows a p (t .count))) (countsAllowed base (with-rows a p (length (used t)))) (valid-over t (leb-false (t .count) most e))
 
-    pub storable-rest : length ea / 16 ≤ 1024 → length ep / 8 ≤ 1024 → length (used t) ≤ most → valid t ≡ Storable
-    unfolding countsAllowed countsOf contentsOf count
-    storable-rest h g r = rw (le-leb (length ea / 16) 1024 h, le-leb (length ep / 8) 1024 g, le-leb (length (used t)) most r)
+-- the counts as code has them, and the table
+module _ (f : Family) (ea ep : List ℕ) (t : Table) (full : length (t .rows) ≡ most) {c : Counts} (counts : c ≡ counted f ea ep (t .count)) where
+  storable-same : (countsAllowed base (counted f ea ep (t .count)) && valid t) ≡ (countsAllowed base (countsOf f (contentsOf ea ep t)) && valid t)
+  unfolding counted countsOf contentsOf
+  storable-same = rows-same t full (count (assertsIn f) ea) (count (pairsIn f) ep) (leb (t .count) most) refl
 
-    pub storable-limits : Storable ≡ true
-        → (length ea / 16 ≤ 1024) × (length ep / 8 ≤ 1024) × (t .count ≤ most) × (countsAllowed base (countsOf ipv4 (contentsOf ea ep t)) ≡ true)
-    unfolding countsAllowed countsOf contentsOf count
-    storable-limits e =
-        let p = and-true (leb (length ea / 16) 1024 && (leb (length ep / 8) 1024 && leb (length (used t)) most)) (valid t) e in
-        let q = and-true (leb (length ea / 16) 1024) (leb (length ep / 8) 1024 && leb (length (used t)) most) (p .0) in
-        let r = and-true (leb (length ep / 8) 1024) (leb (length (used t)) most) (q .1) in
-        (leb-true _ _ (q .0), leb-true _ _ (r .0), valid-parts t (p .1) .within, p .0)
+  pub storable-is : {r : Bool} → r ≡ (countsAllowed base c && valid t) → r ≡ (countsAllowed base (countsOf f (contentsOf ea ep t)) && valid t)
+  storable-is e = e ∙ (ap (λ x. countsAllowed base x && valid t) counts ∙ storable-same)
+
+  -- the length that is due is where the last section ends
+  pub due-long : {p : Places} → (whole (assertsIn f) ea && whole (pairsIn f) ep) ≡ true → (countsAllowed base c && valid t) ≡ true → p ≡ placesOf base f c
+      → length (sheetOctets base f (contentsOf ea ep t)) ≡ p .end
+  due-long w s e =
+      let ok = and-true (countsAllowed base c) (valid t) s in
+      let many : length (used t) ≡ t .count = used-long (t .rows) (t .count) (omega (arith, full, valid-parts t (ok .1) .within)) in
+      length-sheet base f ea ep t w many ∙ sym (end-place base f c (ok .0) e ∙ ap (end base f) counts)
 
 -- ---- 7
 
@@ -113,35 +127,35 @@ seven-fine b p q = p ∙ ap (λ c. cond c (gives tt) (refuses 7 0)) (not-false b
 
 -- ---- what writing asks
 
-module _ (ea ep : List ℕ) (t : Table) (room : ℕ) where
+module _ (f : Family) (ea ep : List ℕ) (t : Table) (room : ℕ) where
   abbrev Due : Outcome ℕ
-  Due = lengthOf (asked base ipv4 ea ep t room)
+  Due = lengthOf (asked base f ea ep t room)
 
-  pub due-10 : (whole (assertsIn ipv4) ea && whole (pairsIn ipv4) ep) ≡ false → Due ≡ refuses 10 0
+  pub due-10 : (whole (assertsIn f) ea && whole (pairsIn f) ep) ≡ false → Due ≡ refuses 10 0
   unfolding asked lengthOf refuseIf Outcome._>>_
   due-10 e = rw e
 
-  module _ (w : (whole (assertsIn ipv4) ea && whole (pairsIn ipv4) ep) ≡ true) where
-    pub due-14 : Storable ea ep t ≡ false → Due ≡ refuses 14 0
+  module _ (w : (whole (assertsIn f) ea && whole (pairsIn f) ep) ≡ true) where
+    pub due-14 : (countsAllowed base (countsOf f (contentsOf ea ep t)) && valid t) ≡ false → Due ≡ refuses 14 0
     unfolding asked lengthOf refuseIf Outcome._>>_
     due-14 e = rw (w, e)
 
-    module _ (s : Storable ea ep t ≡ true) {n : ℕ} (long : length (sheetOctets base ipv4 (contentsOf ea ep t)) ≡ n) where
+    module _ (s : (countsAllowed base (countsOf f (contentsOf ea ep t)) && valid t) ≡ true) {n : ℕ} (long : length (sheetOctets base f (contentsOf ea ep t)) ≡ n) where
       pub due-8 : room < n → Due ≡ refuses 8 0
       unfolding asked lengthOf refuseIf Outcome._>>_
       due-8 h = rw (w, s, long, lt-ltb room n h)
 
       module _ (enough : n ≤ room) where
-        pub due-7 : atZero (firstBad (assertsIn ipv4) ea 0) ≡ refuses 7 0 → Due ≡ refuses 7 0
+        pub due-7 : atZero (firstBad (assertsIn f) ea 0) ≡ refuses 7 0 → Due ≡ refuses 7 0
         unfolding asked lengthOf refuseIf Outcome._>>_
         due-7 e = rw (w, s, long, le-ltb room n enough, e)
 
-        module _ (fine : atZero (firstBad (assertsIn ipv4) ea 0) ≡ gives tt) where
-          pub due-7-pairs : atZero (firstBad (pairsIn ipv4) ep 0) ≡ refuses 7 0 → Due ≡ refuses 7 0
+        module _ (fine : atZero (firstBad (assertsIn f) ea 0) ≡ gives tt) where
+          pub due-7-pairs : atZero (firstBad (pairsIn f) ep 0) ≡ refuses 7 0 → Due ≡ refuses 7 0
           unfolding asked lengthOf refuseIf Outcome._>>_
           due-7-pairs e = rw (w, s, long, le-ltb room n enough, fine, e)
 
-          pub due-fine : atZero (firstBad (pairsIn ipv4) ep 0) ≡ gives tt → Due ≡ gives n
+          pub due-fine : atZero (firstBad (pairsIn f) ep 0) ≡ gives tt → Due ≡ gives n
           unfolding asked lengthOf refuseIf Outcome._>>_
           due-fine e = rw (w, s, long, le-ltb room n enough, fine, e) (ap gives long)
 
@@ -179,39 +193,37 @@ module _ (ea ep : List ℕ) (t : Table) (d : List ℕ) (x : Stored) (said : stor
 
 -- ---- the octets
 
--- the counts as code has them
-abbrev pub counted : List ℕ → List ℕ → Table → Counts
-counted ea ep t = record { asserts = length ea / 16; pairs = length ep / 8; neighbours = t .count }
-
+-- what filling a buffer asks, with the counts as code has them
 pub record Filling (ea ep : List ℕ) (t : Table) (room : ℕ) : Type 0 where
-  pub asserts : length ea % 16 ≡ 0
-  pub pairs : length ep % 8 ≡ 0
-  pub few : length ea / 16 ≤ 1024
-  pub fewPairs : length ep / 8 ≤ 1024
   pub within : t .count ≤ most
   pub fits : 12 + length ea + length ep + 12 * t .count ≤ room
-  pub counts : counted ea ep t ≡ countsOf ipv4 (contentsOf ea ep t)
-  pub allowed : countsAllowed base (counted ea ep t) ≡ true
+  pub counts : counted ipv4 ea ep (t .count) ≡ countsOf ipv4 (contentsOf ea ep t)
+  pub allowed : countsAllowed base (counted ipv4 ea ep (t .count)) ≡ true
+  pub pairs : pairsFrom base ipv4 (counted ipv4 ea ep (t .count)) ≡ 12 + length ea
+  pub rows : rowsFrom base ipv4 (counted ipv4 ea ep (t .count)) ≡ 12 + length ea + length ep
 
 pub filling : (ea ep : List ℕ) (t : Table) (room : ℕ) (o : List ℕ) → length (t .rows) ≡ most → asked base ipv4 ea ep t room ≡ gives o
     → Filling ea ep t room
-unfolding whole countsOf contentsOf count
+unfolding counted countsOf contentsOf pairsFrom rowsFrom end
 filling ea ep t room o full e =
     let was = accepted base ipv4 ea ep t room o e in
-    let fine : Storable ea ep t ≡ true = rw (was .counts, was .table) refl in
-    let l = storable-limits ea ep t fine in
-    let many : length (used t) ≡ t .count = used-long (t .rows) (t .count) (omega (arith, full, l .2)) in
-    let same : counted ea ep t ≡ countsOf ipv4 (contentsOf ea ep t) = λ i. record { asserts = length ea / 16; pairs = length ep / 8; neighbours = sym many i } in
-    let long = length-sheet ea ep t many in
+    let few = valid-parts t (was .table) .within in
+    let many : length (used t) ≡ t .count = used-long (t .rows) (t .count) (omega (arith, full, few)) in
+    let same : counted ipv4 ea ep (t .count) ≡ countsOf ipv4 (contentsOf ea ep t) =
+    λ i. record { asserts = count (assertsIn ipv4) ea; pairs = count (pairsIn ipv4) ep; neighbours = sym many i } in
+    let asserts : 16 * count (assertsIn ipv4) ea ≡ length ea = whole-long (assertsIn ipv4) ea (was .asserts) in
+    let pairs : 8 * count (pairsIn ipv4) ep ≡ length ep = whole-long (pairsIn ipv4) ep (was .pairs) in
+    let both : (whole (assertsIn ipv4) ea && whole (pairsIn ipv4) ep) ≡ true = rw (was .asserts, was .pairs) refl in
+    let long : length (sheetOctets base ipv4 (contentsOf ea ep t)) ≡ 12 + 16 * count (assertsIn ipv4) ea + 8 * count (pairsIn ipv4) ep + 12 * t .count =
+    length-sheet base ipv4 ea ep t both many in
+    let enough = asked-is base ipv4 ea ep t room o e .1 in
     record {
-      asserts = eqb-true (length ea % 16) 0 (was .asserts);
-      pairs = eqb-true (length ep % 8) 0 (was .pairs);
-      few = l .0;
-      fewPairs = l .1;
-      within = l .2;
-      fits = rw (← long) (asked-is base ipv4 ea ep t room o e .1);
+      within = few;
+      fits = omega (arith, asserts, pairs, long, enough);
       counts = same;
       allowed = rw same (was .counts);
+      pairs = omega (arith, asserts);
+      rows = omega (arith, asserts, pairs);
     }
 
 -- the four parts, each past the one before

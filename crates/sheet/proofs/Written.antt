@@ -30,7 +30,7 @@ use Rattle.format.proofs.Outcomes.{no-refusal, gives-same, then-gives, unless-g
 use Rattle.format.proofs.Readers.{At, at-left, at-right, at-end}
 use Rattle.format.proofs.Calls.{list-allowed}
 use Rattle.format.proofs.Faithful.{whole-long}
-use Rattle.neighbours.specs.Rows.{addressOf, allowed, has, used, valid, tableOf}
+use Rattle.neighbours.specs.Rows.{addressOf, has, used, valid, tableOf}
 use Rattle.neighbours.specs.declared.Neighbour.{Neighbour}
 use Rattle.neighbours.specs.declared.Table.{Table}
 use Rattle.neighbours.proofs.Tables.{and-true, valid-parts}

@@ -2,7 +2,7 @@
 --     ReadingCall, delivered, reading      "Reading one gives its two entry lists, copied, and the table; 8 last"
 --     roomFor                              whether lent room is enough for both lists
 --     foundBy                              01's number and values for each case of a reading's answer
---     atZero, contentsOf, asked            what writing refuses: "by 10, 14 .. , 8, 7, at place 0"
+--     atZero, contentsOf, counted, asked   what writing refuses: "by 10, 14 .. , 8, 7, at place 0"
 --     WritingCall, stored, writing         answer, and buffer as the call returns
 --     lengthOf                             what writing asks, with the octets left out
 --     storedBy                             01's number and values for each case of a writing's answer
@@ -15,7 +15,7 @@ use lib.Dec.{ltb}
 use Rattle.octets.specs.Octets.{put}
 use Rattle.format.specs.Outcome.{Outcome, gives, refuses, refuseIf, _>>=_, _>>_}
 use Rattle.format.specs.Family.{Family}
-use Rattle.format.specs.Entry.{whole}
+use Rattle.format.specs.Entry.{count, whole}
 use Rattle.format.specs.Packing.{firstBad}
 use Rattle.neighbours.specs.Rows.{used, valid, tableOf}
 use Rattle.neighbours.specs.declared.Table.{Table}
@@ -66,6 +66,10 @@ atZero (refuses n p) = refuses n 0
 
 unfoldable pub contentsOf : List ℕ → List ℕ → Table → Contents
 contentsOf ea ep t = record { asserts = ea; pairs = ep; rows = used t }
+
+-- the counts of two lists and n rows
+unfoldable pub counted : Family → List ℕ → List ℕ → ℕ → Counts
+counted f ea ep n = record { asserts = count (assertsIn f) ea; pairs = count (pairsIn f) ep; neighbours = n }
 
 unfoldable pub asked : Layout → Family → List ℕ → List ℕ → Table → ℕ → Outcome (List ℕ)
 asked L f ea ep t room = do

@@ -1,12 +1,10 @@
 // The stored sheet: reading one into two lent entry buffers and a table, and writing one. Checking is in `sections`.
 //
 // copy.rt        octets of one slice copied into another
-// layout.rt      where the sections begin
 // put.rt         a header and rows, written into a lent buffer
 // read.rt        reading a sheet
 // write.rt       writing a sheet
 mod copy;
-mod layout;
 mod put;
 mod read;
 mod write;

@@ -1,5 +1,4 @@
 // The header of a sheet and its rows, written into a lent buffer. Each function knows that its octets fit.
-use crate::layout::sections_of;
 use neighbours::Neighbour;
 use neighbours::Table;
 use octets::write8;
@@ -8,6 +7,7 @@ use octets::write32;
 use sections::Counts;
 use sections::HEADER;
 use sections::ROW;
+use sections::places_of;
 ghost use mathlib.Core.Path.{_≡_};
 ghost use mathlib.Core.Bool.{true, cond};
 ghost use Prim.Native.Nat.{_+_, _*_, _≤_};
@@ -25,7 +25,7 @@ pub(crate) fn put_header(d: &mut [u8], c: Counts)
     requires { ⌜ (12 ≤ length (now d)) × (countsAllowed base c ≡ true) ⌝ }
     ensures { λ _. ⌜ now (d .exit) ≡ put (now (d .entry)) 0 (headerOctets base ipv4 c) ⌝ }
 {
-    let s = sections_of(c);
+    let s = places_of(false, c);
     write16(d, 0, c.asserts as u16);
     write16(d, 2, HEADER as u16);
     write16(d, 4, c.pairs as u16);

@@ -2,7 +2,6 @@
 use crate::Found;
 use crate::SheetRead;
 use crate::copy::copy;
-use crate::layout::sections_of;
 use format::Refusal;
 use neighbours::Table;
 use sections::ASSERT;
@@ -12,6 +11,7 @@ use sections::PAIR;
 use sections::ROW;
 use sections::Verdict;
 use sections::check_sheet;
+use sections::places_of;
 use sections::row_at;
 ghost use mathlib.Core.Path.{_≡_};
 ghost use mathlib.Core.List.{[]};
@@ -60,7 +60,7 @@ fn deliver(o: &[u8], c: Counts, asserts: &mut [u8], pairs: &mut [u8]) -> SheetRe
     ensures asserts { λ _. ⌜ now (asserts .exit) ≡ reading base ipv4 (now (o .entry)) (now (asserts .entry)) (now (pairs .entry)) .asserts ⌝ }
     ensures pairs { λ _. ⌜ now (pairs .exit) ≡ reading base ipv4 (now (o .entry)) (now (asserts .entry)) (now (pairs .entry)) .pairs ⌝ }
 {
-    let s = sections_of(c);
+    let s = places_of(false, c);
     let n = ASSERT * c.asserts;
     let m = PAIR * c.pairs;
     if asserts.len() < n {

@@ -1,36 +1,33 @@
 // Writing a sheet: what is asked first, in the order 10, 14, 8, 7, then the octets.
 use crate::Stored;
 use crate::copy::copy;
-use crate::layout::sections_of;
 use crate::put::put_header;
 use crate::put::put_rows;
 use entries::Listed;
+use entries::entry_size;
 use entries::first_bad;
 use format::Kind;
 use format::Refusal;
 use neighbours::Table;
 use neighbours::is_valid;
-use sections::ASSERT;
-use sections::ASSERT_LIMIT;
 use sections::Counts;
 use sections::HEADER;
-use sections::PAIR;
-use sections::PAIR_LIMIT;
-use sections::ROW;
+use sections::counts_allowed;
+use sections::places_of;
 ghost use mathlib.Core.Path.{_≡_};
-ghost use mathlib.Core.Bool.{_&&_, cond, false};
+ghost use mathlib.Core.Bool.{_&&_, cond};
 ghost use lib.ListN.{length};
 ghost use Rattle.octets.specs.Octets.{put};
 ghost use Rattle.format.specs.Outcome.{gives, refuses};
-ghost use Rattle.format.specs.Family.{ipv4};
+ghost use Rattle.format.specs.Family.{ipv4, familyOf};
 ghost use Rattle.format.specs.Entry.{whole};
 ghost use Rattle.format.specs.Packing.{firstBad};
 ghost use Rattle.entries.specs.Kinds.{entriesFor};
 ghost use Rattle.neighbours.specs.Rows.{valid};
 ghost use Rattle.sections.specs.Layout.{base, assertsIn, pairsIn};
-ghost use Rattle.sections.specs.Contents.{countsOf, sheetOctets};
+ghost use Rattle.sections.specs.Contents.{sheetOctets};
 ghost use Rattle.sections.specs.Checking.{countsAllowed};
-ghost use Rattle.sheet.specs.Calls.{contentsOf, atZero, asked, lengthOf, writing, storedBy};
+ghost use Rattle.sheet.specs.Calls.{contentsOf, counted, atZero, asked, lengthOf, writing, storedBy};
 
 // Refused, at place 0.
 fn refused(number: u8) -> Stored
@@ -40,56 +37,65 @@ fn refused(number: u8) -> Stored
 }
 
 // Whether both lists are whole.
-fn are_whole(asserts: &[u8], pairs: &[u8]) -> bool
-    ensures { λ r. ⌜ r ≡ whole (assertsIn ipv4) (now (asserts .entry)) && whole (pairsIn ipv4) (now (pairs .entry)) ⌝ }
+fn are_whole(ipv6: bool, asserts: &[u8], pairs: &[u8]) -> bool
+    ensures { λ r. ⌜ r ≡ whole (assertsIn (familyOf ipv6)) (now (asserts .entry)) && whole (pairsIn (familyOf ipv6)) (now (pairs .entry)) ⌝ }
 {
-    if asserts.len() % ASSERT != 0 {
+    if asserts.len() % entry_size(ipv6, Kind::Simple) != 0 {
         return false;
     }
-    pairs.len() % PAIR == 0
+    pairs.len() % entry_size(ipv6, Kind::RegisterStop) == 0
+}
+
+// The counts of two lists and so many rows.
+fn counts_of(ipv6: bool, asserts: &[u8], pairs: &[u8], rows: usize) -> Counts
+    ensures { λ r. ⌜ r ≡ counted (familyOf ipv6) (now (asserts .entry)) (now (pairs .entry)) rows ⌝ }
+{
+    Counts {
+        asserts: asserts.len() / entry_size(ipv6, Kind::Simple),
+        pairs: pairs.len() / entry_size(ipv6, Kind::RegisterStop),
+        neighbours: rows,
+    }
 }
 
 // Whether no count is over its limit, and the table is one that a sheet may hold.
-fn are_storable(asserts: &[u8], pairs: &[u8], table: Table) -> bool
-    ensures { λ r. ⌜ r ≡ countsAllowed base (countsOf ipv4 (contentsOf (now (asserts .entry)) (now (pairs .entry)) table)) && valid table ⌝ }
+fn are_storable(c: Counts, table: Table) -> bool
+    ensures { λ r. ⌜ r ≡ countsAllowed base c && valid table ⌝ }
 {
-    if ASSERT_LIMIT < asserts.len() / ASSERT {
-        return false;
+    if counts_allowed(c) {
+        return is_valid(table);
     }
-    if PAIR_LIMIT < pairs.len() / PAIR {
-        return false;
-    }
-    is_valid(table)
+    false
 }
 
 // Whether every entry of a list is allowed.
-fn all_allowed(kind: Kind, e: &[u8]) -> bool
-    ensures { λ r. ⌜ atZero (firstBad (entriesFor false kind) (now (e .entry)) 0) ≡ cond r (gives tt) (refuses 7 0) ⌝ }
+fn all_allowed(ipv6: bool, kind: Kind, e: &[u8]) -> bool
+    ensures { λ r. ⌜ atZero (firstBad (entriesFor ipv6 kind) (now (e .entry)) 0) ≡ cond r (gives tt) (refuses 7 0) ⌝ }
 {
-    match first_bad(false, kind, e, 0) {
+    match first_bad(ipv6, kind, e, 0) {
         Listed::Allowed => true,
         Listed::Bad(_) => false,
     }
 }
 
 // The length of the sheet that is due, or a refusal.
-fn due(asserts: &[u8], pairs: &[u8], table: Table, room: usize) -> Stored
-    ensures { λ r. ⌜ storedBy r ≡ lengthOf (asked base ipv4 (now (asserts .entry)) (now (pairs .entry)) table room) ⌝ }
+fn due(ipv6: bool, asserts: &[u8], pairs: &[u8], table: Table, room: usize) -> Stored
+    ensures { λ r. ⌜ storedBy r ≡ lengthOf (asked base (familyOf ipv6) (now (asserts .entry)) (now (pairs .entry)) table room) ⌝ }
 {
-    if !are_whole(asserts, pairs) {
+    if !are_whole(ipv6, asserts, pairs) {
         return refused(10);
     }
-    if !are_storable(asserts, pairs, table) {
+    let c = counts_of(ipv6, asserts, pairs, table.count);
+    if !are_storable(c, table) {
         return refused(14);
     }
-    let n = HEADER + asserts.len() + pairs.len() + ROW * table.count;
+    let n = places_of(ipv6, c).end;
     if room < n {
         return refused(8);
     }
-    if !all_allowed(Kind::Simple, asserts) {
+    if !all_allowed(ipv6, Kind::Simple, asserts) {
         return refused(7);
     }
-    if !all_allowed(Kind::RegisterStop, pairs) {
+    if !all_allowed(ipv6, Kind::RegisterStop, pairs) {
         return refused(7);
     }
     Stored::Wrote(n)
@@ -100,12 +106,8 @@ fn fill(asserts: &[u8], pairs: &[u8], table: Table, d: &mut [u8])
     requires { ⌜ asked base ipv4 (now asserts) (now pairs) table (length (now d)) ≡ gives (sheetOctets base ipv4 (contentsOf (now asserts) (now pairs) table)) ⌝ }
     ensures { λ _. ⌜ now (d .exit) ≡ put (now (d .entry)) 0 (sheetOctets base ipv4 (contentsOf (now (asserts .entry)) (now (pairs .entry)) table)) ⌝ }
 {
-    let c = Counts {
-        asserts: asserts.len() / ASSERT,
-        pairs: pairs.len() / PAIR,
-        neighbours: table.count,
-    };
-    let s = sections_of(c);
+    let c = counts_of(false, asserts, pairs, table.count);
+    let s = places_of(false, c);
     put_header(d, c);
     copy(asserts, 0, asserts.len(), d, HEADER);
     copy(pairs, 0, pairs.len(), d, s.pairs);
@@ -117,7 +119,7 @@ pub fn write_sheet(asserts: &[u8], pairs: &[u8], table: Table, d: &mut [u8]) -> 
     ensures answer { λ r. ⌜ storedBy r ≡ writing base ipv4 (now (asserts .entry)) (now (pairs .entry)) table (now (d .entry)) .answer ⌝ }
     ensures buffer { λ _. ⌜ now (d .exit) ≡ writing base ipv4 (now (asserts .entry)) (now (pairs .entry)) table (now (d .entry)) .buffer ⌝ }
 {
-    let answer = due(asserts, pairs, table, d.len());
+    let answer = due(false, asserts, pairs, table, d.len());
     let Stored::Wrote(_) = answer else {
         return answer;
     };

@@ -1,6 +1,5 @@
 -- `sections::section::check_entries` meets its contract: what the part holds is what the sheet holds from the place on.
 -- Assumes nothing.
-use mathlib.Core.Bool.{false}
 use mathlib.Core.Path.{_≡_, ap}
 use Prim.Native.Nat.{_+_, _-_, _*_, _≤_}
 use native.Mathlib.Omega.{arith}
@@ -14,14 +13,14 @@ use Rattle.sections.proofs.section.check_entries.Statement.{statement}
 use Rattle.sections.proofs.section.check_entries.Tie as tie
 
 -- the size that code has is that of the kind
-same : (c : tie.After-entry-size) → c .entry-size .result * c .before .before .args .count ≡ entriesFor false (c .before .before .args .kind) .size * c .before .before .args .count
+same : (c : tie.After-entry-size) → c .entry-size .result * c .before .before .args .count ≡ entriesFor (c .before .before .args .ipv6) (c .before .before .args .kind) .size * c .before .before .args .count
 same c = ap (λ x. x * c .before .before .args .count) (c .entry-size .ensures)
 
 -- what was found in the part
-found : (c : tie.After-first-bad) → Found (c .before .before .before .before .args .kind) (now (c .before .before .before .before .args .o)) (c .before .before .before .before .args .from) (c .before .before .before .before .args .count) (c .first-bad .result)
+found : (c : tie.After-first-bad) → Found (c .before .before .before .before .args .ipv6) (c .before .before .before .before .args .kind) (now (c .before .before .before .before .args .o)) (c .before .before .before .before .args .from) (c .before .before .before .before .args .count) (c .first-bad .result)
 found c =
     let a = c .before .before .before .before .args in
-    let cut : a .from + c .before .before .entry-size .result * a .count - a .from ≡ entriesFor false (a .kind) .size * a .count = omega (arith, same (c .before .before)) in
+    let cut : a .from + c .before .before .entry-size .result * a .count - a .from ≡ entriesFor (a .ipv6) (a .kind) .size * a .count = omega (arith, same (c .before .before)) in
     rw cut at (c .first-bad .ensures)
 
 mul-end : tie.Need-mul-end
@@ -38,26 +37,26 @@ place : (c : tie.After-known-told) → c .before .before .before .before .before
 place c =
     let a = c .before .before .before .before .before .before .before .args in
     rw (c .before .before .before .before .before .entry-size .ensures)
-    (bad-there (a .kind) (now (a .o)) (a .from) (a .count) (c .before .before .before .before .before .before .before .pre) (found (c .before .before .before)) (c .before .x .given .1))
+    (bad-there (a .ipv6) (a .kind) (now (a .o)) (a .from) (a .count) (c .before .before .before .before .before .before .before .pre) (found (c .before .before .before)) (c .before .x .given .1))
 
-mul-t14 : tie.Need-mul-t14
-mul-t14 c = omega (arith, place c)
+mul-t15 : tie.Need-mul-t15
+mul-t15 c = omega (arith, place c)
 
-add-t15 : tie.Need-add-t15
-add-t15 c = omega (arith, place c)
+add-t16 : tie.Need-add-t16
+add-t16 c = omega (arith, place c)
 
 returns : tie.Need-returns
 unfolding sectionBy
 returns c =
     let a = c .before .before .before .before .before .before .args in
-    entries-sound (a .kind) (now (a .o)) (a .from) (a .count) (c .before .before .before .before .before .before .pre) (found (c .before .before)) (c .enum-told .given .1)
+    entries-sound (a .ipv6) (a .kind) (now (a .o)) (a .from) (a .count) (c .before .before .before .before .before .before .pre) (found (c .before .before)) (c .enum-told .given .1)
 
 returns-2 : tie.Need-returns-2
 unfolding sectionBy
 returns-2 c =
     let a = c .before .before .before .before .before .before .before .args in
     rw (c .before .before .before .before .before .entry-size .ensures)
-    (entries-bad (a .kind) (now (a .o)) (a .from) (a .count) (c .before .before .before .before .before .before .before .pre) (found (c .before .before .before)) (c .before .x .given .1))
+    (entries-bad (a .ipv6) (a .kind) (now (a .o)) (a .from) (a .count) (c .before .before .before .before .before .before .before .pre) (found (c .before .before .before)) (c .before .x .given .1))
 
 pub check-entries-spec : {M : Type 1} → statement M
 check-entries-spec =
@@ -72,7 +71,7 @@ check-entries-spec =
     (λ c κs. search needs)
     (λ c. search needs)
     (λ c. search needs)
-    mul-t14
-    add-t15
+    mul-t15
+    add-t16
     returns
     returns-2)

@@ -6,8 +6,10 @@ use mathlib.Core.Bool.{true}
 use lib.ListN.{length}
 use denote.Ref.{now}
 use Rattle.neighbours.specs.Rows.{most}
-use Rattle.sections.specs.Layout.{base, pairsFrom, rowsFrom}
+use Rattle.format.specs.Family.{ipv4}
+use Rattle.sections.specs.Layout.{base}
 use Rattle.sections.specs.Checking.{countsAllowed}
+use Rattle.sections.proofs.Header.{pairs-place, rows-place, base-places}
 use Rattle.sheet.specs.Calls.{foundBy}
 use Rattle.sheet.proofs.Again.{sizes}
 use Rattle.sheet.proofs.Gathered.{read-short, read-short-pairs, read-fine}
@@ -20,8 +22,11 @@ parts : (s : tie.Start) → (s .args .c .neighbours ≤ most)
     × (12 + 16 * s .args .c .asserts + 8 * s .args .c .pairs + 12 * s .args .c .neighbours ≡ length (now (s .args .o))) × (countsAllowed base (s .args .c) ≡ true)
 parts s = sizes (now (s .args .o)) (s .args .c) (s .pre)
 
-sections-of-requires : tie.Need-sections-of-requires
-sections-of-requires c κs = parts (c .before .before .before) .2
+-- where they begin
+at : (c : tie.After-places-of) → (c .places-of .result .pairs ≡ 12 + 16 * c .before .before .before .before .args .c .asserts)
+    × (c .places-of .result .rows ≡ 12 + 16 * c .before .before .before .before .args .c .asserts + 8 * c .before .before .before .before .args .c .pairs)
+    × (c .places-of .result .end ≡ 12 + 16 * c .before .before .before .before .args .c .asserts + 8 * c .before .before .before .before .args .c .pairs + 12 * c .before .before .before .before .args .c .neighbours)
+at c = base-places (c .before .before .before .before .args .c) (parts (c .before .before .before .before) .2) (c .places-of .ensures)
 
 mul-n : tie.Need-mul-n
 mul-n c =
@@ -51,26 +56,25 @@ copy-requires c κs =
     search needs
 
 copy-requires-2 : tie.Need-copy-requires-2
-unfolding pairsFrom rowsFrom
 copy-requires-2 c κs =
     let z = parts (c .before .before .before .before .before .before .before .before .before .before .before .before .before) in
-    let p = c .before .before .before .before .before .before .before .before .before .sections-of .ensures in
+    let p = at (c .before .before .before .before .before .before .before .before .before) in
     search needs
 
 gather-requires : tie.Need-gather-requires
-unfolding pairsFrom rowsFrom
 gather-requires c κs =
     let z = parts (c .before .before .before .before .before .before .before .before .before .before .before .before .before .before .before .before) in
-    let p = c .before .before .before .before .before .before .before .before .before .before .before .before .sections-of .ensures in
+    let p = at (c .before .before .before .before .before .before .before .before .before .before .before .before) in
     search needs
 
 returns-3 : tie.Need-returns-3
 unfolding foundBy
 returns-3 c =
     let s = c .before .before .before .before .before .before .before .before .before .before .before .before .before .before .before .before .before in
-    let p = c .before .before .before .before .before .before .before .before .before .before .before .before .before .sections-of .ensures in
-    rw (read-fine (now (s .args .o)) (now (s .args .asserts)) (now (s .args .pairs)) (s .args .c) (s .pre) (p .0) (p .1) (c .before .before .before .before .before .before .before .before .before .before .if1 .left) (c .before .before .before .before .before .before .before .before .before .if2 .left))
+    let p = c .before .before .before .before .before .before .before .before .before .before .before .before .before .places-of .ensures in
+    let ok = parts s .2 in
+    rw (read-fine (now (s .args .o)) (now (s .args .asserts)) (now (s .args .pairs)) (s .args .c) (s .pre) (pairs-place base ipv4 (s .args .c) ok p) (rows-place base ipv4 (s .args .c) ok p) (c .before .before .before .before .before .before .before .before .before .before .if1 .left) (c .before .before .before .before .before .before .before .before .before .if2 .left))
     (refl, (c .gather .ensures, (c .before .before .before .before .before .before .before .copy .ensures, c .before .before .before .copy2 .ensures)))
 
 pub deliver-spec : {M : Type 1} → statement M
-deliver-spec = tie.close (tie.spec sections-of-requires mul-n mul-m (λ c κs. search needs) returns (λ c κs. search needs) returns-2 copy-requires copy-requires-2 gather-requires (λ c. search needs) (λ c. search needs) returns-3)
+deliver-spec = tie.close (tie.spec (λ c κs. search needs) mul-n mul-m (λ c κs. search needs) returns (λ c κs. search needs) returns-2 copy-requires copy-requires-2 gather-requires (λ c. search needs) (λ c. search needs) returns-3)

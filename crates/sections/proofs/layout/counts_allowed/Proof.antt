@@ -1,9 +1,9 @@
--- `sections::head::counts_allowed` meets its contract, count by count.
+-- `sections::layout::counts_allowed` meets its contract, count by count.
 -- Assumes nothing.
 use borrow.Author.Tests.{le-leb, lt-leb}
 use Rattle.sections.specs.Checking.{countsAllowed}
-use Rattle.sections.proofs.head.counts_allowed.Statement.{statement}
-use Rattle.sections.proofs.head.counts_allowed.Tie as tie
+use Rattle.sections.proofs.layout.counts_allowed.Statement.{statement}
+use Rattle.sections.proofs.layout.counts_allowed.Tie as tie
 
 returns : tie.Need-returns
 unfolding countsAllowed
