@@ -4,7 +4,7 @@
 --     no-places, are-places, pairs-place, rows-place, end-place   where the sections are
 --     agree-is, base-places                                       the offsets, and the places in IPv4, by the numbers that code has
 --     header-short, header-counts, header-offsets, header-fine    what a header comes to
---     header-end                                                  counts in order are allowed, and the sheet is as long as they say
+--     Offsets, InOrder, in-order, agreed                          what a header in order says of the counts, the offsets and the end
 -- Assumes nothing.
 use mathlib.Core.Path.{_≡_, refl, ap, _∙_}
 use mathlib.Core.Bool.{Bool, true, false, not, _&&_}
@@ -12,7 +12,7 @@ use mathlib.Core.List.{List}
 use Prim.Native.Nat.{ℕ, _+_, _*_, _≤_, _<_}
 use native.Mathlib.Nat.{mul-le-mul-left}
 use native.Mathlib.Omega.{arith}
-use borrow.Author.Tests.{lt-ltb, le-ltb, leb-true, eqb-true, not-false}
+use borrow.Author.Tests.{lt-ltb, le-ltb, leb-true, ltb-false, eqb-true, not-false}
 use lib.ListN.{length}
 use lib.Dec.{eqb, leb}
 use Rattle.octets.specs.Octets.{numberAt}
@@ -98,17 +98,41 @@ module _ (L : Layout) (f : Family) (o : List ℕ) where
       unfolding checkHeader fault refuseIf _>>_
       header-fine none = rw (le-ltb (length o) (headerSize L) long, ← is, ← allowed, within, ← agrees, none)
 
-  agreed-end : (c : Counts) → offsetsAgree L f o c ≡ true → length o ≡ end L f c
-  unfolding offsetsAgree
-  agreed-end c e =
-      let from-pairs = and-true (eqb (numberAt (L .width) o (L .width)) (headerSize L)) _ e .1 in
-      let from-rows = and-true (eqb (numberAt (L .width) o (3 * L .width)) (pairsFrom L f c)) _ from-pairs .1 in
-      eqb-true (length o) (end L f c) (and-true (eqb (numberAt (L .width) o (5 * L .width)) (rowsFrom L f c)) _ from-rows .1)
+-- ---- a header in order
 
-  pub header-end : (c : Counts) → checkHeader L f o ≡ gives c → (countsAllowed L c ≡ true) × (length o ≡ end L f c)
+-- the three offsets that a header gives
+abbrev pub Offsets : Layout → Family → List ℕ → Counts → Type 0
+Offsets L f o c =
+    (numberAt (L .width) o (L .width) ≡ headerSize L)
+    × (numberAt (L .width) o (3 * L .width) ≡ pairsFrom L f c)
+    × (numberAt (L .width) o (5 * L .width) ≡ rowsFrom L f c)
+
+pub record InOrder (L : Layout) (f : Family) (o : List ℕ) (c : Counts) : Type 0 where
+  pub there : headerSize L ≤ length o
+  pub counts : countsIn L o ≡ c
+  pub allowed : countsAllowed L c ≡ true
+  pub agree : offsetsAgree L f o c ≡ true
+
+module _ (L : Layout) (f : Family) (o : List ℕ) (c : Counts) where
+  pub in-order : checkHeader L f o ≡ gives c → InOrder L f o c
   unfolding checkHeader fault
-  header-end c e =
+  in-order e =
       unless-gives _ 14 0 _ c e
-      (λ long e₁. unless-gives _ 14 0 _ c e₁
-      (λ within e₂. unless-gives _ 14 0 _ c e₂
-      (λ agrees e₃. rw (← gives-same e₃) (not-false _ within, agreed-end (countsIn L o) (not-false _ agrees)))))
+      (λ short e₁. unless-gives _ 14 0 _ c e₁
+      (λ over e₂. unless-gives _ 14 0 _ c e₂
+      (λ apart e₃.
+      let is : countsIn L o ≡ c = gives-same e₃ in
+      record {
+        there = ltb-false _ _ short;
+        counts = is;
+        allowed = rw is at (not-false (countsAllowed L (countsIn L o)) over);
+        agree = rw is at (not-false (offsetsAgree L f o (countsIn L o)) apart);
+      })))
+
+  pub agreed : offsetsAgree L f o c ≡ true → Offsets L f o c × (length o ≡ end L f c)
+  unfolding offsetsAgree
+  agreed e =
+      let p = and-true _ _ e in
+      let q = and-true _ _ (p .1) in
+      let r = and-true _ _ (q .1) in
+      ((eqb-true _ _ (p .0), eqb-true _ _ (q .0), eqb-true _ _ (r .0)), eqb-true _ _ (r .1))

@@ -1,7 +1,6 @@
 -- The contents of a sheet that passes the check: their sheet is that sheet. What this says of calls is in RoundTrip.antt.
 --     at-part, part-from           octets of a sheet from a place on
 --     Checks, checked              what the check asked of a sheet
---     Header, header-parts         and of its header
 --     asserts-long, pairs-long     the lists have as many entries as the header says
 --     sheet-again                  the sheet of its contents is the sheet
 --     writes-again, short-again    so writing asks for these octets, or refuses with 8
@@ -13,7 +12,7 @@ use native.Mathlib.Omega.{arith}
 use mathlib.Core.Path.{_≡_, refl, sym, ap, subst, _∙_}
 use mathlib.Core.Bool.{true}
 use mathlib.Core.List.{List, [], _++_, append-assoc, append-nil}
-use borrow.Author.Tests.{not-false, eqb-true, ltb-false, lt-ltb, le-ltb, eq-eqb}
+use borrow.Author.Tests.{lt-ltb, le-ltb, eq-eqb}
 use lib.ListN.{length, take, drop, length-drop, take-append-drop}
 use lib.Seq.{length-take-le, drop-drop, drop-length}
 use Rattle.octets.specs.Octets.{Octets}
@@ -23,21 +22,19 @@ use Rattle.format.specs.Family.{Family, ipv4}
 use Rattle.format.specs.Entry.{Entries, count, whole}
 use Rattle.format.specs.Packing.{firstBad}
 use Rattle.format.specs.Record.{each}
-use Rattle.format.proofs.Outcomes.{gives-same, bind-gives, then-gives, unless-gives}
+use Rattle.format.proofs.Outcomes.{gives-same, bind-gives, then-gives}
 use Rattle.format.proofs.Readers.{At}
 use Rattle.format.proofs.Calls.{list-fine}
 use Rattle.neighbours.specs.Rows.{most, used, valid, tableOf}
-use Rattle.neighbours.proofs.Tables.{and-true}
 use Rattle.neighbours.proofs.Kept.{used-of, valid-of}
 use Rattle.sections.specs.Layout.{Layout, base, assertsIn, pairsIn, rowSize, headerSize, pairsFrom, rowsFrom, end, headerOctets}
 use Rattle.sections.specs.Contents.{Contents, rowOctets, countsOf, contentsAt, sheetOctets}
-use Rattle.sections.specs.Checking.{fault, countsIn, countsAllowed, offsetsAgree, checkHeader, checkEntries, checkRows, checking}
+use Rattle.sections.specs.Checking.{countsIn, countsAllowed, checkHeader, checkEntries, checkRows, checking}
 use Rattle.sections.specs.declared.Counts.{Counts}
-use Rattle.sections.proofs.Header.{counts-within}
+use Rattle.sections.proofs.Header.{counts-within, InOrder, in-order, agreed}
 use Rattle.sheet.specs.Calls.{contentsOf, atZero, asked}
 use Rattle.sheet.proofs.Places.{Local, asserts-local, pairs-local, check-every, number-from}
 use Rattle.sheet.proofs.Rows.{length-rowsAt, rows-sheet, rows-from}
-use Rattle.sheet.proofs.Written.{Offsets}
 
 -- ---- parts of a sheet
 
@@ -66,38 +63,7 @@ checked L f o c e =
     then-gives (checkRows f o [] (rowsFrom L f a) (a .neighbours)) _ c e3 (λ w rows e4.
     subst (λ (x : Counts). Checks L f o x) (gives-same e4) (record { header = header; asserts = asserts; pairs = pairs; rows = rows })))))
 
-record Header (L : Layout) (f : Family) (o : List ℕ) (c : Counts) : Type 0 where
-  there : headerSize L ≤ length o
-  counts : countsIn L o ≡ c
-  allowed : countsAllowed L c ≡ true
-  agree : offsetsAgree L f o c ≡ true
-
-header-parts : (L : Layout) (f : Family) (o : List ℕ) (c : Counts) → checkHeader L f o ≡ gives c → Header L f o c
-unfolding checkHeader fault
-header-parts L f o c e =
-    unless-gives _ 14 0 _ c e (λ short e1.
-    unless-gives _ 14 0 _ c e1 (λ over e2.
-    unless-gives _ 14 0 _ c e2 (λ apart e3.
-    let is : countsIn L o ≡ c = gives-same e3 in
-    record {
-      there = ltb-false _ _ short;
-      counts = is;
-      allowed = rw is at (not-false (countsAllowed L (countsIn L o)) over);
-      agree = rw is at (not-false (offsetsAgree L f o (countsIn L o)) apart);
-    })))
-
-module _ (L : Layout) (f : Family) (o : List ℕ) (c : Counts) (h : Header L f o c) where
-  agreed : Offsets L f o c × (length o ≡ end L f c)
-  unfolding offsetsAgree
-  agreed =
-      let a = and-true _ _ (h .agree) in
-      let b = and-true _ _ (a .1) in
-      let d = and-true _ _ (b .1) in
-      ((eqb-true _ _ (a .0), eqb-true _ _ (b .0), eqb-true _ _ (d .0)), eqb-true _ _ (d .1))
-
-  ends : length o ≡ end L f c
-  ends = agreed .1
-
+module _ (L : Layout) (f : Family) (o : List ℕ) (c : Counts) (h : InOrder L f o c) where
   header-from : Octets o → {x : List ℕ} → drop (headerSize L) o ≡ x → o ≡ headerOctets L f c ++ x
   unfolding headerOctets countsIn
   header-from octets {x} r =
@@ -105,11 +71,11 @@ module _ (L : Layout) (f : Family) (o : List ℕ) (c : Counts) (h : Header L f o
       let there : 6 * w ≤ length o = h .there in
       simp append-assoc
       (number-from o octets w (c .asserts) 0 w (ap (λ (n : Counts). n .asserts) (sym (h .counts))) (omega arith) (omega arith)
-      (number-from o octets w (headerSize L) w (2 * w) (sym (agreed .0 .0)) (omega arith) (omega arith)
+      (number-from o octets w (headerSize L) w (2 * w) (sym (agreed L f o c (h .agree) .0 .0)) (omega arith) (omega arith)
       (number-from o octets w (c .pairs) (2 * w) (3 * w) (ap (λ (n : Counts). n .pairs) (sym (h .counts))) (omega arith) (omega arith)
-      (number-from o octets w (pairsFrom L f c) (3 * w) (4 * w) (sym (agreed .0 .1)) (omega arith) (omega arith)
+      (number-from o octets w (pairsFrom L f c) (3 * w) (4 * w) (sym (agreed L f o c (h .agree) .0 .1)) (omega arith) (omega arith)
       (number-from o octets w (c .neighbours) (4 * w) (5 * w) (ap (λ (n : Counts). n .neighbours) (sym (h .counts))) (omega arith) (omega arith)
-      (number-from o octets w (rowsFrom L f c) (5 * w) (6 * w) (sym (agreed .0 .2)) (omega arith) (omega arith) r))))))
+      (number-from o octets w (rowsFrom L f c) (5 * w) (6 * w) (sym (agreed L f o c (h .agree) .0 .2)) (omega arith) (omega arith) r))))))
 
 -- ---- the sheet
 
@@ -142,12 +108,12 @@ module _ (L : Layout) (f : Family) (some : 0 < f .width) (few : L .rowLimit ≤ 
   abbrev again : Contents
   again = contentsOf (contentsAt L f o c .asserts) (contentsAt L f o c .pairs) (tableOf (contentsAt L f o c .rows))
 
-  header : Header L f o c
-  header = header-parts L f o c (checks .header)
+  header : InOrder L f o c
+  header = in-order L f o c (checks .header)
 
   fits : rowsFrom L f c ≤ length o
   unfolding end
-  fits = omega (arith, ends L f o c header)
+  fits = omega (arith, agreed L f o c (header .agree) .1)
 
   asserts-listed : Listed (assertsIn f) (these .asserts) (c .asserts)
   unfolding contentsAt rowsFrom pairsFrom
@@ -189,7 +155,7 @@ module _ (L : Layout) (f : Family) (some : 0 < f .width) (few : L .rowLimit ≤ 
 
   rows-end : length o ≡ rowsFrom L f c + rowSize f * c .neighbours
   unfolding end
-  rows-end = ends L f o c header
+  rows-end = agreed L f o c (header .agree) .1
 
   pub sheet-again : sheetOctets L f again ≡ o
   unfolding sheetOctets contentsOf contentsAt
@@ -220,5 +186,5 @@ pub sizes : (o : List ℕ) (c : Counts) → checking base ipv4 o ≡ gives c
     → (c .neighbours ≤ most) × (12 + 16 * c .asserts + 8 * c .pairs + 12 * c .neighbours ≡ length o) × (countsAllowed base c ≡ true)
 unfolding end rowsFrom pairsFrom
 sizes o c e =
-    let h = header-parts base ipv4 o c (checked base ipv4 o c e .header) in
-    (counts-within base c (h .allowed) .2, sym (ends base ipv4 o c h), h .allowed)
+    let h = in-order base ipv4 o c (checked base ipv4 o c e .header) in
+    (counts-within base c (h .allowed) .2, sym (agreed base ipv4 o c (h .agree) .1), h .allowed)

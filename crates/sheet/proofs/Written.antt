@@ -1,7 +1,7 @@
 -- The sheet of contents that writing accepts: it passes the check, it reads back, and no two contents have one sheet. What this says of calls
 -- is in RoundTrip.antt.
 --     Accepted, accepted, asked-is        what writing asked of contents that it accepts, and the octets it writes
---     length-header, Offsets              the length of a header, and its offsets
+--     length-header                       the length of a header
 --     header-checks                       a header that stands at the start of a sheet of its length passes the check
 --     written-checks                      the sheet passes the check, with the counts of its contents
 --     written-contents                    and holds them
@@ -39,6 +39,7 @@ use Rattle.sections.specs.Layout.{Layout, assertsIn, pairsIn, rowSize, headerSi
 use Rattle.sections.specs.Contents.{Contents, rowOctets, countsOf, contentsAt, sheetOctets}
 use Rattle.sections.specs.Checking.{fault, countsIn, countsAllowed, offsetsAgree, checkHeader, checkEntries, checkRows, checking}
 use Rattle.sections.specs.declared.Counts.{Counts}
+use Rattle.sections.proofs.Header.{Offsets}
 use Rattle.sheet.specs.Calls.{contentsOf, atZero, asked, roomFor, delivered, reading}
 use Rattle.sheet.specs.Valid.{Roomy, Held}
 use Rattle.sheet.proofs.Places.{number-at, rest-at, asserts-local, pairs-local, check-fine}
@@ -90,13 +91,6 @@ asked-is L f ea ep t room o e =
     (e ∙ sym e5, ltb-false room (length (sheetOctets L f (contentsOf ea ep t))) c))))))
 
 -- ---- the header
-
--- the three offsets that a header gives
-abbrev pub Offsets : Layout → Family → List ℕ → Counts → Type 0
-Offsets L f o c =
-    (numberAt (L .width) o (L .width) ≡ headerSize L)
-    × (numberAt (L .width) o (3 * L .width) ≡ pairsFrom L f c)
-    × (numberAt (L .width) o (5 * L .width) ≡ rowsFrom L f c)
 
 pub length-header : (L : Layout) (f : Family) (c : Counts) → length (headerOctets L f c) ≡ headerSize L
 unfolding headerOctets

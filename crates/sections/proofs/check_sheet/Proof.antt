@@ -6,7 +6,7 @@ use borrow.Author.Needs.{needs}
 use Rattle.format.specs.Family.{ipv4}
 use Rattle.sections.specs.Layout.{base}
 use Rattle.sections.specs.Checking.{checkedBy}
-use Rattle.sections.proofs.Header.{header-end}
+use Rattle.sections.proofs.Header.{in-order, agreed}
 use Rattle.sections.proofs.Checks.{header-gives, sheet-header, sheet-fault, sheet-sound}
 use Rattle.sections.proofs.check_sheet.Statement.{statement}
 use Rattle.sections.proofs.check_sheet.Tie as tie
@@ -17,7 +17,8 @@ returns c = sheet-header base ipv4 (now (c .before .before .before .before .args
 check-sections-requires : tie.Need-check-sections-requires
 check-sections-requires c κs =
     let o = now (c .before .before .before .before .before .args .o) in
-    header-end base ipv4 o _ (header-gives base ipv4 o (c .before .before .before .check-header .ensures) (c .before .x .given .1))
+    let h = in-order base ipv4 o _ (header-gives base ipv4 o (c .before .before .before .check-header .ensures) (c .before .x .given .1)) in
+    (h .allowed, agreed base ipv4 o _ (h .agree) .1)
 
 returns-2 : tie.Need-returns-2
 unfolding checkedBy
