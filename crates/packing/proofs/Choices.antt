@@ -3,7 +3,7 @@
 --     preferred, both-aggregated, both-simple     which of the two is chosen
 --     part-none, part-aggregated, part-simple     the part that is handed back: empty, or the front of the buffer that was chosen
 -- Assumes nothing.
-use Prim.Native.Nat.{ℕ, zero, suc, _-_, _*_, _/_, _≤_, _<_, min}
+use Prim.Native.Nat.{ℕ, zero, suc, _-_, _≤_, _<_, min}
 use native.Mathlib.Omega.{arith}
 use mathlib.Core.Path.{_≡_, refl, sym}
 use mathlib.Core.Bool.{Bool, true, false, _&&_, _||_, cond}
@@ -15,11 +15,10 @@ use Rattle.octets.proofs.Laws.{length-put, take-put}
 use Rattle.records.specs.Records.{AssertRecord}
 use Rattle.format.specs.Outcome.{Outcome, gives, refuses}
 use Rattle.format.specs.Family.{Family}
-use Rattle.format.specs.Entry.{Entries, assertEntries, count, entriesAt, entriesOf}
+use Rattle.format.specs.Entry.{Entries, assertEntries, entriesOf}
 use Rattle.format.specs.Packing.{Form, simple, aggregated, Due, due, asked, taken, Packed, octetsOf, tookOf, pack, prefersAggregated, chosen, chosenOf, bothWritten, choiceOf, choice}
 use Rattle.format.proofs.Outcomes.{no-refusal, gives-same}
 use Rattle.format.proofs.Calls.{Asked, asked-gives, gives-asked, taken-fits, pack-none, pack-some}
-use Rattle.format.proofs.Entries.{drop-entries}
 
 -- what is packed is within the limit
 pack-within : {E : Entries} (F : Form E) (l : ℕ) (es : List (E .Entry)) → length (octetsOf (pack F l es)) ≤ l
@@ -79,23 +78,17 @@ module _ (f : Family) (o : List ℕ) (start limit : ℕ) (ds da : List ℕ) wher
   unfolding choice choiceOf
   choice-refused n p e = rw e
 
-  -- the entries from the start on
-  abbrev pub left : List AssertRecord
-  left = entriesAt (assertEntries f) o (assertEntries f .size * start) (length o / assertEntries f .size - start)
-
   pub choice-packs : (l : ℕ) → Asked (assertEntries f) o start limit (min (length ds) (length da)) l
-      → choice f o start limit ds da
-      ≡ bothWritten ds da (pack (simple f) l left) (pack (aggregated f) l left)
-  unfolding choice choiceOf count
-  choice-packs l h =
-      let rest : drop start (entriesOf (assertEntries f) o) ≡ left = drop-entries (assertEntries f) o start (h .inside) in
-      rw (asked-gives (assertEntries f) o start limit (min (length ds) (length da)) l h, rest)
+      → choice f o start limit ds da ≡ bothWritten ds da (pack (simple f) l (drop start (entriesOf (assertEntries f) o))) (pack (aggregated f) l (drop start (entriesOf (assertEntries f) o)))
+  unfolding choice choiceOf
+  choice-packs l h = rw (asked-gives (assertEntries f) o start limit (min (length ds) (length da)) l h)
 
-  -- ---- the part that is handed back
+-- ---- the part that is handed back
 
-  pub part-none : (n p : ℕ) → choice f o start limit ds da .answer ≡ refuses n p → choice f o start limit ds da .part ≡ []
+module _ (f : Family) (o : List ℕ) (start limit : ℕ) (ds da : List ℕ) where
+  pub part-none : {n p : ℕ} → choice f o start limit ds da .answer ≡ refuses n p → choice f o start limit ds da .part ≡ []
   unfolding choice choiceOf bothWritten
-  part-none n p e = go (asked (assertEntries f) o start limit (min (length ds) (length da))) refl e
+  part-none {n} {p} e = go (asked (assertEntries f) o start limit (min (length ds) (length da))) refl e
     where
       go : (x : Outcome (Due AssertRecord)) → asked (assertEntries f) o start limit (min (length ds) (length da)) ≡ x
           → choiceOf f ds da x .answer ≡ refuses n p → choiceOf f ds da x .part ≡ []
@@ -117,14 +110,14 @@ module _ (f : Family) (o : List ℕ) (start limit : ℕ) (ds da : List ℕ) wher
           handed ds da (pack (simple f) l es) (pack (aggregated f) l es) (omega (arith, pack-within (simple f) l es)) (omega (arith, pack-within (aggregated f) l es)) b n t r
       go (refuses m i) q r = absurd (no-refusal r)
 
-  pub part-aggregated : (b : Bool) (n t : ℕ) (d : List ℕ) → choice f o start limit ds da .answer ≡ gives (chosen b n t) → b ≡ true
+  pub part-aggregated : {b : Bool} {n t : ℕ} {d : List ℕ} → choice f o start limit ds da .answer ≡ gives (chosen b n t) → b ≡ true
       → d ≡ choice f o start limit ds da .aggregatedBuffer → (n ≡ length (take n d)) × (take n d ≡ choice f o start limit ds da .part)
-  part-aggregated b n t d e which buffer =
+  part-aggregated {b} {n} {t} e which buffer =
       let part = rw which at (part-some b n t e) in
       rw buffer (simp length-take (omega (arith, part .0)), sym (part .1))
 
-  pub part-simple : (b : Bool) (n t : ℕ) (d : List ℕ) → choice f o start limit ds da .answer ≡ gives (chosen b n t) → b ≡ false
+  pub part-simple : {b : Bool} {n t : ℕ} {d : List ℕ} → choice f o start limit ds da .answer ≡ gives (chosen b n t) → b ≡ false
       → d ≡ choice f o start limit ds da .simpleBuffer → (n ≡ length (take n d)) × (take n d ≡ choice f o start limit ds da .part)
-  part-simple b n t d e which buffer =
+  part-simple {b} {n} {t} e which buffer =
       let part = rw which at (part-some b n t e) in
       rw buffer (simp length-take (omega (arith, part .0)), sym (part .1))

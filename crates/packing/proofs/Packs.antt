@@ -1,10 +1,10 @@
 -- What a packing call comes to.
 --     limit-refused, limit-asked     what the answer of `asked` says
---     asked-limit, asked-inside, asked-there     the limit, and the entries from the start on
+--     asked-limit                    the limit is one that a message can be asked for with
 --     call-refused, call-packs       the call is refused, or packs them
 -- Assumes nothing.
 use mathlib.Core.Bool.{Bool}
-use Prim.Native.Nat.{ℕ, _+_, _-_, _*_, _/_, _≤_}
+use Prim.Native.Nat.{ℕ, _-_, _≤_}
 use native.Mathlib.Omega.{arith}
 use mathlib.Core.Path.{_≡_, refl, sym, ap, ap₂, _∙_}
 use mathlib.Core.List.{List}
@@ -12,17 +12,14 @@ use lib.ListN.{length, drop}
 use Rattle.octets.specs.Octets.{put}
 use Rattle.format.specs.Outcome
 use Rattle.format.specs.Outcome.{Outcome, gives, refuses}
-use Rattle.format.specs.Entry.{Entries, count, entriesAt, entriesOf}
+use Rattle.format.specs.Entry.{Entries, entriesOf}
 use Rattle.format.specs.Family.{familyOf}
 use Rattle.format.specs.Packing.{leastLimit, usualLimit, Form, Due, due, asked, Packed, octetsOf, tookOf, pack, wrote, written, packDue, packing}
 use Rattle.format.specs.declared.Kind.{Kind}
 use Rattle.format.specs.declared.Refusal.{Refusal}
 use Rattle.format.proofs.Outcomes.{no-refusal, gives-same}
 use Rattle.format.proofs.Calls.{limit-range, Asked, asked-gives, gives-asked}
-use Rattle.format.proofs.Entries.{drop-entries}
 use Rattle.addresses.proofs.Laws.{width-range}
-use Rattle.entries.proofs.Lists.{rest-there}
-use Rattle.packing.specs.Kinds.{formFor}
 use Rattle.packing.specs.Answers.{limitOf, limited}
 use Rattle.packing.specs.declared.limit.Limit.{Limit}
 use Rattle.packing.specs.declared.limit.Limit.the-variants.{Is, Refused}
@@ -47,24 +44,13 @@ pub call-refused : {E : Entries} (F : Form E) (o : List ℕ) (start limit : ℕ)
 unfolding packing written Outcome._>>=_
 call-refused F o start limit d n p e = rw e
 
--- the limit that was read, and the entries from the start on are there
-module _ (ipv6 : Bool) (k : Kind) (o : List ℕ) (start limit : ℕ) (room l : ℕ) (h : Asked (entriesFor ipv6 k) o start limit room l) where
-  pub asked-limit : leastLimit (familyOf ipv6) ≤ l
-  unfolding leastLimit usualLimit
-  asked-limit = limit-range (familyOf ipv6) limit l (rw (family-is ipv6 k) at (h .limitRead)) .0 (omega (arith, width-range ipv6))
-
-  pub asked-inside : start ≤ length o / entriesFor ipv6 k .size
-  unfolding count
-  asked-inside = h .inside
-
-  pub asked-there : entriesFor ipv6 k .size * start + entriesFor ipv6 k .size * (length o / entriesFor ipv6 k .size - start) ≤ length o
-  asked-there = rest-there (entriesFor ipv6 k) o start asked-inside
+-- the limit that was read
+pub asked-limit : (ipv6 : Bool) (k : Kind) (o : List ℕ) (start limit room l : ℕ) → Asked (entriesFor ipv6 k) o start limit room l → leastLimit (familyOf ipv6) ≤ l
+unfolding leastLimit usualLimit
+asked-limit ipv6 k o start limit room l h = limit-range (familyOf ipv6) limit l (rw (family-is ipv6 k) at (h .limitRead)) .0 (omega (arith, width-range ipv6))
 
 -- a call that is not refused packs the entries from the start on
-pub call-packs : (ipv6 : Bool) (k : Kind) (o : List ℕ) (start limit l : ℕ) (d : List ℕ) (p : Packed) → Asked (entriesFor ipv6 k) o start limit (length d) l
-    → p ≡ pack (formFor ipv6 k) l (entriesAt (entriesFor ipv6 k) o (entriesFor ipv6 k .size * start) (length o / entriesFor ipv6 k .size - start))
-    → packing (formFor ipv6 k) o start limit d ≡ record { answer = gives (wrote (length (octetsOf p)) (tookOf p)); buffer = put d 0 (octetsOf p) }
-unfolding packing packDue written count Outcome._>>=_
-call-packs ipv6 k o start limit l d p h e =
-    let left : drop start (entriesOf (entriesFor ipv6 k) o) ≡ entriesAt (entriesFor ipv6 k) o (entriesFor ipv6 k .size * start) (length o / entriesFor ipv6 k .size - start) = drop-entries (entriesFor ipv6 k) o start (h .inside) in
-    rw (asked-gives (entriesFor ipv6 k) o start limit (length d) l h, left, ← e)
+pub call-packs : {E : Entries} (F : Form E) (o : List ℕ) (start limit l : ℕ) (d : List ℕ) (p : Packed) → Asked E o start limit (length d) l → p ≡ pack F l (drop start (entriesOf E o))
+    → packing F o start limit d ≡ record { answer = gives (wrote (length (octetsOf p)) (tookOf p)); buffer = put d 0 (octetsOf p) }
+unfolding packing packDue written Outcome._>>=_
+call-packs {E} F o start limit l d p h e = rw (asked-gives E o start limit (length d) l h, ← e)

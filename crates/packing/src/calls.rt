@@ -2,16 +2,14 @@
 use crate::limit::Limit;
 use crate::limit::asked;
 use crate::most::write_most;
-use entries::entry_size;
 use format::Kind;
 use format::Refusal;
 ghost use mathlib.Core.Path.{_≡_};
 ghost use mathlib.Core.Bool.{true, false};
-ghost use Prim.Native.Nat.{_*_};
 ghost use lib.ListN.{length};
 ghost use Rattle.format.specs.Family.{ipv4};
 ghost use Rattle.format.specs.Packing.{plain, simple, aggregated, nullRegister, registerStop, taken, pack, packing};
-ghost use Rattle.packing.specs.Kinds.{formFor, isPacked};
+ghost use Rattle.packing.specs.Kinds.{formFor, isAggregated, isPacked};
 ghost use Rattle.packing.specs.Answers.{packed};
 
 // What a packing call did.
@@ -22,17 +20,16 @@ pub enum Packing {
 }
 
 // Packs a message of a kind.
-fn pack(kind: Kind, e: &[u8], start: usize, limit: usize, d: &mut [u8]) -> Packing
-    requires { ⌜ isPacked kind ≡ true ⌝ }
-    ensures answer { λ r. ⌜ packed r ≡ packing (formFor false kind) (now (e .entry)) start limit (now (d .entry)) .answer ⌝ }
-    ensures buffer { λ r. ⌜ now (d .exit) ≡ packing (formFor false kind) (now (e .entry)) start limit (now (d .entry)) .buffer ⌝ }
+fn pack(ipv6: bool, kind: Kind, e: &[u8], start: usize, limit: usize, d: &mut [u8]) -> Packing
+    requires { ⌜ (isPacked kind ≡ true) × (isAggregated kind ≡ true → ipv6 ≡ false) ⌝ }
+    ensures answer { λ r. ⌜ packed r ≡ packing (formFor ipv6 kind) (now (e .entry)) start limit (now (d .entry)) .answer ⌝ }
+    ensures buffer { λ r. ⌜ now (d .exit) ≡ packing (formFor ipv6 kind) (now (e .entry)) start limit (now (d .entry)) .buffer ⌝ }
 {
-    let x = asked(false, kind, e, start, limit, d.len());
+    let x = asked(ipv6, kind, e, start, limit, d.len());
     match x {
         Limit::Refused(r) => Packing::Refused(r),
         Limit::Is(l) => {
-            let size = entry_size(false, kind);
-            let w = write_most(kind, e, size * start, e.len() / size - start, l, d);
+            let w = write_most(ipv6, kind, e, start, l, d);
             Packing::Wrote {
                 length: w.next,
                 taken: w.taken,
@@ -46,7 +43,7 @@ pub fn pack_assert(e: &[u8], start: usize, limit: usize, d: &mut [u8]) -> Packin
     ensures answer { λ r. ⌜ packed r ≡ packing (plain ipv4) (now (e .entry)) start limit (now (d .entry)) .answer ⌝ }
     ensures buffer { λ r. ⌜ now (d .exit) ≡ packing (plain ipv4) (now (e .entry)) start limit (now (d .entry)) .buffer ⌝ }
 {
-    pack(Kind::Assert, e, start, limit, d)
+    pack(false, Kind::Assert, e, start, limit, d)
 }
 
 // A packed simple assert.
@@ -54,7 +51,7 @@ pub fn pack_simple(e: &[u8], start: usize, limit: usize, d: &mut [u8]) -> Packin
     ensures answer { λ r. ⌜ packed r ≡ packing (simple ipv4) (now (e .entry)) start limit (now (d .entry)) .answer ⌝ }
     ensures buffer { λ r. ⌜ now (d .exit) ≡ packing (simple ipv4) (now (e .entry)) start limit (now (d .entry)) .buffer ⌝ }
 {
-    pack(Kind::Simple, e, start, limit, d)
+    pack(false, Kind::Simple, e, start, limit, d)
 }
 
 // A packed aggregated assert.
@@ -62,7 +59,7 @@ pub fn pack_aggregated(e: &[u8], start: usize, limit: usize, d: &mut [u8]) -> Pa
     ensures answer { λ r. ⌜ packed r ≡ packing (aggregated ipv4) (now (e .entry)) start limit (now (d .entry)) .answer ⌝ }
     ensures buffer { λ r. ⌜ now (d .exit) ≡ packing (aggregated ipv4) (now (e .entry)) start limit (now (d .entry)) .buffer ⌝ }
 {
-    pack(Kind::Aggregated, e, start, limit, d)
+    pack(false, Kind::Aggregated, e, start, limit, d)
 }
 
 // A packed null-register.
@@ -70,7 +67,7 @@ pub fn pack_null_register(e: &[u8], start: usize, limit: usize, d: &mut [u8]) ->
     ensures answer { λ r. ⌜ packed r ≡ packing (nullRegister ipv4) (now (e .entry)) start limit (now (d .entry)) .answer ⌝ }
     ensures buffer { λ r. ⌜ now (d .exit) ≡ packing (nullRegister ipv4) (now (e .entry)) start limit (now (d .entry)) .buffer ⌝ }
 {
-    pack(Kind::NullRegister, e, start, limit, d)
+    pack(false, Kind::NullRegister, e, start, limit, d)
 }
 
 // A packed register-stop.
@@ -78,5 +75,5 @@ pub fn pack_register_stop(e: &[u8], start: usize, limit: usize, d: &mut [u8]) ->
     ensures answer { λ r. ⌜ packed r ≡ packing (registerStop ipv4) (now (e .entry)) start limit (now (d .entry)) .answer ⌝ }
     ensures buffer { λ r. ⌜ now (d .exit) ≡ packing (registerStop ipv4) (now (e .entry)) start limit (now (d .entry)) .buffer ⌝ }
 {
-    pack(Kind::RegisterStop, e, start, limit, d)
+    pack(false, Kind::RegisterStop, e, start, limit, d)
 }

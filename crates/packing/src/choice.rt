@@ -7,9 +7,9 @@ use crate::within::smaller;
 use format::Kind;
 use format::Refusal;
 ghost use mathlib.Core.Path.{_≡_};
-ghost use mathlib.Core.Bool.{_&&_, _||_};
+ghost use mathlib.Core.Bool.{false, _&&_, _||_};
 ghost use lib.Dec.{eqb, ltb};
-ghost use Rattle.format.specs.Family.{ipv4};
+ghost use Rattle.format.specs.Family.{ipv4, familyOf};
 ghost use Rattle.format.specs.Packing.{choice};
 ghost use Rattle.packing.specs.Answers.{chosenBy};
 
@@ -38,25 +38,26 @@ fn prefers_aggregated(s: Fitted, a: Fitted) -> bool
 }
 
 // Packs both forms and says which is chosen. Either buffer below the limit is refused with 8.
-pub fn pack_both(
+fn both(
+    ipv6: bool,
     e: &[u8],
     start: usize,
     limit: usize,
     simple: &mut [u8],
     aggregated: &mut [u8],
 ) -> Choice
-    ensures answer { λ r. ⌜ chosenBy r ≡ choice ipv4 (now (e .entry)) start limit (now (simple .entry)) (now (aggregated .entry)) .answer ⌝ }
-    ensures simple { λ r. ⌜ now (simple .exit) ≡ choice ipv4 (now (e .entry)) start limit (now (simple .entry)) (now (aggregated .entry)) .simpleBuffer ⌝ }
-    ensures aggregated { λ r. ⌜ now (aggregated .exit) ≡ choice ipv4 (now (e .entry)) start limit (now (simple .entry)) (now (aggregated .entry)) .aggregatedBuffer ⌝ }
+    requires { ⌜ ipv6 ≡ false ⌝ }
+    ensures answer { λ r. ⌜ chosenBy r ≡ choice (familyOf ipv6) (now (e .entry)) start limit (now (simple .entry)) (now (aggregated .entry)) .answer ⌝ }
+    ensures simple { λ r. ⌜ now (simple .exit) ≡ choice (familyOf ipv6) (now (e .entry)) start limit (now (simple .entry)) (now (aggregated .entry)) .simpleBuffer ⌝ }
+    ensures aggregated { λ r. ⌜ now (aggregated .exit) ≡ choice (familyOf ipv6) (now (e .entry)) start limit (now (simple .entry)) (now (aggregated .entry)) .aggregatedBuffer ⌝ }
 {
     let room = smaller(simple.len(), aggregated.len());
-    let x = asked(false, Kind::Simple, e, start, limit, room);
+    let x = asked(ipv6, Kind::Simple, e, start, limit, room);
     match x {
         Limit::Refused(r) => Choice::Refused(r),
         Limit::Is(l) => {
-            let left = e.len() / 16 - start;
-            let s = write_most(Kind::Simple, e, 16 * start, left, l, simple);
-            let a = write_most(Kind::Aggregated, e, 16 * start, left, l, aggregated);
+            let s = write_most(ipv6, Kind::Simple, e, start, l, simple);
+            let a = write_most(ipv6, Kind::Aggregated, e, start, l, aggregated);
             if prefers_aggregated(s, a) {
                 return Choice::Wrote {
                     aggregated: true,
@@ -73,6 +74,21 @@ pub fn pack_both(
     }
 }
 
+// Both forms, and which is chosen.
+pub fn pack_both(
+    e: &[u8],
+    start: usize,
+    limit: usize,
+    simple: &mut [u8],
+    aggregated: &mut [u8],
+) -> Choice
+    ensures answer { λ r. ⌜ chosenBy r ≡ choice ipv4 (now (e .entry)) start limit (now (simple .entry)) (now (aggregated .entry)) .answer ⌝ }
+    ensures simple { λ r. ⌜ now (simple .exit) ≡ choice ipv4 (now (e .entry)) start limit (now (simple .entry)) (now (aggregated .entry)) .simpleBuffer ⌝ }
+    ensures aggregated { λ r. ⌜ now (aggregated .exit) ≡ choice ipv4 (now (e .entry)) start limit (now (simple .entry)) (now (aggregated .entry)) .aggregatedBuffer ⌝ }
+{
+    both(false, e, start, limit, simple, aggregated)
+}
+
 // The message that is chosen, as a part of the buffer that it was written into; empty where `pack_both` refuses
 // and at the end of the list.
 pub fn pack_chosen<'a>(
@@ -84,7 +100,7 @@ pub fn pack_chosen<'a>(
 ) -> &'a mut [u8]
     ensures { λ r. ⌜ now r ≡ choice ipv4 (now (e .entry)) start limit (now (simple .entry)) (now (aggregated .entry)) .part ⌝ }
 {
-    match pack_both(e, start, limit, simple, aggregated) {
+    match both(false, e, start, limit, simple, aggregated) {
         Choice::Refused(_) => &mut simple[..0],
         Choice::Wrote {
             aggregated: better,

@@ -24,50 +24,53 @@ fixed : (c : tie.Else1) → isAggregated (c .before .before .before .before .arg
 fixed c = sym (c .before .layout-of .ensures .3) ∙ c .if1 .left
 
 -- how many records of one length there are
-counted : (c : tie.After-how-many-fixed) → c .how-many-fixed .result ≡ taken (formFor false (c .before .before .before .before .before .args .kind)) (c .before .before .before .before .before .args .limit) (entriesAt (entriesFor false (c .before .before .before .before .before .args .kind)) (now (c .before .before .before .before .before .args .e)) (c .before .before .before .before .before .args .from) (c .before .before .before .before .before .args .n))
+counted : (c : tie.After-how-many-fixed) → c .how-many-fixed .result ≡ taken (formFor (c .before .before .before .before .before .args .ipv6) (c .before .before .before .before .before .args .kind)) (c .before .before .before .before .before .args .limit) (entriesAt (entriesFor (c .before .before .before .before .before .args .ipv6) (c .before .before .before .before .before .args .kind)) (now (c .before .before .before .before .before .args .e)) (c .before .before .before .before .before .args .from) (c .before .before .before .before .before .args .n))
 counted c =
     let a = c .before .before .before .before .before .args in
-    let es = entriesAt (entriesFor false (a .kind)) (now (a .e)) (a .from) (a .n) in
+    let es = entriesAt (entriesFor (a .ipv6) (a .kind)) (now (a .e)) (a .from) (a .n) in
     c .how-many-fixed .ensures
-    ∙ sym (taken-fixed false (a .kind) (c .before .before .before .before .before .pre .0) (fixed (c .before)) (a .limit) es (omega (arith, head-range (a .kind), limit-head (familyOf false) (a .limit) (c .before .before .before .before .before .pre .3))) ∙ ap (fitting false (a .kind) (a .limit)) (length-entriesAt (entriesFor false (a .kind)) (now (a .e)) (a .from) (a .n)))
+    ∙ sym (taken-fixed (a .ipv6) (a .kind) (c .before .before .before .before .before .pre .0) (fixed (c .before)) (a .limit) es (omega (arith, head-range (a .kind), limit-head (familyOf (a .ipv6)) (a .limit) (c .before .before .before .before .before .pre .3))) ∙ ap (fitting (a .ipv6) (a .kind) (a .limit)) (length-entriesAt (entriesFor (a .ipv6) (a .kind)) (now (a .e)) (a .from) (a .n)))
 
 put-within-requires : tie.Need-put-within-requires
 put-within-requires c κs =
     let a = c .before .before .before .before .before .args in
-    let there = rw (aggregated-is (a .kind) (sym (c .before .before .layout-of .ensures .3) ∙ c .before .if1 .taken)) at (c .before .before .before .before .before .pre .2) in
-    (there, omega (arith, head-range (a .kind), limit-head (familyOf false) (a .limit) (c .before .before .before .before .before .pre .3), c .before .before .before .before .before .pre .5), c .before .before .before .before .before .pre .4)
+    let joins = sym (c .before .before .layout-of .ensures .3) ∙ c .before .if1 .taken in
+    let there = rw (aggregated-is (a .kind) joins, c .before .before .before .before .before .pre .0 .base joins) at (c .before .before .before .before .before .pre .2) in
+    (there, omega (arith, head-range (a .kind), limit-head (familyOf (a .ipv6)) (a .limit) (c .before .before .before .before .before .pre .3), c .before .before .before .before .before .pre .5), c .before .before .before .before .before .pre .4)
 
 returns : tie.Need-returns
 unfolding recordsFor allOf
 returns c =
     let a = c .before .before .before .before .before .before .before .before .args in
-    let kind = aggregated-is (a .kind) (sym (c .before .before .before .before .before .layout-of .ensures .3) ∙ c .before .before .before .before .if1 .taken) in
+    let joins = sym (c .before .before .before .before .before .layout-of .ensures .3) ∙ c .before .before .before .before .if1 .taken in
+    let kind = aggregated-is (a .kind) joins in
+    let base = c .before .before .before .before .before .before .before .before .pre .0 .base joins in
     let head : a .out ≡ 8 = rw kind at (c .before .before .before .before .before .before .before .before .pre .5) in
     let wrote = c .before .before .put-within .ensures in
     let fit = rw head at (wrote .0) in
-    rw kind (taken-within ipv4 (now (a .e)) (a .from) (a .n) (a .limit) _ (limit-head (familyOf false) (a .limit) (c .before .before .before .before .before .before .before .before .pre .3)) (fit .inside) (fit .fits) (fit .full), wrote .1)
+    rw (kind, base) (taken-within ipv4 (now (a .e)) (a .from) (a .n) (a .limit) _ (limit-head (familyOf (a .ipv6)) (a .limit) (c .before .before .before .before .before .before .before .before .pre .3)) (fit .inside) (fit .fits) (fit .full), wrote .1)
 
 how-many-fixed-requires : tie.Need-how-many-fixed-requires
 how-many-fixed-requires c κs =
     let s = c .before .before .before .before in
-    (s .pre .0, s .pre .1, omega (arith, head-range (s .args .kind), limit-head (familyOf false) (s .args .limit) (s .pre .3)))
+    (s .pre .0, s .pre .1, omega (arith, head-range (s .args .kind), limit-head (familyOf (s .args .ipv6)) (s .args .limit) (s .pre .3)))
 
 put-records-requires : tie.Need-put-records-requires
 put-records-requires c κs =
     let a = c .before .before .before .before .before .before .args in
     let t = c .before .how-many-fixed .result in
     let e = counted (c .before) in
-    let some : 0 < c .before .how-many-fixed .result = rw e (taken-some false (a .kind) (c .before .before .before .before .before .before .pre .0) (a .limit) (c .before .before .before .before .before .before .pre .3) (now (a .e)) (a .from) (a .n) (c .before .before .before .before .before .before .pre .1)) in
-    let few = mul-le-mul-left (entriesFor false (a .kind) .size) (most-inside false (a .kind) (now (a .e)) (a .from) (a .n) (a .limit) t e) in
-    let fit = most-fits false (a .kind) (now (a .e)) (a .from) (a .n) (a .limit) t e some in
-    (omega (arith, few, c .before .before .before .before .before .before .pre .2), omega (arith, fit, length-is false (a .kind) (c .before .before .before .before .before .before .pre .0) (entriesAt (entriesFor false (a .kind)) (now (a .e)) (a .from) t), records-long false (a .kind) (fixed (c .before .before)) (now (a .e)) (a .from) t, c .before .before .before .before .before .before .pre .4, c .before .before .before .before .before .before .pre .5))
+    let some : 0 < c .before .how-many-fixed .result = rw e (taken-some (a .ipv6) (a .kind) (c .before .before .before .before .before .before .pre .0) (a .limit) (c .before .before .before .before .before .before .pre .3) (now (a .e)) (a .from) (a .n) (c .before .before .before .before .before .before .pre .1)) in
+    let few = mul-le-mul-left (entriesFor (a .ipv6) (a .kind) .size) (most-inside (a .ipv6) (a .kind) (now (a .e)) (a .from) (a .n) (a .limit) t e) in
+    let fit = most-fits (a .ipv6) (a .kind) (now (a .e)) (a .from) (a .n) (a .limit) t e some in
+    (omega (arith, few, c .before .before .before .before .before .before .pre .2), omega (arith, fit, length-is (a .ipv6) (a .kind) (c .before .before .before .before .before .before .pre .0) (entriesAt (entriesFor (a .ipv6) (a .kind)) (now (a .e)) (a .from) t), records-long (a .ipv6) (a .kind) (fixed (c .before .before)) (now (a .e)) (a .from) t, c .before .before .before .before .before .before .pre .4, c .before .before .before .before .before .before .pre .5))
 
 returns-2 : tie.Need-returns-2
 returns-2 c =
     let a = c .before .before .before .before .before .before .before .before .before .args in
     let t = c .before .before .before .before .how-many-fixed .result in
     let same = fixed (c .before .before .before .before .before) in
-    (counted (c .before .before .before .before), (c .before .before .put-records .ensures .0 ∙ omega (arith, records-long false (a .kind) same (now (a .e)) (a .from) t), rw (each-record false (a .kind) same (entriesAt (entriesFor false (a .kind)) (now (a .e)) (a .from) t)) (c .before .before .put-records .ensures .1)))
+    (counted (c .before .before .before .before), (c .before .before .put-records .ensures .0 ∙ omega (arith, records-long (a .ipv6) (a .kind) same (now (a .e)) (a .from) t), rw (each-record (a .ipv6) (a .kind) same (entriesAt (entriesFor (a .ipv6) (a .kind)) (now (a .e)) (a .from) t)) (c .before .before .put-records .ensures .1)))
 
 pub put-most-spec : {M : Type 1} → statement M
 put-most-spec =
