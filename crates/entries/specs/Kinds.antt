@@ -1,4 +1,5 @@
 -- Entries by the kind of message, over the family.
+--     byKind                     a table over the kinds
 --     isAssert, isStop           the kinds with asserts, and the one whose source may always be 0
 --     entriesBy, zeroBy          entries by both: what they are, and whether the source of one may be 0
 --     entriesFor                 the entries of a kind
@@ -17,21 +18,20 @@ use Rattle.format.specs.declared.Kind.the-variants.{Hello, Assert, Simple, Aggr
 use Rattle.entries.specs.declared.Listed.{Listed}
 use Rattle.entries.specs.declared.Listed.the-variants.{Allowed, Bad}
 
+-- a row of a table, in the order of the kinds
+abbrev pub byKind : {A : Type 0} → A → A → A → A → A → A → Kind → A
+byKind h p s a n r Hello = h
+byKind h p s a n r Assert = p
+byKind h p s a n r Simple = s
+byKind h p s a n r Aggregated = a
+byKind h p s a n r NullRegister = n
+byKind h p s a n r RegisterStop = r
+
 abbrev pub isAssert : Kind → Bool
-isAssert Hello = true
-isAssert Assert = true
-isAssert Simple = true
-isAssert Aggregated = true
-isAssert NullRegister = false
-isAssert RegisterStop = false
+isAssert = byKind true true true true false false
 
 abbrev pub isStop : Kind → Bool
-isStop Hello = false
-isStop Assert = false
-isStop Simple = false
-isStop Aggregated = false
-isStop NullRegister = false
-isStop RegisterStop = true
+isStop = byKind false false false false false true
 
 abbrev pub entriesBy : Family → Bool → Bool → Entries
 entriesBy f true stop = assertEntries f

@@ -23,7 +23,7 @@ use Rattle.format.specs.Body.{zeros}
 use Rattle.format.specs.Packing.{Form, plain, simple, aggregated, nullRegister, registerStop}
 use Rattle.format.specs.declared.Kind.{Kind}
 use Rattle.format.specs.declared.Kind.the-variants.{Hello, Assert, Simple, Aggregated, NullRegister, RegisterStop}
-use Rattle.entries.specs.Kinds.{isAssert, isStop, entriesBy, entriesFor}
+use Rattle.entries.specs.Kinds.{byKind, isAssert, isStop, entriesBy, entriesFor}
 
 abbrev pub formFor : (ipv6 : Bool) (k : Kind) → Form (entriesFor ipv6 k)
 formFor ipv6 Hello = record { kind = Hello; atMost = λ n. 0; body = λ es. []; size = λ es. 4 }
@@ -50,12 +50,7 @@ recordAt f true o at = assertOctets f (assertAt f o at)
 recordAt f false o at = pairOctets f (pairAt f o at)
 
 unfoldable pub isAggregated : Kind → Bool
-isAggregated Hello = false
-isAggregated Assert = false
-isAggregated Simple = false
-isAggregated Aggregated = true
-isAggregated NullRegister = false
-isAggregated RegisterStop = false
+isAggregated = byKind false false false true false false
 
 unfoldable pub recordsFor : (ipv6 : Bool) (k : Kind) → List (entriesFor ipv6 k .Entry) → List ℕ
 recordsFor ipv6 Hello es = each (recordOctets ipv6 Hello) es
@@ -67,12 +62,7 @@ recordsFor ipv6 RegisterStop es = each (recordOctets ipv6 RegisterStop) es
 
 -- Zero and Reserved of a packed assert
 abbrev pub frontOf : Kind → List ℕ
-frontOf Hello = []
-frontOf Assert = []
-frontOf Simple = zeros
-frontOf Aggregated = zeros
-frontOf NullRegister = []
-frontOf RegisterStop = []
+frontOf = byKind [] [] zeros zeros [] []
 
 abbrev pub headSize : Kind → ℕ
 headSize k = 4 + length (frontOf k)
