@@ -1,8 +1,10 @@
 -- Runs of entries that stand one after another.
 --     source-joins, rp-joins, group-joins     two entries are joined, by their octets
---     Counting                               where a loop that looks for the end of a run stands: count-start, count-there, count-stop, count-next, count-end
---     run-range, all-first, number-first     the first run, and what is left past it
---     all-none                               no entries have no octets
+--     entry-there                             the first of some entries is there
+--     halves-apart, halves-equal              two addresses compared by their halves
+--     Counting                                where a loop that counts the first entries that pass a test stands: count-run, count-start, count-there, count-stop, count-next, count-end
+--     leading-le, run-range, records-first    the first run, and what is left past it
+--     records-none, all-none                  no entries have no records
 -- Assumes nothing.
 use Prim.Native.Nat.{ℕ, zero, suc, _+_, _-_, _*_, _≤_, _<_}
 use native.Mathlib.Nat.{mul-suc}
@@ -19,14 +21,13 @@ use Rattle.records.specs.Runs.{run, runs, leading}
 use Rattle.records.specs.Joining.{together, sameGroup, allGroupRecords, joined}
 use Rattle.records.proofs.Runs.{runs-first}
 use Rattle.records.proofs.Joining.{together-cong, sameGroup-cong}
-use Rattle.format.specs.Family.{Family, ipv4}
+use Rattle.format.specs.Family.{Family}
 use Rattle.format.specs.Record.{each}
 use Rattle.format.specs.Entry.{assertAt, assertEntries, entriesAt}
-use Rattle.format.proofs.Lengths.{each-append}
 use Rattle.format.proofs.Entries.{length-entriesAt, take-entries, drop-at}
 use Rattle.addresses.proofs.Laws.{halves}
 use Rattle.packing.specs.Joins.{asserts, entrySize, joins, runLength, Run, Aggregated, Group}
-use Rattle.packing.specs.Aggregates.{oneOf, allOf, numberOf}
+use Rattle.packing.specs.Aggregates.{recordsIn, recordsOf, allOf}
 
 -- ---- where a run ends
 
@@ -64,48 +65,54 @@ halves-equal ah al bh bl e = go (eqb ah bh) refl
     go true t = let same : ah ≡ bh = eqb-true ah bh t in sym (eq-eqb (halves ah al) (halves bh bl) (omega arith))
     go false t = sym (ne-eqb (halves ah al) (halves bh bl) (λ q. eqb-false ah bh t (omega arith)))
 
--- what is still to be looked at says how long the run is
-pub record Counting (f : Family) (r : Run) (o : List ℕ) (from n k at : ℕ) : Type 0 where
+-- what is still to be looked at says how many entries at the front pass a test
+pub record Counting (f : Family) (test : AssertRecord → Bool) (o : List ℕ) (n all k at : ℕ) : Type 0 where
   pub left : ℕ
   pub count : k + left ≡ n
   pub there : at + entrySize f * left ≤ length o
-  pub same : k + leading (joins r (assertAt f o from)) (asserts f o at left) ≡ runLength f r o from n
+  pub same : k + leading test (asserts f o at left) ≡ all
 
-pub count-start : (f : Family) (r : Run) (o : List ℕ) (from n : ℕ) → 0 < n → from + entrySize f * n ≤ length o → Counting f r o from n 1 (from + entrySize f)
+-- a run: of its first entry it is known that it is in it
+pub count-run : (f : Family) (r : Run) (o : List ℕ) (from n : ℕ) → 0 < n → from + entrySize f * n ≤ length o
+    → Counting f (joins r (assertAt f o from)) o n (runLength f r o from n) 1 (from + entrySize f)
 unfolding runLength
-count-start f r o from zero h there = absurd (omega arith)
-count-start f r o from (suc m) h there =
+count-run f r o from zero h there = absurd (omega arith)
+count-run f r o from (suc m) h there =
     let one : suc m - 1 ≡ m = omega arith in
     record { left = m; count = omega arith; there = omega (arith, mul-suc (entrySize f) m); same = rw one (omega arith) }
 
-module _ {f : Family} {r : Run} {o : List ℕ} {from n k at : ℕ} (t : Counting f r o from n k at) where
+pub count-start : (f : Family) (test : AssertRecord → Bool) (o : List ℕ) (from n : ℕ) → from + entrySize f * n ≤ length o
+    → Counting f test o n (leading test (asserts f o from n)) 0 from
+count-start f test o from n there = record { left = n; count = omega arith; there = there; same = omega arith }
+
+module _ {f : Family} {test : AssertRecord → Bool} {o : List ℕ} {n all k at : ℕ} (t : Counting f test o n all k at) where
   module _ (h : k < n) where
     -- there is an entry to look at
     one-left : (X : Type 0) → ((left : ℕ) → k + suc left ≡ n → at + entrySize f + entrySize f * left ≤ length o
-        → k + leading (joins r (assertAt f o from)) (assertAt f o at ∷ asserts f o (at + entrySize f) left) ≡ runLength f r o from n → X) → X
+        → k + leading test (assertAt f o at ∷ asserts f o (at + entrySize f) left) ≡ all → X) → X
     unfolding entriesAt
     one-left X then = go (t .left) (t .count) (t .there) (t .same)
       where
-        go : (left : ℕ) → k + left ≡ n → at + entrySize f * left ≤ length o → k + leading (joins r (assertAt f o from)) (asserts f o at left) ≡ runLength f r o from n → X
+        go : (left : ℕ) → k + left ≡ n → at + entrySize f * left ≤ length o → k + leading test (asserts f o at left) ≡ all → X
         go zero e a s = absurd (omega arith)
         go (suc left) e a s = then left e (omega (arith, mul-suc (entrySize f) left)) s
 
     pub count-there : at + entrySize f ≤ length o
     count-there = one-left _ (λ left e a s. omega arith)
 
-    pub count-stop : joins r (assertAt f o from) (assertAt f o at) ≡ false → k ≡ runLength f r o from n
+    pub count-stop : test (assertAt f o at) ≡ false → k ≡ all
     unfolding leading
     count-stop q = one-left _ (λ left e a s. let s′ = rw q at s in omega arith)
 
-    pub count-next : (at′ : ℕ) → joins r (assertAt f o from) (assertAt f o at) ≡ true → at′ ≡ at + entrySize f → Counting f r o from n (k + 1) at′
+    pub count-next : (at′ : ℕ) → test (assertAt f o at) ≡ true → at′ ≡ at + entrySize f → Counting f test o n all (k + 1) at′
     unfolding leading
     count-next at′ q p = rw p (one-left _ (λ left e a s. let s′ = rw q at s in record { left = left; count = omega arith; there = a; same = omega arith }))
 
-  pub count-end : n ≤ k → k ≡ runLength f r o from n
+  pub count-end : n ≤ k → k ≡ all
   unfolding leading entriesAt
   count-end h = go (t .left) (t .count) (t .same)
     where
-      go : (left : ℕ) → k + left ≡ n → k + leading (joins r (assertAt f o from)) (asserts f o at left) ≡ runLength f r o from n → k ≡ runLength f r o from n
+      go : (left : ℕ) → k + left ≡ n → k + leading test (asserts f o at left) ≡ all → k ≡ all
       go zero e s = omega arith
       go (suc left) e s = absurd (omega arith)
 
@@ -116,7 +123,7 @@ unfolding joins
 joins-cong Aggregated a b e = together-cong a b e
 joins-cong Group a b e = sameGroup-cong a b e
 
-leading-le : {A : Type 0} (p : A → Bool) (l : List A) → leading p l ≤ length l
+pub leading-le : {A : Type 0} (p : A → Bool) (l : List A) → leading p l ≤ length l
 unfolding leading
 leading-le p [] = omega arith
 leading-le p (a ∷ l) = go (p a) (leading-le p l)
@@ -163,20 +170,19 @@ module _ (f : Family) (r : Run) (o : List ℕ) where
 sub-suc : (m k : ℕ) → suc m - suc k ≡ m - k
 sub-suc m k = omega arith
 
--- the octets of entries are those of the first run, then those of what is left
-pub all-first : (r : Run) (o : List ℕ) (at n : ℕ) → 0 < n
-    → allOf r (asserts ipv4 o at n) ≡ oneOf r (asserts ipv4 o at (runLength ipv4 r o at n)) ++ allOf r (asserts ipv4 o (at + 16 * runLength ipv4 r o at n) (n - runLength ipv4 r o at n))
-unfolding allOf oneOf joined allGroupRecords each entriesAt joins
-all-first r o at zero h = absurd (omega arith)
-all-first Aggregated o at (suc m) h = rw (length-at ipv4 Aggregated o at m, sub-suc, runs-at ipv4 Aggregated o at m)
-all-first Group o at (suc m) h = rw (length-at ipv4 Group o at m, sub-suc, runs-at ipv4 Group o at m, each-append)
+-- the records of entries are those of the first run, then those of what is left
+pub records-first : (f : Family) (r : Run) (o : List ℕ) (at n : ℕ) → 0 < n
+    → recordsOf f r (asserts f o at n) ≡ recordsIn f r (asserts f o at (runLength f r o at n)) ++ recordsOf f r (asserts f o (at + entrySize f * runLength f r o at n) (n - runLength f r o at n))
+unfolding recordsOf recordsIn joined allGroupRecords entriesAt joins
+records-first f r o at zero h = absurd (omega arith)
+records-first f Aggregated o at (suc m) h = rw (length-at f Aggregated o at m, sub-suc, runs-at f Aggregated o at m)
+records-first f Group o at (suc m) h = rw (length-at f Group o at m, sub-suc, runs-at f Group o at m)
 
-pub number-first : (r : Run) (o : List ℕ) (at n : ℕ) → 0 < n → numberOf r (asserts ipv4 o at n) ≡ suc (numberOf r (asserts ipv4 o (at + 16 * runLength ipv4 r o at n) (n - runLength ipv4 r o at n)))
-unfolding numberOf
-number-first r o at zero h = absurd (omega arith)
-number-first r o at (suc m) h = rw (length-at ipv4 r o at m, sub-suc, runs-at ipv4 r o at m)
+pub records-none : (f : Family) (r : Run) (o : List ℕ) (at : ℕ) → recordsOf f r (asserts f o at 0) ≡ []
+unfolding recordsOf joined allGroupRecords runs entriesAt
+records-none f Aggregated o at = refl
+records-none f Group o at = refl
 
-pub all-none : (r : Run) (o : List ℕ) (at : ℕ) → allOf r (asserts ipv4 o at 0) ≡ []
-unfolding allOf joined allGroupRecords runs each entriesAt
-all-none Aggregated o at = refl
-all-none Group o at = refl
+pub all-none : (f : Family) (r : Run) (o : List ℕ) (at : ℕ) → allOf f r (asserts f o at 0) ≡ []
+unfolding allOf each
+all-none f r o at = rw (records-none f r o at)

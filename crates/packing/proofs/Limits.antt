@@ -1,43 +1,41 @@
 -- Runs written one after another within a limit: where the limit cuts a run, no other fits after it.
---     run-fewer                       the first run of fewer entries
---     one-run, one-number             entries of one run are one record
---     sources-none, sources-one       how many sources the group record of one entry has
---     least, one-least, rp-least, one-step     what a record takes at least, and what one more entry adds to it at most
---     one-none, none-fit, none-written         no entry fits, and nothing is written
---     FirstRun, first-run             of the entries that there is room for, those of the first run
+--     one-all                         the octets of entries of one run
+--     none-fit, none-written          no entry fits, and nothing is written
+--     FirstRun, first-run, first-octets       of the entries that there is room for, those of the first run
 --     source-most, source-grows       how many entries a source aggregated record has room for
---     group-one, group-most, group-grows       how many a group record has
---     rp-most, rp-fewer               how many an RP aggregated record has, by its group records, and by the entries that could fit
---     Apart, Further, RunsWithin      where a loop that writes run by run within a limit stands: within-start, within-there, within-next
+--     whole-most, joined-most, zeros-most, group-grows     how many group records have
+--     number-few                      a group record has octets
+--     div-some, rp-least, rp-most     what an RP aggregated record takes, and how many entries it has, by its group records
+--     Apart, Further, RunsWithin      where a loop that writes run by run within a limit stands: within-start, within-there, within-room, within-next
 --     Took                            what it has written in the end: within-stop, within-end
---     number-none, number-next        how many runs it has written
+--     number-none, number-next        how many records it has written
 -- Assumes nothing.
 use Prim.Native.Nat.{ℕ, zero, suc, _+_, _-_, _*_, _/_, _≤_, _<_, min}
-use native.Mathlib.Nat.{zero-add, le-trans}
+use native.Mathlib.Nat.{zero-add, le-trans, mul-suc, mul-add, mul-le-mul-left, mul-div-le, lt-mul-div-succ}
 use native.Mathlib.Omega.{arith}
 use native.Mathlib.Decide.{decLe}
 use mathlib.Core.Path.{_≡_, refl, sym, ap, _∙_}
-use mathlib.Core.Bool.{Bool, true, false, cond, _&&_}
+use mathlib.Core.Bool.{Bool, true, false, cond}
 use mathlib.Core.List.{List, [], _∷_, _++_, append-assoc, append-nil}
-use borrow.Author.Tests.{eq-eqb, ne-eqb}
+use borrow.Author.Tests.{le-leb, leb-true}
 use lib.ListN.{length, take, length-append, take-append-drop}
-use lib.Dec.{eqb}
 use Rattle.octets.specs.Octets.{numberAt, put}
 use Rattle.octets.proofs.Laws.{put-next, put-nil, length-put}
-use Rattle.records.specs.Records.{AssertRecord, rBit}
-use Rattle.records.specs.Runs.{run, glue, runs, leading}
-use Rattle.records.specs.Joining.{allZero, aggregated}
-use Rattle.records.specs.Sizes.{groupRunSize}
-use Rattle.records.proofs.Runs.{total}
-use Rattle.records.proofs.Least.{groupCost, groupsCost, recordCost, rp-cost, groups-parts}
-use Rattle.format.specs.Family.{ipv4}
+use Rattle.records.specs.Records.{AssertRecord, GroupRecord, ofGroup, rBit}
+use Rattle.records.specs.Runs.{Run as RunOf, run, leading}
+use Rattle.records.specs.Joining.{allZero, groupRecords, allGroupRecords, joined}
+use Rattle.records.specs.Sizes.{groupRunSize, groupRecordsSize}
+use Rattle.records.proofs.Runs.{total, Parts}
+use Rattle.records.proofs.Least.{groupCost, groupsCost, group-size, groups-parts, joined-parts}
+use Rattle.format.specs.Family.{Family, familyOf}
 use Rattle.format.specs.Entry.{assertAt, assertEntries, entriesAt}
-use Rattle.format.proofs.Lengths.{length-aggregated}
-use Rattle.packing.specs.Joins.{asserts, joins, runLength, Run, Aggregated, Group}
-use Rattle.format.proofs.Entries.{take-entries, drop-at}
-use Rattle.packing.proofs.Joins.{run-range, all-first, number-first, all-none}
-use Rattle.packing.specs.Aggregates.{oneOf, allOf, numberOf, sourcesIn, MostWithin}
-use Rattle.packing.proofs.Aggregating.{group-long, sources-range, source-long, rp-long}
+use Rattle.format.specs.Record.{each, groupRecordOctets}
+use Rattle.format.proofs.Lengths.{each-append, length-groupRecords, length-all}
+use Rattle.format.proofs.Entries.{length-entriesAt, take-entries, drop-at}
+use Rattle.packing.specs.Joins.{asserts, entrySize, joins, runLength, Run, Aggregated, Group}
+use Rattle.packing.specs.Aggregates.{octetsOf, sources, recordsIn, recordsOf, oneOf, allOf, numberOf, zeroSource, few, MostWithin}
+use Rattle.packing.proofs.Joins.{leading-le, run-range, records-first, records-none, all-none}
+use Rattle.packing.proofs.Aggregating.{all-zero, group-long, source-long, rp-long}
 
 -- ---- the first run of fewer entries
 
@@ -51,402 +49,510 @@ leading-take p (suc k) (a ∷ l) = go (p a) (leading-take p k l)
     go true h = omega arith
     go false h = omega arith
 
-module _ (r : Run) (o : List ℕ) (at : ℕ) where
-  pub run-fewer : (m n : ℕ) → 0 < m → m ≤ n → runLength ipv4 r o at m ≡ min m (runLength ipv4 r o at n)
+module _ (f : Family) (r : Run) (o : List ℕ) (at : ℕ) where
+  run-fewer : (m n : ℕ) → 0 < m → m ≤ n → runLength f r o at m ≡ min m (runLength f r o at n)
   unfolding runLength
-  run-fewer m n some few =
-      let front = take-entries (assertEntries ipv4) o (m - 1) (n - 1) (at + 16) (omega arith) in
-      let cut : leading (joins r (assertAt ipv4 o at)) (asserts ipv4 o (at + 16) (m - 1)) ≡ min (m - 1) (leading (joins r (assertAt ipv4 o at)) (asserts ipv4 o (at + 16) (n - 1))) =
-      rw (← front) (leading-take (joins r (assertAt ipv4 o at)) (m - 1) (asserts ipv4 o (at + 16) (n - 1))) in
+  run-fewer m n some fewer =
+      let front = take-entries (assertEntries f) o (m - 1) (n - 1) (at + entrySize f) (omega arith) in
+      let cut : leading (joins r (assertAt f o at)) (asserts f o (at + entrySize f) (m - 1)) ≡ min (m - 1) (leading (joins r (assertAt f o at)) (asserts f o (at + entrySize f) (n - 1))) =
+      rw (← front) (leading-take (joins r (assertAt f o at)) (m - 1) (asserts f o (at + entrySize f) (n - 1))) in
       omega arith
 
-  -- entries of one run: one record, and what comes after it
-  module _ (n k : ℕ) (some : 0 < k) (inside : k ≤ runLength ipv4 r o at n) (few : k ≤ n) where
-    alone : runLength ipv4 r o at k ≡ k
-    alone = omega (arith, run-fewer k n some few)
+  -- entries of one run are its records, whether they are taken for one run or looked at for runs
+  one-run : (n k : ℕ) → 0 < k → k ≤ runLength f r o at n → k ≤ n → recordsOf f r (asserts f o at k) ≡ recordsIn f r (asserts f o at k)
+  one-run n k some inside fewer =
+      let alone : runLength f r o at k ≡ k = omega (arith, run-fewer k n some fewer) in
+      let over : k - k ≡ 0 = omega arith in
+      records-first f r o at k some ∙ rw (alone, over, records-none f r o (at + entrySize f * k)) (append-nil _)
 
-    over : k - k ≡ 0
-    over = omega arith
+  pub one-all : (n k : ℕ) → 0 < k → k ≤ runLength f r o at n → k ≤ n → allOf f r (asserts f o at k) ≡ oneOf f r (asserts f o at k)
+  unfolding allOf oneOf
+  one-all n k some inside fewer = ap (each (octetsOf f r)) (one-run n k some inside fewer)
 
-    pub one-run : allOf r (asserts ipv4 o at k) ≡ oneOf r (asserts ipv4 o at k)
-    one-run = all-first r o at k some ∙ rw (alone, over, all-none r o (at + 16 * k)) (append-nil _)
+-- ---- what entries take
 
-    pub one-number : numberOf r (asserts ipv4 o at k) ≡ 1
-    unfolding entriesAt numberOf runs
-    one-number = number-first r o at k some ∙ rw (alone, over)
+group-octets : (f : Family) (rs : List (RunOf AssertRecord)) → length (each (groupRecordOctets f) (allGroupRecords (f .width) rs)) ≡ total (groupCost (f .width)) rs
+unfolding allGroupRecords groupCost total each
+group-octets f [] = refl
+group-octets f (run e es ∷ rs) =
+    let first = groupRecords (f .width) (e .group) (sources (e ∷ es)) in
+    ap length (each-append (groupRecordOctets f) first (allGroupRecords (f .width) rs))
+    ∙ length-append (each (groupRecordOctets f) first) (each (groupRecordOctets f) (allGroupRecords (f .width) rs))
+    ∙ omega (arith, length-groupRecords f first, group-size (f .width) (e .group) (sources (e ∷ es)), group-octets f rs)
 
--- ---- what one record takes
+groups-octets : (f : Family) (es : List AssertRecord) → length (allOf f Group es) ≡ groupsCost (f .width) es
+unfolding allOf recordsOf octetsOf groupsCost
+groups-octets f es = group-octets f _
 
-unfoldable pub least : Run → ℕ
-least Aggregated = 24
-least Group = 12
+-- what a cut adds
+cuts : Family → Run → ℕ
+cuts f Aggregated = f .width + 8 + 12
+cuts f Group = f .width + 8
 
-groups-one : (e : AssertRecord) → groupsCost 4 (e ∷ []) ≤ 18
-unfolding groupsCost groupCost runs glue total groupRunSize allZero
-groups-one e = go (eqb (e .source) 0)
-  where
-    go : (b : Bool) → cond (b && true) (min (1 * (4 + 4 + 4 + (4 + 2) * 0)) (4 + 4 + 4 + (4 + 2) * 1)) (4 + 4 + 4 + (4 + 2) * 1) + 0 ≤ 18
-    go true = omega arith
-    go false = omega arith
+all-parts : (f : Family) (r : Run) (a b : List AssertRecord) → Parts (cuts f r) (length (allOf f r a)) (length (allOf f r b)) (length (allOf f r (a ++ b)))
+unfolding allOf recordsOf octetsOf cuts
+all-parts f Aggregated a b = rw (length-all f (joined (f .width) a), length-all f (joined (f .width) b), length-all f (joined (f .width) (a ++ b))) (joined-parts (f .width) a b)
+all-parts f Group a b = rw (groups-octets f a, groups-octets f b, groups-octets f (a ++ b)) (groups-parts (f .width) a b)
 
-module _ (o : List ℕ) (at : ℕ) where
-  sources-many : (k : ℕ) → 1 < k → sourcesIn o at k ≡ k
-  unfolding sourcesIn
-  sources-many k h = rw (ne-eqb k 1 (λ e. omega arith))
+module _ (f : Family) (r : Run) (o : List ℕ) (at : ℕ) where
+  split : (j k : ℕ) → asserts f o at (j + k) ≡ asserts f o at j ++ asserts f o (at + entrySize f * j) k
+  split j k =
+      sym (take-append-drop j (asserts f o at (j + k)))
+      ∙ rw (take-entries (assertEntries f) o j (j + k) at (omega arith), drop-at (assertEntries f) o j k at)
 
-  sources-few : (k : ℕ) → k ≤ sourcesIn o at k + 1
-  sources-few k = go (decLe k 1)
-    where
-      go : Dec (k ≤ 1) → k ≤ sourcesIn o at k + 1
-      go (yes h) = omega arith
-      go (no h) = omega (arith, sources-many k (omega arith))
+  all-grows : (j k : ℕ) → j ≤ k → length (allOf f r (asserts f o at j)) ≤ length (allOf f r (asserts f o at k))
+  all-grows j k h =
+      let e : k ≡ j + (k - j) = omega arith in
+      rw (e, split j (k - j)) (all-parts f r (asserts f o at j) (asserts f o (at + entrySize f * j) (k - j)) .front)
 
-  pub sources-none : numberAt 4 o (at + 4) ≡ 0 → sourcesIn o at 1 ≡ 0
-  unfolding sourcesIn
-  sources-none e = rw (eq-eqb _ _ e)
+  all-step : (k : ℕ) → length (allOf f r (asserts f o at (suc k))) ≤ length (allOf f r (asserts f o at k)) + length (allOf f r (asserts f o (at + entrySize f * k) 1))
+  all-step k =
+      let e : suc k ≡ k + 1 = omega arith in
+      rw (e, split k 1) (all-parts f r (asserts f o at k) (asserts f o (at + entrySize f * k) 1) .joined)
 
-  pub sources-one : (numberAt 4 o (at + 4) ≡ 0 → ⊥) → sourcesIn o at 1 ≡ 1
-  unfolding sourcesIn
-  sources-one e = rw (ne-eqb _ _ e)
-
-  last-entry : (k : ℕ) → asserts ipv4 o at (suc k) ≡ asserts ipv4 o at k ++ asserts ipv4 o (at + 16 * k) 1
-  last-entry k =
-      let one : k + 1 ≡ suc k = omega arith in
-      sym (take-append-drop k (asserts ipv4 o at (suc k)))
-      ∙ rw (take-entries (assertEntries ipv4) o k (suc k) at (omega arith), ← one, drop-at (assertEntries ipv4) o k 1 at)
-
-  rp-size : (k : ℕ) → 0 < k → rBit (numberAt 4 o (at + 8)) ≡ true → length (oneOf Aggregated (asserts ipv4 o at k)) ≡ 12 + groupsCost 4 (asserts ipv4 o at k)
-  unfolding oneOf recordCost entriesAt assertAt
-  rp-size zero h r = absurd (omega arith)
-  rp-size (suc m) h r =
-      length-aggregated ipv4 (aggregated 4 (run (assertAt ipv4 o at) (asserts ipv4 o (at + 16) m))) ∙ rp-cost 4 (assertAt ipv4 o at) (asserts ipv4 o (at + 16) m) r
-
-  rp-step : (k : ℕ) → 0 < k → rBit (numberAt 4 o (at + 8)) ≡ true → length (oneOf Aggregated (asserts ipv4 o at (suc k))) ≤ length (oneOf Aggregated (asserts ipv4 o at k)) + 18
-  unfolding entriesAt
-  rp-step k h r =
-      let more : groupsCost 4 (asserts ipv4 o at (suc k)) ≤ groupsCost 4 (asserts ipv4 o at k) + groupsCost 4 (asserts ipv4 o (at + 16 * k) 1) =
-      rw (last-entry k) (groups-parts 4 (asserts ipv4 o at k) (asserts ipv4 o (at + 16 * k) 1) .joined) in
-      omega (arith, rp-size k h r, rp-size (suc k) (omega arith) r, groups-one (assertAt ipv4 o (at + 16 * k)))
-
-  -- a group record takes 12 octets, so an RP aggregated one 24; a source aggregated one takes 26
-  groups-least : (k : ℕ) → 0 < k → 12 ≤ length (allOf Group (asserts ipv4 o at k))
-  groups-least k h =
-      let first = runLength ipv4 Group o at k in
-      omega (
-        arith,
-        ap length (all-first Group o at k h) ∙ length-append (oneOf Group (asserts ipv4 o at first)) (allOf Group (asserts ipv4 o (at + 16 * first) (k - first))),
-        group-long o at first (run-range ipv4 Group o at k h .0),
-      )
-
-  pub one-least : (r : Run) (k : ℕ) → 0 < k → least r ≤ length (oneOf r (asserts ipv4 o at k))
-  unfolding least
-  one-least Group k h = omega (arith, group-long o at k h)
-  one-least Aggregated k h = go (rBit (numberAt 4 o (at + 8))) refl
-    where
-      go : (b : Bool) → rBit (numberAt 4 o (at + 8)) ≡ b → 24 ≤ length (oneOf Aggregated (asserts ipv4 o at k))
-      go true r = omega (arith, rp-long o at k h r, groups-least k h)
-      go false r = omega (arith, source-long o at k h r)
-
-  -- one more entry takes no more than that
-  pub one-step : (r : Run) (k : ℕ) → 0 < k → length (oneOf r (asserts ipv4 o at (suc k))) ≤ length (oneOf r (asserts ipv4 o at k)) + least r
-  unfolding least
-  one-step Group k h = omega (arith, group-long o at k h, group-long o at (suc k) (omega arith), sources-range o at (suc k), sources-few k)
-  one-step Aggregated k h = go (rBit (numberAt 4 o (at + 8))) refl
-    where
-      go : (b : Bool) → rBit (numberAt 4 o (at + 8)) ≡ b → length (oneOf Aggregated (asserts ipv4 o at (suc k))) ≤ length (oneOf Aggregated (asserts ipv4 o at k)) + 24
-      go true r = omega (arith, rp-step k h r)
-      go false r = omega (arith, source-long o at k h r, source-long o at (suc k) (omega arith) r)
-
-  pub rp-least : (k : ℕ) → 0 < k → 24 ≤ length (oneOf Aggregated (asserts ipv4 o at k))
-  unfolding least
-  rp-least k h = one-least Aggregated k h
-
-  pub one-none : (r : Run) → oneOf r (asserts ipv4 o at 0) ≡ []
-  unfolding oneOf entriesAt
-  one-none Aggregated = refl
-  one-none Group = refl
+  one-none : oneOf f r (asserts f o at 0) ≡ []
+  unfolding oneOf recordsIn entriesAt each
+  one-none = refl
 
   -- ---- the most entries of one run
 
   -- no entry fits
-  pub none-fit : (r : Run) (n room : ℕ) → room < length (oneOf r (asserts ipv4 o at 1)) → MostWithin (oneOf r) o at n room 0
-  none-fit r n room h = record { inside = omega arith; fits = rw (one-none r) (omega arith); full = λ p. h }
+  pub none-fit : (n room : ℕ) → 0 < n → room < length (oneOf f r (asserts f o at 1)) → MostWithin f (allOf f r) o at (runLength f r o at n) room 0
+  none-fit n room some h =
+      let range = run-range f r o at n some in
+      record {
+        inside = omega arith;
+        fits = rw (all-none f r o at) (omega arith);
+        full = λ p. rw (one-all f r o at n 1 (omega arith) (omega arith) (omega arith)) h;
+      }
 
   -- where none fits, nothing is written
-  pub none-written : (r : Run) {d d′ : List ℕ} (out : ℕ) → d′ ≡ d → (out ≡ out + length (oneOf r (asserts ipv4 o at 0))) × (d′ ≡ put d out (oneOf r (asserts ipv4 o at 0)))
-  none-written r {d = d} out e = (rw (one-none r) (omega arith), rw (one-none r) (e ∙ sym (put-nil d out)))
+  pub none-written : {d d′ : List ℕ} (out : ℕ) → d′ ≡ d → (out ≡ out + length (allOf f r (asserts f o at 0))) × (d′ ≡ put d out (allOf f r (asserts f o at 0)))
+  none-written {d = d} out e = (rw (all-none f r o at) (omega arith), rw (all-none f r o at) (e ∙ sym (put-nil d out)))
 
   -- of m entries that fit, the first run has k
-  pub record FirstRun (r : Run) (n room k : ℕ) : Type 0 where
+  pub record FirstRun (n room k : ℕ) : Type 0 where
     pub some : 0 < k
-    pub there : at + 16 * k ≤ length o
-    pub most : MostWithin (oneOf r) o at (runLength ipv4 r o at n) room k
+    pub there : at + entrySize f * k ≤ length o
+    pub most : MostWithin f (allOf f r) o at (runLength f r o at n) room k
+    pub alike : recordsOf f r (asserts f o at k) ≡ recordsIn f r (asserts f o at k)
 
-  pub first-run : (r : Run) (n room m k : ℕ) → at + 16 * n ≤ length o → MostWithin (oneOf r) o at n room m → 0 < m
-      → ((j : ℕ) → 0 < j → j ≤ m → length (oneOf r (asserts ipv4 o at j)) ≤ length (oneOf r (asserts ipv4 o at m))) → k ≡ runLength ipv4 r o at m → FirstRun r n room k
-  first-run r n room m k there most some grows found =
-      let few = most .inside in
-      let all = run-range ipv4 r o at m some in
-      let range = run-range ipv4 r o at n (omega arith) in
-      let cut : k ≡ min m (runLength ipv4 r o at n) = found ∙ run-fewer r o at m n some few in
+  pub first-run : (n room m k : ℕ) → at + entrySize f * n ≤ length o → MostWithin f (oneOf f r) o at n room m → 0 < m
+      → ((j : ℕ) → 0 < j → j ≤ m → length (oneOf f r (asserts f o at j)) ≤ length (oneOf f r (asserts f o at m))) → k ≡ runLength f r o at m → FirstRun n room k
+  first-run n room m k there most some grows found =
+      let fewer = most .inside in
+      let all = run-range f r o at m some in
+      let range = run-range f r o at n (omega arith) in
+      let cut : k ≡ min m (runLength f r o at n) = found ∙ run-fewer f r o at m n some fewer in
+      let same = one-all f r o at n k (omega arith) (omega arith) (omega arith) in
+      let far : entrySize f * k ≤ entrySize f * n = mul-le-mul-left (entrySize f) (omega arith) in
       record {
         some = omega arith;
         there = omega arith;
         most = record {
           inside = omega arith;
-          fits = le-trans (grows k (omega arith) (omega arith)) (most .fits);
-          full = λ p. let same : k ≡ m = omega arith in rw same (most .full (omega arith));
+          fits = rw same (le-trans (grows k (omega arith) (omega arith)) (most .fits));
+          full = λ p.
+              let alike : k ≡ m = omega arith in
+              rw (one-all f r o at n (suc k) (omega arith) p (omega arith), alike) (most .full (omega arith));
         };
+        alike = one-run f r o at n k (omega arith) (omega arith) (omega arith);
       }
 
+  pub first-octets : {n room k : ℕ} → FirstRun n room k → allOf f r (asserts f o at k) ≡ oneOf f r (asserts f o at k)
+  unfolding allOf oneOf
+  first-octets t = ap (each (octetsOf f r)) (t .alike)
+
+module _ (f : Family) (o : List ℕ) (at : ℕ) where
   -- a source aggregated record
-  module _ (r : rBit (numberAt 4 o (at + 8)) ≡ false) where
-    pub source-most : (n room : ℕ) → MostWithin (oneOf Aggregated) o at n room (min n ((room - 18) / 8))
-    source-most n room = record {
-      inside = omega arith;
-      fits = go (min n ((room - 18) / 8)) (omega arith);
-      full = λ p. omega (arith, source-long o at (suc (min n ((room - 18) / 8))) (omega arith) r);
-    }
+  module _ (r : rBit (numberAt 4 o (at + 2 * f .width)) ≡ false) where
+    pub source-grows : (k m : ℕ) → 0 < k → k ≤ m → length (oneOf f Aggregated (asserts f o at k)) ≤ length (oneOf f Aggregated (asserts f o at m))
+    source-grows k m some h = omega (arith, source-long f o at k some r, source-long f o at m (omega arith) r, mul-le-mul-left (f .width + 4) h)
+
+    pub source-most : (n room : ℕ) → MostWithin f (oneOf f Aggregated) o at n room (min n ((room - (14 + f .width)) / (f .width + 4)))
+    source-most n room = go (min n ((room - (14 + f .width)) / (f .width + 4))) refl
       where
-        go : (k : ℕ) → k ≤ (room - 18) / 8 → length (oneOf Aggregated (asserts ipv4 o at k)) ≤ room
-        go zero h = rw (one-none Aggregated) (omega arith)
-        go (suc k) h = omega (arith, source-long o at (suc k) (omega arith) r)
+        fits : (k : ℕ) → k ≤ (room - (14 + f .width)) / (f .width + 4) → length (oneOf f Aggregated (asserts f o at k)) ≤ room
+        fits zero h = rw (one-none f Aggregated o at) (omega arith)
+        fits (suc k) h =
+            omega (arith, source-long f o at (suc k) (omega arith) r, mul-suc (f .width + 4) k, mul-le-mul-left (f .width + 4) h, mul-div-le (room - (14 + f .width)) (f .width + 4))
 
-    pub source-grows : (k m : ℕ) → 0 < k → k ≤ m → length (oneOf Aggregated (asserts ipv4 o at k)) ≤ length (oneOf Aggregated (asserts ipv4 o at m))
-    source-grows k m some h = omega (arith, source-long o at k some r, source-long o at m (omega arith) r)
+        go : (k : ℕ) → k ≡ min n ((room - (14 + f .width)) / (f .width + 4)) → MostWithin f (oneOf f Aggregated) o at n room k
+        go k e = record {
+          inside = omega arith;
+          fits = fits k (omega arith);
+          full = λ p.
+              let same : (room - (14 + f .width)) / (f .width + 4) ≡ k = omega arith in
+              let past : room - (14 + f .width) < (f .width + 4) * (k + 1) = rw same at (lt-mul-div-succ (room - (14 + f .width)) {b = f .width + 4} (omega arith)) in
+              omega (arith, source-long f o at (suc k) (omega arith) r);
+        }
 
-  -- a group record: without sources, and with them
-  pub group-one : (n room : ℕ) → 0 < n → 12 ≤ room → room < 18 → sourcesIn o at 1 ≡ 0 → MostWithin (oneOf Group) o at n room 1
-  group-one n room some low high z = record {
-    inside = omega arith;
-    fits = omega (arith, group-long o at 1 (omega arith));
-    full = λ p. omega (arith, group-long o at 2 (omega arith), sources-many 2 (omega arith));
-  }
+-- ---- the octets of a run of one group
 
-  pub group-most : (n room : ℕ) → 0 < n → 18 ≤ room → MostWithin (oneOf Group) o at n room (min n ((room - 12) / 6))
-  group-most n room some low =
-      let k : ℕ = min n ((room - 12) / 6) in
-      record {
-        inside = omega arith;
-        fits = omega (arith, group-long o at k (omega arith), sources-range o at k);
-        full = λ p. omega (arith, group-long o at (suc k) (omega arith), sources-many (suc k) (omega arith));
-      }
-
-  pub group-grows : (k m : ℕ) → 0 < k → k ≤ m → length (oneOf Group (asserts ipv4 o at k)) ≤ length (oneOf Group (asserts ipv4 o at m))
-  group-grows k m some h = go (decLe m k)
-    where
-      go : Dec (m ≤ k) → length (oneOf Group (asserts ipv4 o at k)) ≤ length (oneOf Group (asserts ipv4 o at m))
-      go (yes p) = let same : k ≡ m = omega arith in rw same (omega arith)
-      go (no p) = omega (arith, group-long o at k some, group-long o at m (omega arith), sources-range o at k, sources-many m (omega arith))
-
-  -- an RP aggregated record: 12 octets and its group records
-  module _ (r : rBit (numberAt 4 o (at + 8)) ≡ true) where
-    pub rp-most : (n out limit k : ℕ) → out + 12 ≤ limit → MostWithin (allOf Group) o at n (limit - (out + 12)) k → MostWithin (oneOf Aggregated) o at n (limit - out) k
-    rp-most n out limit k h most = record {
-      inside = most .inside;
-      fits = go k (most .fits);
-      full = λ p. omega (arith, most .full p, rp-long o at (suc k) (omega arith) r);
-    }
-      where
-        go : (k : ℕ) → length (allOf Group (asserts ipv4 o at k)) ≤ limit - (out + 12) → length (oneOf Aggregated (asserts ipv4 o at k)) ≤ limit - out
-        go zero f = rw (one-none Aggregated) (omega arith)
-        go (suc k) f = omega (arith, rp-long o at (suc k) (omega arith) r)
-
--- each entry takes six octets or more, so no more than a sixth of the room need be looked at
-groups-many : (o : List ℕ) (bound at k : ℕ) → k ≤ bound → 6 * k ≤ length (allOf Group (asserts ipv4 o at k))
-groups-many o zero at k h = omega arith
-groups-many o (suc bound) at k h = go (decLe k 0) (groups-many o bound)
+pub div-some : (b n : ℕ) → 0 < b → b ≤ n → 0 < n / b
+div-some b n some h = go (n / b) refl
   where
-    go : Dec (k ≤ 0) → ((at′ k′ : ℕ) → k′ ≤ bound → 6 * k′ ≤ length (allOf Group (asserts ipv4 o at′ k′))) → 6 * k ≤ length (allOf Group (asserts ipv4 o at k))
-    go (yes z) ih = omega arith
-    go (no z) ih =
-        let first = runLength ipv4 Group o at k in
-        let range = run-range ipv4 Group o at k (omega arith) in
+    go : (q : ℕ) → n / b ≡ q → 0 < q
+    go zero e = let past : n < b * (0 + 1) = rw e at (lt-mul-div-succ n {b = b} some) in absurd (omega arith)
+    go (suc q) e = omega arith
+
+scaled : (c a b : ℕ) → a ≤ b → c * a ≤ c * b
+scaled c a b h = mul-le-mul-left c h
+
+run-grows : (w k m : ℕ) (s t : Bool) → k ≤ m → (t ≡ true → s ≡ true) → groupRunSize w s k ≤ groupRunSize w t m
+unfolding groupRunSize
+run-grows w k m true true h e = omega (arith, mul-le-mul-left w h)
+run-grows w k m false true h e = let never : _≡_ {A = ℕ} 0 1 = cc (e refl) in absurd (omega arith)
+run-grows w k m true false h e = omega (arith, mul-le-mul-left w h)
+run-grows w k m false false h e = omega (arith, mul-le-mul-left w h)
+
+-- it fits as one group record, and where its sources are all 0 also apart
+run-whole : (w k : ℕ) (s : Bool) → groupRunSize w s k ≤ w + 8 + (w + 2) * k
+unfolding groupRunSize
+run-whole w k true = omega arith
+run-whole w k false = omega arith
+
+run-apart : (w k : ℕ) (s : Bool) → s ≡ true → groupRunSize w s k ≤ (w + 8) * k
+unfolding groupRunSize
+run-apart w k s e = rw e (omega arith)
+
+-- it does not fit where it fits neither way
+run-full : (w k room : ℕ) (s : Bool) → room < w + 8 + (w + 2) * k → (s ≡ true → room < (w + 8) * k) → room < groupRunSize w s k
+unfolding groupRunSize
+run-full w k room true h apart = omega (arith, apart refl)
+run-full w k room false h apart = omega arith
+
+-- each entry takes w + 2 octets or more, and some entries w + 8
+run-many : (w k : ℕ) (s : Bool) → (w + 2) * k ≤ groupRunSize w s k
+unfolding groupRunSize
+run-many w k true = omega arith
+run-many w k false = omega arith
+
+run-least : (w : ℕ) (s : Bool) → w + 8 ≤ groupRunSize w s 1
+unfolding groupRunSize
+run-least w true = omega arith
+run-least w false = omega arith
+
+few-many : (ipv6 : Bool) (k : ℕ) → few ipv6 < k → familyOf ipv6 .width + 8 + (familyOf ipv6 .width + 2) * k ≤ (familyOf ipv6 .width + 8) * k
+few-many false k h = omega arith
+few-many true k h = omega arith
+
+module _ (ipv6 : Bool) (o : List ℕ) (at : ℕ) where
+  abbrev f : Family
+  f = familyOf ipv6
+
+  abbrev w : ℕ
+  w = f .width
+
+  pub group-grows : (k m : ℕ) → 0 < k → k ≤ m → length (oneOf f Group (asserts f o at k)) ≤ length (oneOf f Group (asserts f o at m))
+  group-grows k m some h =
+      rw (group-long f o at k some, group-long f o at m (omega arith))
+      (run-grows w k m _ _ h (λ e.
+      let all : m ≤ leading zeroSource (asserts f o at m) = leb-true m _ (sym (all-zero f o m m at (omega arith)) ∙ e) in
+      all-zero f o k m at h ∙ le-leb k _ (omega arith)))
+
+  module _ (n room : ℕ) where
+    -- as one group record there is room for so many
+    abbrev whole : ℕ
+    whole = (room - (w + 8)) / (w + 2)
+
+    -- and apart for so many of those with source 0 at the front
+    abbrev pub zeros : ℕ
+    zeros = leading zeroSource (asserts f o at (min (min n (few ipv6)) (room / (w + 8))))
+
+    whole-fit : (k : ℕ) → k ≤ whole → length (oneOf f Group (asserts f o at k)) ≤ room
+    whole-fit zero h = rw (one-none f Group o at) (omega arith)
+    whole-fit (suc k) h =
         omega (
           arith,
-          ap length (all-first Group o at k (omega arith)) ∙ length-append (oneOf Group (asserts ipv4 o at first)) (allOf Group (asserts ipv4 o (at + 16 * first) (k - first))),
-          group-long o at first (range .0),
-          sources-few o at first,
-          ih (at + 16 * first) (k - first) (omega (arith, range .0)),
+          group-long f o at (suc k) (omega arith),
+          run-whole w (suc k) (allZero (sources (asserts f o at (suc k)))),
+          mul-suc (w + 2) k,
+          mul-le-mul-left (w + 2) h,
+          mul-div-le (room - (w + 8)) (w + 2),
         )
 
-pub rp-fewer : (o : List ℕ) (at : ℕ) → rBit (numberAt 4 o (at + 8)) ≡ true → (n room k : ℕ) → 0 < n → 6 ≤ room
-    → MostWithin (oneOf Aggregated) o at (runLength ipv4 Aggregated o at (min n (room / 6))) room k
-    → MostWithin (oneOf Aggregated) o at (runLength ipv4 Aggregated o at n) room k
-rp-fewer o at r n room k some wide most =
-    let m : ℕ = min n (room / 6) in
-    let fewer = run-fewer Aggregated o at m n (omega arith) (omega arith) in
-    let range = run-range ipv4 Aggregated o at n some in
-    record {
-      inside = omega (arith, most .inside, fewer);
-      fits = most .fits;
-      full = λ p. go p (decLe (suc k) (runLength ipv4 Aggregated o at m)) fewer range;
+    whole-past : (k : ℕ) → whole ≤ k → room < w + 8 + (w + 2) * suc k
+    whole-past k h =
+        let past : room - (w + 8) < (w + 2) * (whole + 1) = lt-mul-div-succ (room - (w + 8)) {b = w + 2} (omega arith) in
+        omega (arith, scaled (w + 2) (whole + 1) (suc k) (omega arith))
+
+    most-of : (k : ℕ) → k ≤ n → length (oneOf f Group (asserts f o at k)) ≤ room → (k < n → whole ≤ k)
+        → (k < n → suc k ≤ few ipv6 → allZero (sources (asserts f o at (suc k))) ≡ true → room < (w + 8) * suc k) → MostWithin f (oneOf f Group) o at n room k
+    most-of k inside fits one apart = record {
+      inside = inside;
+      fits = fits;
+      full = λ p.
+          rw (group-long f o at (suc k) (omega arith))
+          (run-full w (suc k) room _ (whole-past k (one p)) (λ e. go (decLe (suc k) (few ipv6)) p e));
     }
+      where
+        go : Dec (suc k ≤ few ipv6) → k < n → allZero (sources (asserts f o at (suc k))) ≡ true → room < (w + 8) * suc k
+        go (yes h) p e = apart p h e
+        go (no h) p e = omega (arith, few-many ipv6 (suc k) (omega arith), whole-past k (one p))
+
+    -- one group record for so many that they are not fewer octets apart
+    pub whole-most : (k : ℕ) → k ≡ min n whole → few ipv6 ≤ k → MostWithin f (oneOf f Group) o at n room k
+    whole-most k e h = most-of k (omega arith) (whole-fit k (omega arith)) (λ p. omega arith) (λ p q z. absurd (omega arith))
+
+    heads-past : (k : ℕ) → zeros ≤ k → k < n → suc k ≤ few ipv6 → allZero (sources (asserts f o at (suc k))) ≡ true → room < (w + 8) * suc k
+    heads-past k h p q e = go (decLe (suc k) (room / (w + 8)))
+      where
+        go : Dec (suc k ≤ room / (w + 8)) → room < (w + 8) * suc k
+        go (yes l) =
+            let all : suc k ≤ zeros = leb-true (suc k) zeros (sym (all-zero f o (suc k) (min (min n (few ipv6)) (room / (w + 8))) at (omega arith)) ∙ e) in
+            absurd (omega arith)
+        go (no l) =
+            let past : room < (w + 8) * (room / (w + 8) + 1) = lt-mul-div-succ room {b = w + 8} (omega arith) in
+            omega (arith, scaled (w + 8) (room / (w + 8) + 1) (suc k) (omega arith))
+
+    -- as one group record, or apart, whichever has room for more
+    pub joined-most : (k : ℕ) → k ≡ min n whole → zeros ≤ k → MostWithin f (oneOf f Group) o at n room k
+    joined-most k e h = most-of k (omega arith) (whole-fit k (omega arith)) (λ p. omega arith) (λ p q z. heads-past k h p q z)
+
+    pub zeros-most : (k : ℕ) → k ≡ zeros → min n whole < k → MostWithin f (oneOf f Group) o at n room k
+    zeros-most k e h =
+        let m : ℕ = min (min n (few ipv6)) (room / (w + 8)) in
+        let inside : k ≤ m = omega (arith, e, leading-le zeroSource (asserts f o at m), length-entriesAt (assertEntries f) o at m) in
+        let all : allZero (sources (asserts f o at k)) ≡ true = all-zero f o k m at inside ∙ le-leb k _ (omega arith) in
+        most-of k (omega arith)
+        (omega (arith, group-long f o at k (omega arith), run-apart w k _ all, scaled (w + 8) (k) (room / (w + 8)) (omega arith), mul-div-le room (w + 8)))
+        (λ p. omega arith) (λ p q z. heads-past k (omega arith) p q z)
+
+-- every group record has octets
+records-few : (f : Family) (rs : List GroupRecord) → length rs ≤ groupRecordsSize (f .width) rs
+unfolding groupRecordsSize
+records-few f [] = omega arith
+records-few f (ofGroup g ss ∷ rs) = omega (arith, records-few f rs)
+
+pub number-few : (f : Family) (es : List AssertRecord) → numberOf f Group es ≤ length (allOf f Group es)
+unfolding numberOf allOf octetsOf
+number-few f es = omega (arith, length-groupRecords f (recordsOf f Group es), records-few f (recordsOf f Group es))
+
+-- ---- RP aggregated records
+
+-- the octets of entries are those of the first run, and of what is left
+all-first : (f : Family) (r : Run) (o : List ℕ) (at k : ℕ) → 0 < k
+    → length (allOf f r (asserts f o at k)) ≡ length (oneOf f r (asserts f o at (runLength f r o at k))) + length (allOf f r (asserts f o (at + entrySize f * runLength f r o at k) (k - runLength f r o at k)))
+unfolding allOf oneOf
+all-first f r o at k h =
+    let first = recordsIn f r (asserts f o at (runLength f r o at k)) in
+    let rest = recordsOf f r (asserts f o (at + entrySize f * runLength f r o at k) (k - runLength f r o at k)) in
+    ap (λ x. length (each (octetsOf f r) x)) (records-first f r o at k h) ∙ ap length (each-append (octetsOf f r) first rest) ∙ length-append (each (octetsOf f r) first) (each (octetsOf f r) rest)
+
+split-at : (k j : ℕ) → j ≤ k → k ≡ j + (k - j)
+split-at k j h = omega arith
+
+-- each entry takes w + 2 octets or more
+groups-many : (f : Family) (o : List ℕ) (bound at k : ℕ) → k ≤ bound → (f .width + 2) * k ≤ length (allOf f Group (asserts f o at k))
+groups-many f o zero at k h = let z : k ≡ 0 = omega arith in rw z (omega arith)
+groups-many f o (suc bound) at k h = go (decLe k 0) (groups-many f o bound)
   where
-    go : k < runLength ipv4 Aggregated o at n → Dec (suc k ≤ runLength ipv4 Aggregated o at (min n (room / 6)))
-        → runLength ipv4 Aggregated o at (min n (room / 6)) ≡ min (min n (room / 6)) (runLength ipv4 Aggregated o at n)
-        → (0 < runLength ipv4 Aggregated o at n) × (runLength ipv4 Aggregated o at n ≤ n) → room < length (oneOf Aggregated (asserts ipv4 o at (suc k)))
-    go p (yes h) fewer range = most .full h
-    go p (no h) fewer range =
-        omega (arith, most .inside, range .1, rp-long o at (suc k) (omega arith) r, groups-many o (suc k) at (suc k) (omega arith))
+    go : Dec (k ≤ 0) → ((at′ k′ : ℕ) → k′ ≤ bound → (f .width + 2) * k′ ≤ length (allOf f Group (asserts f o at′ k′))) → (f .width + 2) * k ≤ length (allOf f Group (asserts f o at k))
+    go (yes z) ih = let z′ : k ≡ 0 = omega arith in rw z′ (omega arith)
+    go (no z) ih =
+        let first = runLength f Group o at k in
+        let range = run-range f Group o at k (omega arith) in
+        let sum : (f .width + 2) * k ≡ (f .width + 2) * first + (f .width + 2) * (k - first) = ap (λ x. (f .width + 2) * x) (split-at k first (range .1)) ∙ mul-add (f .width + 2) first (k - first) in
+        omega (
+          arith,
+          sum,
+          all-first f Group o at k (omega arith),
+          group-long f o at first (range .0),
+          run-many (f .width) first (allZero (sources (asserts f o at first))),
+          ih (at + entrySize f * first) (k - first) (omega (arith, range .0)),
+        )
+
+module _ (f : Family) (o : List ℕ) (at : ℕ) (r : rBit (numberAt 4 o (at + 2 * f .width)) ≡ true) where
+  pub rp-least : 20 + f .width ≤ length (oneOf f Aggregated (asserts f o at 1))
+  rp-least =
+      let range = run-range f Group o at 1 (omega arith) in
+      omega (
+        arith,
+        rp-long f o at 1 (omega arith) r,
+        ap length (one-all f Group o at 1 1 (omega arith) (omega arith) (omega arith)),
+        group-long f o at 1 (omega arith),
+        run-least (f .width) (allZero (sources (asserts f o at 1))),
+      )
+
+  -- by its group records, and by the entries that could fit
+  pub rp-most : (n out limit k : ℕ) → 0 < n → out + 12 ≤ limit → 0 < (limit - out) / (f .width + 2)
+      → MostWithin f (allOf f Group) o at (runLength f Aggregated o at (min n ((limit - out) / (f .width + 2)))) (limit - (out + 12)) k
+      → MostWithin f (allOf f Aggregated) o at (runLength f Aggregated o at n) (limit - out) k
+  rp-most n out limit k some h wide most =
+      let m : ℕ = min n ((limit - out) / (f .width + 2)) in
+      let fewer = run-fewer f Aggregated o at m n (omega arith) (omega arith) in
+      let range = run-range f Aggregated o at n some in
+      record {
+        inside = omega (arith, most .inside);
+        fits = fit k (omega (arith, most .inside)) (most .fits);
+        full = λ p. go p (decLe (suc k) (runLength f Aggregated o at m)) fewer (range .1);
+      }
+    where
+      long : (j : ℕ) → 0 < j → j ≤ runLength f Aggregated o at n → length (allOf f Aggregated (asserts f o at j)) ≡ 12 + length (allOf f Group (asserts f o at j))
+      long j any inside = ap length (one-all f Aggregated o at n j any inside (omega (arith, run-range f Aggregated o at n some .1))) ∙ rp-long f o at j any r
+
+      fit : (j : ℕ) → j ≤ runLength f Aggregated o at n → length (allOf f Group (asserts f o at j)) ≤ limit - (out + 12) → length (allOf f Aggregated (asserts f o at j)) ≤ limit - out
+      fit zero inside q = rw (all-none f Aggregated o at) (omega arith)
+      fit (suc j) inside q = omega (arith, long (suc j) (omega arith) inside)
+
+      go : k < runLength f Aggregated o at n → Dec (suc k ≤ runLength f Aggregated o at (min n ((limit - out) / (f .width + 2))))
+          → runLength f Aggregated o at (min n ((limit - out) / (f .width + 2))) ≡ min (min n ((limit - out) / (f .width + 2))) (runLength f Aggregated o at n)
+          → runLength f Aggregated o at n ≤ n → limit - out < length (allOf f Aggregated (asserts f o at (suc k)))
+      go p (yes q) fewer inside = omega (arith, most .full q, long (suc k) (omega arith) p)
+      go p (no q) fewer inside =
+          let past : limit - out < (f .width + 2) * ((limit - out) / (f .width + 2) + 1) = lt-mul-div-succ (limit - out) {b = f .width + 2} (omega arith) in
+          let same : (limit - out) / (f .width + 2) ≡ k = omega (arith, most .inside) in
+          let past′ : limit - out < (f .width + 2) * (k + 1) = rw same at past in
+          omega (arith, long (suc k) (omega arith) p, groups-many f o (suc k) at (suc k) (omega arith))
 
 -- ---- records written run by run
 
 -- no run goes on from the first i entries into the next ones
-pub record Apart (r : Run) (o : List ℕ) (from i at left : ℕ) : Type 0 where
-  pub octets : (j : ℕ) → j ≤ left → allOf r (asserts ipv4 o from (i + j)) ≡ allOf r (asserts ipv4 o from i) ++ allOf r (asserts ipv4 o at j)
-  pub number : (j : ℕ) → j ≤ left → numberOf r (asserts ipv4 o from (i + j)) ≡ numberOf r (asserts ipv4 o from i) + numberOf r (asserts ipv4 o at j)
+pub record Apart (f : Family) (r : Run) (o : List ℕ) (from i at left : ℕ) : Type 0 where
+  pub after : (j : ℕ) → j ≤ left → recordsOf f r (asserts f o from (i + j)) ≡ recordsOf f r (asserts f o from i) ++ recordsOf f r (asserts f o at j)
 
--- a run has just ended, or the limit has cut it and no record fits into what is left
-pub data Further (r : Run) (o : List ℕ) (from n start limit i at out : ℕ) : Type 0 where
-  ended : Apart r o from i at (n - i) → Further r o from n start limit i at out
-  cut : limit < out + least r → limit < start + length (allOf r (asserts ipv4 o from (suc i))) → Further r o from n start limit i at out
+-- a run has just ended, or the limit has cut it and the next entry does not fit even alone
+pub data Further (f : Family) (r : Run) (o : List ℕ) (from n start limit i at out : ℕ) : Type 0 where
+  ended : Apart f r o from i at (n - i) → Further f r o from n start limit i at out
+  cut : limit < out + length (allOf f r (asserts f o at 1)) → limit < start + length (allOf f r (asserts f o from (suc i))) → Further f r o from n start limit i at out
 
 -- the first i of n entries are written
-pub record RunsWithin (r : Run) (o : List ℕ) (from n : ℕ) (d₀ : List ℕ) (start limit : ℕ) (d : List ℕ) (i at out : ℕ) : Type 0 where
+pub record RunsWithin (f : Family) (r : Run) (o : List ℕ) (from n : ℕ) (d₀ : List ℕ) (start limit : ℕ) (d : List ℕ) (i at out : ℕ) : Type 0 where
   pub inside : i ≤ n
-  pub place : at ≡ from + 16 * i
-  pub there : from + 16 * n ≤ length o
+  pub there : at + entrySize f * (n - i) ≤ length o
   pub room : limit ≤ length d
   pub same : length d ≡ length d₀
   pub fits : out ≤ limit
-  pub next : out ≡ start + length (allOf r (asserts ipv4 o from i))
-  pub buffer : d ≡ put d₀ start (allOf r (asserts ipv4 o from i))
-  pub further : Further r o from n start limit i at out
+  pub next : out ≡ start + length (allOf f r (asserts f o from i))
+  pub buffer : d ≡ put d₀ start (allOf f r (asserts f o from i))
+  pub further : Further f r o from n start limit i at out
 
 -- and no more of them fit
-pub record Took (r : Run) (o : List ℕ) (from n : ℕ) (d₀ : List ℕ) (start limit : ℕ) (d : List ℕ) (i out : ℕ) : Type 0 where
-  pub most : MostWithin (allOf r) o from n (limit - start) i
-  pub next : out ≡ start + length (allOf r (asserts ipv4 o from i))
-  pub buffer : d ≡ put d₀ start (allOf r (asserts ipv4 o from i))
+pub record Took (f : Family) (r : Run) (o : List ℕ) (from n : ℕ) (d₀ : List ℕ) (start limit : ℕ) (d : List ℕ) (i out : ℕ) : Type 0 where
+  pub most : MostWithin f (allOf f r) o from n (limit - start) i
+  pub next : out ≡ start + length (allOf f r (asserts f o from i))
+  pub buffer : d ≡ put d₀ start (allOf f r (asserts f o from i))
 
-pub within-start : (r : Run) (o : List ℕ) (from n : ℕ) (d₀ : List ℕ) (start limit : ℕ) → from + 16 * n ≤ length o → start ≤ limit → limit ≤ length d₀
-    → RunsWithin r o from n d₀ start limit d₀ 0 from start
-unfolding entriesAt numberOf runs
-within-start r o from n d₀ start limit there fits room = record {
-  inside = omega arith;
-  place = omega arith;
-  there = there;
-  room = room;
-  same = refl;
-  fits = fits;
-  next = rw (all-none r o from) (omega arith);
-  buffer = rw (all-none r o from) (sym (put-nil d₀ start));
-  further = ended (record { octets = λ j h. rw (zero-add, all-none r o from); number = λ j h. rw (zero-add, zero-add) });
-}
+pub within-start : (f : Family) (r : Run) (o : List ℕ) (from n : ℕ) (d₀ : List ℕ) (start limit : ℕ) → from + entrySize f * n ≤ length o → start ≤ limit → limit ≤ length d₀
+    → RunsWithin f r o from n d₀ start limit d₀ 0 from start
+within-start f r o from n d₀ start limit there fits room =
+    let all : n - 0 ≡ n = omega arith in
+    record {
+      inside = omega arith;
+      there = rw all there;
+      room = room;
+      same = refl;
+      fits = fits;
+      next = rw (all-none f r o from) (omega arith);
+      buffer = rw (all-none f r o from) (sym (put-nil d₀ start));
+      further = ended (record { after = λ j h. rw (zero-add j, records-none f r o from) });
+    }
 
-pub number-none : (r : Run) (o : List ℕ) (from : ℕ) → 0 ≡ numberOf r (asserts ipv4 o from 0)
-unfolding numberOf entriesAt runs
-number-none r o from = refl
+pub number-none : (f : Family) (r : Run) (o : List ℕ) (from : ℕ) → 0 ≡ numberOf f r (asserts f o from 0)
+unfolding numberOf
+number-none f r o from = rw (records-none f r o from)
 
-module _ {r : Run} {o : List ℕ} {from n : ℕ} {d₀ : List ℕ} {start limit : ℕ} {d : List ℕ} {i at out : ℕ} (t : RunsWithin r o from n d₀ start limit d i at out) where
-  took : (i < n → limit < start + length (allOf r (asserts ipv4 o from (suc i)))) → (d′ : List ℕ) → d′ ≡ d → Took r o from n d₀ start limit d′ i out
+module _ {f : Family} {r : Run} {o : List ℕ} {from n : ℕ} {d₀ : List ℕ} {start limit : ℕ} {d : List ℕ} {i at out : ℕ} (t : RunsWithin f r o from n d₀ start limit d i at out) where
+  took : (i < n → limit < start + length (allOf f r (asserts f o from (suc i)))) → (d′ : List ℕ) → d′ ≡ d → Took f r o from n d₀ start limit d′ i out
   took full d′ e = record {
     most = record { inside = t .inside; fits = omega (arith, t .fits, t .next); full = λ p. omega (arith, full p, t .fits, t .next) };
     next = t .next;
     buffer = e ∙ t .buffer;
   }
 
-  pub within-end : n ≤ i → Took r o from n d₀ start limit d i out
+  pub within-end : n ≤ i → Took f r o from n d₀ start limit d i out
   within-end h = took (λ p. absurd (omega arith)) d refl
 
-  module _ (left : i < n) where
-    -- entries of the next run, after those that are written
-    module _ (apart : Apart r o from i at (n - i)) (k : ℕ) (some : 0 < k) (few : k ≤ runLength ipv4 r o at (n - i)) where
-      within : k ≤ n - i
-      within = omega (arith, run-range ipv4 r o at (n - i) (omega arith) .1)
+  -- the next entries, after those that are written
+  module _ (apart : Apart f r o from i at (n - i)) (k : ℕ) (few : k ≤ n - i) where
+    further-octets : allOf f r (asserts f o from (i + k)) ≡ allOf f r (asserts f o from i) ++ allOf f r (asserts f o at k)
+    unfolding allOf
+    further-octets = ap (each (octetsOf f r)) (apart .after k few) ∙ each-append (octetsOf f r) (recordsOf f r (asserts f o from i)) (recordsOf f r (asserts f o at k))
 
-      joined : allOf r (asserts ipv4 o from (i + k)) ≡ allOf r (asserts ipv4 o from i) ++ oneOf r (asserts ipv4 o at k)
-      joined = apart .octets k within ∙ ap (λ x. allOf r (asserts ipv4 o from i) ++ x) (one-run r o at (n - i) k some few within)
+    joined-long : start + length (allOf f r (asserts f o from (i + k))) ≡ out + length (allOf f r (asserts f o at k))
+    joined-long = omega (arith, ap length further-octets ∙ length-append (allOf f r (asserts f o from i)) (allOf f r (asserts f o at k)), t .next)
 
-      joined-long : start + length (allOf r (asserts ipv4 o from (i + k))) ≡ out + length (oneOf r (asserts ipv4 o at k))
-      joined-long = omega (arith, ap length joined ∙ length-append (allOf r (asserts ipv4 o from i)) (oneOf r (asserts ipv4 o at k)), t .next)
+    counted : numberOf f r (asserts f o from (i + k)) ≡ numberOf f r (asserts f o from i) + numberOf f r (asserts f o at k)
+    unfolding numberOf
+    counted = ap length (apart .after k few) ∙ length-append (recordsOf f r (asserts f o from i)) (recordsOf f r (asserts f o at k))
 
-  pub within-stop : i < n → (k : ℕ) → k ≡ 0 → MostWithin (oneOf r) o at (runLength ipv4 r o at (n - i)) (limit - out) k → (d′ : List ℕ) → d′ ≡ put d out (oneOf r (asserts ipv4 o at k))
-      → Took r o from n d₀ start limit d′ i out
-  within-stop left k e most d′ p = took (λ q. go (t .further)) d′ (rw (e, one-none o at r) at p ∙ put-nil d out)
+  pub within-stop : i < n → (k : ℕ) → k ≡ 0 → MostWithin f (allOf f r) o at (runLength f r o at (n - i)) (limit - out) k → (d′ : List ℕ) → d′ ≡ put d out (allOf f r (asserts f o at k))
+      → Took f r o from n d₀ start limit d′ i out
+  within-stop left k e most d′ p = took (λ q. go (t .further)) d′ (rw (e, all-none f r o at) at p ∙ put-nil d out)
     where
-      go : Further r o from n start limit i at out → limit < start + length (allOf r (asserts ipv4 o from (suc i)))
+      go : Further f r o from n start limit i at out → limit < start + length (allOf f r (asserts f o from (suc i)))
       go (cut low past) = past
       go (ended apart) =
-          let range = run-range ipv4 r o at (n - i) (omega arith) .0 in
-          let more : limit - out < length (oneOf r (asserts ipv4 o at 1)) = (rw e at most) .full range in
+          let range = run-range f r o at (n - i) (omega arith) .0 in
+          let more : limit - out < length (allOf f r (asserts f o at 1)) = (rw e at most) .full range in
           let one : i + 1 ≡ suc i = omega arith in
-          let long = rw one at (joined-long left apart 1 (omega arith) (omega arith)) in
+          let long = rw one at (joined-long apart 1 (omega arith)) in
           omega (arith, t .fits)
 
   -- a run that was written to its end, or cut
-  module _ (left : i < n) (k : ℕ) (some : 0 < k) (most : MostWithin (oneOf r) o at (runLength ipv4 r o at (n - i)) (limit - out) k) where
-    not-cut : {X : Type 0} → (Apart r o from i at (n - i) → X) → X
-    not-cut {X = X} f = go (t .further)
+  module _ (left : i < n) (k : ℕ) (some : 0 < k) (most : MostWithin f (allOf f r) o at (runLength f r o at (n - i)) (limit - out) k) where
+    within : k ≤ n - i
+    within = le-trans (most .inside) (run-range f r o at (n - i) (omega arith) .1)
+
+    not-cut : {X : Type 0} → (Apart f r o from i at (n - i) → X) → X
+    not-cut {X = X} x = go (t .further)
       where
-        go : Further r o from n start limit i at out → X
-        go (ended apart) = f apart
-        go (cut low past) = absurd (omega (arith, one-least o at r k some, most .fits, t .fits))
+        go : Further f r o from n start limit i at out → X
+        go (ended apart) = x apart
+        go (cut low past) = absurd (omega (arith, all-grows f r o at 1 k (omega arith), most .fits, t .fits))
 
-    module _ (apart : Apart r o from i at (n - i)) where
+    -- its entries are there
+    pub within-there : (i + k ≤ n) × (at + entrySize f * k ≤ length o)
+    within-there = (omega (arith, within), omega (arith, scaled (entrySize f) k (n - i) within, t .there))
+
+    module _ (apart : Apart f r o from i at (n - i)) where
       -- the next entries, where the run is at its end
-      next-run : runLength ipv4 r o at (n - i) ≤ k → (j : ℕ) → j ≤ n - (i + k) → runLength ipv4 r o at (k + j) ≡ k
-      next-run all j h =
-          let inside : k ≤ n - i = within left apart k some (most .inside) in
-          omega (arith, most .inside, run-fewer r o at (k + j) (n - i) (omega arith) (omega arith))
-
-      past : (j : ℕ) → k + j - k ≡ j
-      past j = omega arith
-
-      regroup : (j : ℕ) → i + k + j ≡ i + (k + j)
-      regroup j = omega arith
-
-      apart-next : runLength ipv4 r o at (n - i) ≤ k → Apart r o from (i + k) (at + 16 * k) (n - (i + k))
+      apart-next : runLength f r o at (n - i) ≤ k → Apart f r o from (i + k) (at + entrySize f * k) (n - (i + k))
       apart-next all = record {
-        octets = λ j h.
-            rw (regroup j, joined left apart k some (most .inside), append-assoc)
-            (apart .octets (k + j) (omega (arith, within left apart k some (most .inside)))
-            ∙ ap (λ x. allOf r (asserts ipv4 o from i) ++ x) (rw (next-run all j h, past j) at (all-first r o at (k + j) (omega arith))));
-        number = λ j h.
-            let one : numberOf r (asserts ipv4 o from (i + k)) ≡ numberOf r (asserts ipv4 o from i) + 1 =
-            apart .number k (within left apart k some (most .inside)) ∙ ap (λ x. numberOf r (asserts ipv4 o from i) + x) (one-number r o at (n - i) k some (most .inside) (within left apart k some (most .inside))) in
-            let rest = rw (next-run all j h, past j) at (number-first r o at (k + j) (omega arith)) in
-            rw (regroup j) (omega (arith, apart .number (k + j) (omega (arith, within left apart k some (most .inside))), one, rest));
+        after = λ j h.
+            let regroup : i + k + j ≡ i + (k + j) = omega arith in
+            let past : k + j - k ≡ j = omega arith in
+            let ends : runLength f r o at (k + j) ≡ k = omega (arith, most .inside, within, run-fewer f r o at (k + j) (n - i) (omega arith) (omega (arith, within))) in
+            let first : recordsOf f r (asserts f o at (k + j)) ≡ recordsOf f r (asserts f o at k) ++ recordsOf f r (asserts f o (at + entrySize f * k) j) =
+            rw (ends, past) at (records-first f r o at (k + j) (omega arith))
+            ∙ ap (λ x. x ++ recordsOf f r (asserts f o (at + entrySize f * k) j)) (sym (one-run f r o at (n - i) k some (most .inside) within)) in
+            rw (regroup, apart .after k within, append-assoc)
+            (apart .after (k + j) (omega (arith, within)) ∙ ap (λ x. recordsOf f r (asserts f o from i) ++ x) first);
       }
 
-      further-next : (out′ : ℕ) → out′ ≡ out + length (oneOf r (asserts ipv4 o at k)) → Further r o from n start limit (i + k) (at + 16 * k) out′
-      further-next out′ q = go (decLe (runLength ipv4 r o at (n - i)) k)
+      further-next : (out′ : ℕ) → out′ ≡ out + length (allOf f r (asserts f o at k)) → Further f r o from n start limit (i + k) (at + entrySize f * k) out′
+      further-next out′ q = go (decLe (runLength f r o at (n - i)) k)
         where
-          go : Dec (runLength ipv4 r o at (n - i) ≤ k) → Further r o from n start limit (i + k) (at + 16 * k) out′
+          go : Dec (runLength f r o at (n - i) ≤ k) → Further f r o from n start limit (i + k) (at + entrySize f * k) out′
           go (yes all) = ended (apart-next all)
           go (no less) =
               let more = most .full (omega arith) in
               let one : i + suc k ≡ suc (i + k) = omega arith in
-              let long = rw one at (joined-long left apart (suc k) (omega arith) (omega arith)) in
-              cut (omega (arith, one-step o at r k some, more, t .fits)) (omega (arith, more, long, t .fits))
+              let next : suc k ≤ n - i = omega (arith, run-range f r o at (n - i) (omega arith) .1) in
+              let long = rw one at (joined-long apart (suc k) next) in
+              cut (omega (arith, all-step f r o at k, more, t .fits)) (omega (arith, more, long, t .fits))
 
-    -- its entries are there
-    pub within-there : (i + k ≤ n) × (at + 16 * k ≤ length o)
-    within-there =
-        let inside : k ≤ n - i = le-trans (most .inside) (run-range ipv4 r o at (n - i) (omega arith) .1) in
-        (omega arith, omega (arith, t .place, t .there))
-
-    pub within-next : (d′ : List ℕ) (out′ : ℕ) → d′ ≡ put d out (oneOf r (asserts ipv4 o at k)) → out′ ≡ out + length (oneOf r (asserts ipv4 o at k))
-        → RunsWithin r o from n d₀ start limit d′ (i + k) (at + 16 * k) out′
-    within-next d′ out′ p q =
+    pub within-next : (d′ : List ℕ) (at′ out′ : ℕ) → d′ ≡ put d out (allOf f r (asserts f o at k)) → at′ ≡ at + entrySize f * k → out′ ≡ out + length (allOf f r (asserts f o at k))
+        → RunsWithin f r o from n d₀ start limit d′ (i + k) at′ out′
+    within-next d′ at′ out′ p e q =
         not-cut (λ apart.
-        let inside : k ≤ n - i = within left apart k some (most .inside) in
-        let long : length d′ ≡ length d = ap length p ∙ length-put d out (oneOf r (asserts ipv4 o at k)) (omega (arith, most .fits, t .fits, t .room)) in
-        record {
-          inside = omega arith;
-          place = omega (arith, t .place);
-          there = t .there;
+        let long : length d′ ≡ length d = ap length p ∙ length-put d out (allOf f r (asserts f o at k)) (omega (arith, most .fits, t .fits, t .room)) in
+        let fewer : n - i ≡ k + (n - (i + k)) = omega (arith, within) in
+        rw e
+        (record {
+          inside = omega (arith, within);
+          there = omega (arith, t .there, ap (λ x. entrySize f * x) fewer ∙ mul-add (entrySize f) k (n - (i + k)));
           room = omega (arith, t .room);
           same = long ∙ t .same;
           fits = omega (arith, most .fits, t .fits);
-          next = q ∙ sym (joined-long left apart k some (most .inside));
-          buffer = rw (joined left apart k some (most .inside)) (put-next d₀ start (allOf r (asserts ipv4 o from i)) (oneOf r (asserts ipv4 o at k)) (t .buffer) p (t .next));
+          next = q ∙ sym (joined-long apart k within);
+          buffer = rw (further-octets apart k within) (put-next d₀ start (allOf f r (asserts f o from i)) (allOf f r (asserts f o at k)) (t .buffer) p (t .next));
           further = further-next apart out′ q;
-        })
+        }))
 
-    pub number-next : (number : ℕ) → number ≡ numberOf r (asserts ipv4 o from i) → number + 1 ≡ numberOf r (asserts ipv4 o from (i + k))
-    number-next number e =
-        not-cut (λ apart.
-        let inside : k ≤ n - i = within left apart k some (most .inside) in
-        omega (arith, apart .number k inside, one-number r o at (n - i) k some (most .inside) inside))
+    pub within-room : start + length (allOf f r (asserts f o from (i + k))) ≤ limit
+    within-room = not-cut (λ apart. omega (arith, joined-long apart k within, most .fits, t .fits))
+
+    pub number-next : (number more : ℕ) → number ≡ numberOf f r (asserts f o from i) → more ≡ numberOf f r (asserts f o at k) → number + more ≡ numberOf f r (asserts f o from (i + k))
+    number-next number more e g = not-cut (λ apart. omega (arith, counted apart k within))

@@ -1,58 +1,92 @@
--- Aggregated records by runs of entries, in IPv4.
---     oneOf, allOf, numberOf           the octets of one run, of all runs of some entries, and how many runs there are
+-- Aggregated records by runs of entries, over the family.
+--     Rec, octetsOf                    a record that stands for a run or a part of one, and its octets
+--     recordsIn, recordsOf             the records of the entries of one run, and of all runs of some entries
+--     oneOf, allOf, numberOf           their octets, and how many records all of them are
 --     addressSize, addressOctets       the group or the source of an entry
---     sourcesIn                        how many sources a group record has
+--     groupHead                        what a group record begins with
+--     zeroSource, apart, few           entries that are written as group records without sources
 --     MostWithin                       the most entries whose octets fit into a room
 -- Assumes nothing: these are definitions.
-use Prim.Native.Nat.{ℕ, suc, _+_, _≤_, _<_}
-use mathlib.Core.Bool.{_&&_, cond}
+use Prim.Native.Nat.{ℕ, suc, _*_, _≤_, _<_}
+use mathlib.Core.Bool.{Bool, true, false, _&&_}
 use mathlib.Core.List.{List, [], _∷_, map}
 use lib.ListN.{length}
-use lib.Dec.{eqb}
-use Rattle.records.specs.Records.{AssertRecord}
+use lib.Dec.{eqb, ltb}
+use Rattle.octets.specs.Octets.{be, _&_}
+use Rattle.records.specs.Records.{AssertRecord, GroupRecord, AggregatedRecord}
 use Rattle.records.specs.Runs.{run, runs}
-use Rattle.records.specs.Joining.{sameGroup, groupRecords, allGroupRecords, aggregated, joined}
-use Rattle.format.specs.Family.{ipv4}
+use Rattle.records.specs.Sizes.{groupSize, sourceSize, groupRecordSize}
+use Rattle.records.specs.Joining.{sameGroup, allZero, groupRecords, allGroupRecords, aggregated, joined}
+use Rattle.format.specs.Family.{Family}
 use Rattle.format.specs.Address.{groupOctets, sourceOctets}
-use Rattle.format.specs.Record.{each, groupRecordOctets, aggregatedOctets}
-use Rattle.octets.specs.Octets.{numberAt}
-use Rattle.packing.specs.Joins.{asserts, joins, Run, Aggregated, Group as OfGroup}
-use Rattle.packing.specs.declared.aggregate.Address.{Address}
-use Rattle.packing.specs.declared.aggregate.Address.the-variants.{Group, Source}
+use Rattle.format.specs.Record.{each, reserved2, groupRecordOctets, aggregatedOctets}
+use Rattle.packing.specs.Joins.{asserts, Run, Aggregated, Group}
 
 -- ---- runs
 
--- the record of the entries of one run
-unfoldable pub oneOf : Run → List AssertRecord → List ℕ
-oneOf r [] = []
-oneOf Aggregated (e ∷ es) = aggregatedOctets ipv4 (aggregated 4 (run e es))
-oneOf OfGroup (e ∷ es) = each (groupRecordOctets ipv4) (groupRecords 4 (e .group) (map (λ (x : AssertRecord). x .source) (e ∷ es)))
+abbrev pub Rec : Run → Type 0
+Rec Aggregated = AggregatedRecord
+Rec Group = GroupRecord
 
-unfoldable pub allOf : Run → List AssertRecord → List ℕ
-allOf Aggregated es = each (aggregatedOctets ipv4) (joined 4 es)
-allOf OfGroup es = each (groupRecordOctets ipv4) (allGroupRecords 4 (runs sameGroup es))
+unfoldable pub octetsOf : Family → (r : Run) → Rec r → List ℕ
+octetsOf f Aggregated = aggregatedOctets f
+octetsOf f Group = groupRecordOctets f
 
-unfoldable pub numberOf : Run → List AssertRecord → ℕ
-numberOf r es = length (runs (joins r) es)
+abbrev pub sources : List AssertRecord → List ℕ
+sources es = map (λ (x : AssertRecord). x .source) es
+
+-- a run of one group is one group record or several
+unfoldable pub recordsIn : Family → (r : Run) → List AssertRecord → List (Rec r)
+recordsIn f r [] = []
+recordsIn f Aggregated (e ∷ es) = aggregated (f .width) (run e es) ∷ []
+recordsIn f Group (e ∷ es) = groupRecords (f .width) (e .group) (sources (e ∷ es))
+
+unfoldable pub recordsOf : Family → (r : Run) → List AssertRecord → List (Rec r)
+recordsOf f Aggregated es = joined (f .width) es
+recordsOf f Group es = allGroupRecords (f .width) (runs sameGroup es)
+
+unfoldable pub oneOf : Family → Run → List AssertRecord → List ℕ
+oneOf f r es = each (octetsOf f r) (recordsIn f r es)
+
+unfoldable pub allOf : Family → Run → List AssertRecord → List ℕ
+allOf f r es = each (octetsOf f r) (recordsOf f r es)
+
+unfoldable pub numberOf : Family → Run → List AssertRecord → ℕ
+numberOf f r es = length (recordsOf f r es)
 
 -- ---- addresses
 
-abbrev pub addressSize : Address → ℕ
-addressSize Group = 8
-addressSize Source = 6
+-- of the source, or else of the group
+abbrev pub addressSize : Family → Bool → ℕ
+addressSize f false = groupSize (f .width)
+addressSize f true = sourceSize (f .width)
 
-unfoldable pub addressOctets : Address → AssertRecord → List ℕ
-addressOctets Group e = groupOctets ipv4 (e .group)
-addressOctets Source e = sourceOctets ipv4 (e .source)
+unfoldable pub addressOctets : Family → Bool → AssertRecord → List ℕ
+addressOctets f false e = groupOctets f (e .group)
+addressOctets f true e = sourceOctets f (e .source)
 
--- "p=0 is written exactly for a group record of one entry with source 0"
-unfoldable pub sourcesIn : List ℕ → ℕ → ℕ → ℕ
-sourcesIn o at k = cond (eqb k 1 && eqb (numberAt 4 o (at + 4)) 0) 0 k
+-- ---- group records
+
+-- "group, 16-bit number of sources, 2 reserved"
+abbrev pub groupHead : Family → ℕ → ℕ → List ℕ
+groupHead f g p = groupOctets f g & (be 2 p & reserved2)
+
+abbrev pub zeroSource : AssertRecord → Bool
+zeroSource e = eqb (e .source) 0
+
+-- "all with source 0, are written as that many p=0 group records instead, .., where that is fewer octets"
+unfoldable pub apart : Family → List AssertRecord → Bool
+apart f es = allZero (sources es) && ltb (length (sources es) * groupRecordSize (f .width) 0) (groupRecordSize (f .width) (length (sources es)))
+
+-- "In IPv4 it never is; in IPv6 it is so for exactly two or three of them": how many are fewer octets apart, one at least
+abbrev pub few : Bool → ℕ
+few false = 1
+few true = 3
 
 -- ---- a room
 
 -- k of n entries fit, and if there is one more, that one does not
-pub record MostWithin (octetsOf : List AssertRecord → List ℕ) (o : List ℕ) (from n room k : ℕ) : Type 0 where
+pub record MostWithin (f : Family) (octetsIn : List AssertRecord → List ℕ) (o : List ℕ) (from n room k : ℕ) : Type 0 where
   pub inside : k ≤ n
-  pub fits : length (octetsOf (asserts ipv4 o from k)) ≤ room
-  pub full : k < n → room < length (octetsOf (asserts ipv4 o from (suc k)))
+  pub fits : length (octetsIn (asserts f o from k)) ≤ room
+  pub full : k < n → room < length (octetsIn (asserts f o from (suc k)))

@@ -4,69 +4,97 @@
 use crate::record::put_group;
 use crate::record::put_metric;
 use crate::record::put_source;
-use crate::run::word;
+use crate::run::address;
+use addresses::is_zero;
+use addresses::width;
 ghost use mathlib.Core.Path.{_≡_};
 ghost use mathlib.Core.Bool.{false};
+ghost use mathlib.Core.List.{[]};
 ghost use Prim.Native.Nat.{_+_, _*_, _≤_, _<_};
-ghost use lib.ListN.{length};
+ghost use lib.ListN.{length, replicate};
 ghost use Rattle.octets.specs.Octets.{numberAt, put, be, _&_};
-ghost use Rattle.records.specs.Records.{rBit};
-ghost use Rattle.format.specs.Family.{ipv4};
+ghost use Rattle.records.specs.Records.{rBit, ofGroup};
+ghost use Rattle.records.specs.Runs.{leading};
+ghost use Rattle.format.specs.Family.{familyOf};
 ghost use Rattle.format.specs.Entry.{assertAt};
-ghost use Rattle.format.specs.Record.{each, reserved2};
-ghost use Rattle.packing.specs.Joins.{asserts, Aggregated, Group};
-ghost use Rattle.packing.specs.Aggregates.{addressOctets, addressSize, sourcesIn, oneOf};
+ghost use Rattle.format.specs.Record.{each, reserved2, groupRecordOctets};
+ghost use Rattle.packing.specs.Joins.{asserts, entrySize, Aggregated, Group};
+ghost use Rattle.packing.specs.Aggregates.{addressOctets, addressSize, groupHead, zeroSource, apart, few, recordsIn, oneOf};
 
-// Which address of an entry.
-pub enum Address {
-    Group,
-    Source,
+// The place past group records, and how many they are.
+pub struct Records {
+    pub next: usize,
+    pub number: usize,
 }
 
-// The octets of an encoded address.
-fn address_size(address: Address) -> usize
-    ensures { λ r. ⌜ r ≡ addressSize address ⌝ }
+// The octets of an encoded address: of the source, or else of the group.
+fn address_size(ipv6: bool, source: bool) -> usize
+    ensures { λ r. ⌜ r ≡ addressSize (familyOf ipv6) source ⌝ }
 {
-    match address {
-        Address::Group => 8,
-        Address::Source => 6,
+    if source {
+        return width(ipv6) + 2;
     }
+    width(ipv6) + 4
 }
 
-fn put_address(address: Address, e: &[u8], at: usize, d: &mut [u8], out: usize)
-    requires { ⌜ (at + 16 ≤ length (now e)) × (out + addressSize address ≤ length (now d)) ⌝ }
-    ensures { λ r. ⌜ now (d .exit) ≡ put (now (d .entry)) out (addressOctets address (assertAt ipv4 (now (e .entry)) at)) ⌝ }
+// The source or the group of an entry.
+fn put_address(ipv6: bool, source: bool, e: &[u8], at: usize, d: &mut [u8], out: usize)
+    requires { ⌜ (at + entrySize (familyOf ipv6) ≤ length (now e)) × (out + addressSize (familyOf ipv6) source ≤ length (now d)) ⌝ }
+    ensures { λ r. ⌜ now (d .exit) ≡ put (now (d .entry)) out (addressOctets (familyOf ipv6) source (assertAt (familyOf ipv6) (now (e .entry)) at)) ⌝ }
 {
-    match address {
-        Address::Group => put_group(false, e, at, d, out),
-        Address::Source => put_source(false, e, at + 4, d, out),
+    if source {
+        put_source(ipv6, e, at + width(ipv6), d, out);
+        return;
     }
+    put_group(ipv6, e, at, d, out);
 }
 
-// The groups or the sources of n entries, one after another.
-fn put_addresses(
-    address: Address,
+fn put_addresses_of(
+    ipv6: bool,
+    source: bool,
     e: &[u8],
     from: usize,
     n: usize,
     d: &mut [u8],
     start: usize,
 ) -> usize
-    requires { ⌜ (from + 16 * n ≤ length (now e)) × (start + addressSize address * n ≤ length (now d)) ⌝ }
-    ensures next { λ r. ⌜ r ≡ start + addressSize address * n ⌝ }
-    ensures buffer { λ r. ⌜ now (d .exit) ≡ put (now (d .entry)) start (each (addressOctets address) (asserts ipv4 (now (e .entry)) from n)) ⌝ }
+    requires { ⌜ (from + entrySize (familyOf ipv6) * n ≤ length (now e)) × (start + addressSize (familyOf ipv6) source * n ≤ length (now d)) ⌝ }
+    ensures next { λ r. ⌜ r ≡ start + addressSize (familyOf ipv6) source * n ⌝ }
+    ensures buffer { λ r. ⌜ now (d .exit) ≡ put (now (d .entry)) start (each (addressOctets (familyOf ipv6) source) (asserts (familyOf ipv6) (now (e .entry)) from n)) ⌝ }
 {
-    let size = address_size(address);
+    let w = width(ipv6);
+    let size = address_size(ipv6, source);
     let mut i = 0;
     let mut at = from;
     let mut out = start;
     while i < n {
-        put_address(address, e, at, d, out);
-        at += 16;
+        put_address(ipv6, source, e, at, d, out);
+        at += 2 * w + 8;
         out += size;
         i += 1;
     }
     out
+}
+
+// The sources or the groups of n entries, one after another. The family is a literal, so that the compiler makes a loop
+// for each.
+fn put_addresses(
+    ipv6: bool,
+    source: bool,
+    e: &[u8],
+    from: usize,
+    n: usize,
+    d: &mut [u8],
+    start: usize,
+) -> usize
+    requires { ⌜ (from + entrySize (familyOf ipv6) * n ≤ length (now e)) × (start + addressSize (familyOf ipv6) source * n ≤ length (now d)) ⌝ }
+    ensures next { λ r. ⌜ r ≡ start + addressSize (familyOf ipv6) source * n ⌝ }
+    ensures buffer { λ r. ⌜ now (d .exit) ≡ put (now (d .entry)) start (each (addressOctets (familyOf ipv6) source) (asserts (familyOf ipv6) (now (e .entry)) from n)) ⌝ }
+{
+    if ipv6 {
+        return put_addresses_of(true, source, e, from, n, d, start);
+    }
+    put_addresses_of(false, source, e, from, n, d, start)
 }
 
 // A 16-bit number and two reserved octets.
@@ -80,46 +108,115 @@ pub(crate) fn put_number(d: &mut [u8], at: usize, n: usize)
     d[at + 3] = 0;
 }
 
-// How many sources the group record of k entries has: none for one entry with source 0.
-fn number_of_sources(e: &[u8], from: usize, k: usize) -> usize
-    requires { ⌜ (0 < k) × (from + 16 * k ≤ length (now e)) ⌝ }
-    ensures { λ r. ⌜ r ≡ sourcesIn (now (e .entry)) from k ⌝ }
+// How many entries of one group with source 0 are written apart, each as a group record without sources, since one
+// group record would be as long or longer.
+pub(crate) fn most_apart(ipv6: bool) -> usize
+    ensures { λ r. ⌜ r ≡ few ipv6 ⌝ }
 {
-    if k != 1 {
-        return k;
+    if ipv6 {
+        return 3;
     }
-    if word(e, from + 4) != 0 {
-        return k;
-    }
-    0
+    1
 }
 
-// The group record of k entries of one group.
-pub(crate) fn put_group_record(e: &[u8], from: usize, k: usize, d: &mut [u8], out: usize) -> usize
-    requires { ⌜ (0 < k) × (from + 16 * k ≤ length (now e)) × (out + length (oneOf Group (asserts ipv4 (now e) from k)) ≤ length (now d)) ⌝ }
-    ensures next { λ r. ⌜ r ≡ out + length (oneOf Group (asserts ipv4 (now (e .entry)) from k)) ⌝ }
-    ensures buffer { λ r. ⌜ now (d .exit) ≡ put (now (d .entry)) out (oneOf Group (asserts ipv4 (now (e .entry)) from k)) ⌝ }
+// How many at the front of n entries have source 0.
+pub(crate) fn zeros(ipv6: bool, e: &[u8], from: usize, n: usize) -> usize
+    requires { ⌜ from + entrySize (familyOf ipv6) * n ≤ length (now e) ⌝ }
+    ensures { λ r. ⌜ r ≡ leading zeroSource (asserts (familyOf ipv6) (now (e .entry)) from n) ⌝ }
 {
-    let p = number_of_sources(e, from, k);
-    put_group(false, e, from, d, out);
-    put_number(d, out + 8, p);
-    put_addresses(Address::Source, e, from, p, d, out + 12)
+    let w = width(ipv6);
+    let mut k = 0;
+    let mut at = from;
+    while k < n {
+        if !is_zero(address(ipv6, e, at + w)) {
+            return k;
+        }
+        k += 1;
+        at += 2 * w + 8;
+    }
+    k
+}
+
+// Whether k entries of one group are written apart.
+fn are_apart(ipv6: bool, e: &[u8], from: usize, k: usize) -> bool
+    requires { ⌜ from + entrySize (familyOf ipv6) * k ≤ length (now e) ⌝ }
+    ensures { λ r. ⌜ r ≡ apart (familyOf ipv6) (asserts (familyOf ipv6) (now (e .entry)) from k) ⌝ }
+{
+    if most_apart(ipv6) < k {
+        return false;
+    }
+    zeros(ipv6, e, from, k) == k
+}
+
+// What a group record of p sources begins with.
+fn put_group_head(ipv6: bool, e: &[u8], at: usize, p: usize, d: &mut [u8], out: usize) -> usize
+    requires { ⌜ (at + familyOf ipv6 .width ≤ length (now e)) × (out + (familyOf ipv6 .width + 8) ≤ length (now d)) ⌝ }
+    ensures next { λ r. ⌜ r ≡ out + (familyOf ipv6 .width + 8) ⌝ }
+    ensures buffer { λ r. ⌜ now (d .exit) ≡ put (now (d .entry)) out (groupHead (familyOf ipv6) (numberAt (familyOf ipv6 .width) (now (e .entry)) at) p) ⌝ }
+{
+    let w = width(ipv6);
+    put_group(ipv6, e, at, d, out);
+    put_number(d, out + (w + 4), p);
+    out + (w + 8)
+}
+
+// k group records of the group at a place, all without sources.
+fn put_apart(ipv6: bool, e: &[u8], at: usize, k: usize, d: &mut [u8], start: usize) -> usize
+    requires { ⌜ (at + familyOf ipv6 .width ≤ length (now e)) × (start + (familyOf ipv6 .width + 8) * k ≤ length (now d)) ⌝ }
+    ensures next { λ r. ⌜ r ≡ start + (familyOf ipv6 .width + 8) * k ⌝ }
+    ensures buffer { λ r. ⌜ now (d .exit) ≡ put (now (d .entry)) start (each (groupRecordOctets (familyOf ipv6)) (replicate k (ofGroup (numberAt (familyOf ipv6 .width) (now (e .entry)) at) []))) ⌝ }
+{
+    let mut i = 0;
+    let mut out = start;
+    while i < k {
+        out = put_group_head(ipv6, e, at, 0, d, out);
+        i += 1;
+    }
+    out
+}
+
+// The group records of k entries of one group: one, or k without sources where that is shorter.
+pub(crate) fn put_group_records(
+    ipv6: bool,
+    e: &[u8],
+    from: usize,
+    k: usize,
+    d: &mut [u8],
+    out: usize,
+) -> Records
+    requires { ⌜ (0 < k) × (from + entrySize (familyOf ipv6) * k ≤ length (now e)) × (out + length (oneOf (familyOf ipv6) Group (asserts (familyOf ipv6) (now e) from k)) ≤ length (now d)) ⌝ }
+    ensures next { λ r. ⌜ r .next ≡ out + length (oneOf (familyOf ipv6) Group (asserts (familyOf ipv6) (now (e .entry)) from k)) ⌝ }
+    ensures number { λ r. ⌜ r .number ≡ length (recordsIn (familyOf ipv6) Group (asserts (familyOf ipv6) (now (e .entry)) from k)) ⌝ }
+    ensures buffer { λ r. ⌜ now (d .exit) ≡ put (now (d .entry)) out (oneOf (familyOf ipv6) Group (asserts (familyOf ipv6) (now (e .entry)) from k)) ⌝ }
+{
+    if are_apart(ipv6, e, from, k) {
+        let end = put_apart(ipv6, e, from, k, d, out);
+        return Records {
+            next: end,
+            number: k,
+        };
+    }
+    let head = put_group_head(ipv6, e, from, k, d, out);
+    let next = put_addresses(ipv6, true, e, from, k, d, head);
+    Records { next, number: 1 }
 }
 
 // The source aggregated record of k entries.
 pub(crate) fn put_source_aggregated(
+    ipv6: bool,
     e: &[u8],
     from: usize,
     k: usize,
     d: &mut [u8],
     out: usize,
 ) -> usize
-    requires { ⌜ (0 < k) × (from + 16 * k ≤ length (now e)) × (rBit (numberAt 4 (now e) (from + 8)) ≡ false) × (out + length (oneOf Aggregated (asserts ipv4 (now e) from k)) ≤ length (now d)) ⌝ }
-    ensures next { λ r. ⌜ r ≡ out + length (oneOf Aggregated (asserts ipv4 (now (e .entry)) from k)) ⌝ }
-    ensures buffer { λ r. ⌜ now (d .exit) ≡ put (now (d .entry)) out (oneOf Aggregated (asserts ipv4 (now (e .entry)) from k)) ⌝ }
+    requires { ⌜ (0 < k) × (from + entrySize (familyOf ipv6) * k ≤ length (now e)) × (rBit (numberAt 4 (now e) (from + 2 * familyOf ipv6 .width)) ≡ false) × (out + length (oneOf (familyOf ipv6) Aggregated (asserts (familyOf ipv6) (now e) from k)) ≤ length (now d)) ⌝ }
+    ensures next { λ r. ⌜ r ≡ out + length (oneOf (familyOf ipv6) Aggregated (asserts (familyOf ipv6) (now (e .entry)) from k)) ⌝ }
+    ensures buffer { λ r. ⌜ now (d .exit) ≡ put (now (d .entry)) out (oneOf (familyOf ipv6) Aggregated (asserts (familyOf ipv6) (now (e .entry)) from k)) ⌝ }
 {
-    put_metric(e, from + 8, d, out);
-    put_source(false, e, from + 4, d, out + 8);
-    put_number(d, out + 14, k);
-    put_addresses(Address::Group, e, from, k, d, out + 18)
+    let w = width(ipv6);
+    put_metric(e, from + 2 * w, d, out);
+    put_source(ipv6, e, from + w, d, out + 8);
+    put_number(d, out + (w + 10), k);
+    put_addresses(ipv6, false, e, from, k, d, out + (w + 14))
 }

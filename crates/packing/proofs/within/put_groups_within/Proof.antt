@@ -2,34 +2,38 @@
 -- measure is the entries left.
 -- Assumes nothing.
 use native.Mathlib.Omega.{arith}
-use mathlib.Core.Path.{_≡_}
+use mathlib.Core.Path.{_≡_, ap}
 use denote.Ref.{now}
 use Prim.Native.Nat.{_+_, _-_, _*_, _<_, _≤_}
 use lib.ListN.{length}
-use Rattle.format.specs.Family.{ipv4}
-use Rattle.packing.specs.Joins.{asserts, Group}
+use Rattle.format.specs.Family.{familyOf}
+use Rattle.packing.specs.Joins.{asserts, entrySize, Group}
 use Rattle.packing.specs.Aggregates.{numberOf}
-use Rattle.packing.proofs.Limits.{RunsWithin, within-start, within-there, within-next, within-stop, within-end, number-none, number-next}
+use Rattle.packing.proofs.Limits.{RunsWithin, within-start, within-there, within-room, within-next, within-stop, within-end, number-none, number-next, number-few}
+use borrow.Author.Needs.{needs}
 use Rattle.packing.proofs.within.put_groups_within.Statement.{statement}
 use Rattle.packing.proofs.within.put_groups_within.Tie as tie
 
 abbrev Inv-loop : tie.InvT-loop
-Inv-loop e from n d₀ start limit taken₀ at₀ out₀ number₀ d taken at out number = RunsWithin Group e from n d₀ start limit d taken at out × (number ≡ numberOf Group (asserts ipv4 e from taken)) × (number ≤ taken)
+Inv-loop ipv6 e from n d₀ start limit size taken₀ at₀ out₀ number₀ d taken at out number = RunsWithin (familyOf ipv6) Group e from n d₀ start limit d taken at out × (number ≡ numberOf (familyOf ipv6) Group (asserts (familyOf ipv6) e from taken))
 
 abbrev μ-loop : tie.MeasureT-loop
-μ-loop e from n d₀ start limit taken₀ at₀ out₀ number₀ d taken at out number = n - taken
+μ-loop ipv6 e from n d₀ start limit size taken₀ at₀ out₀ number₀ d taken at out number = n - taken
 
 -- some entries were taken, and they are there
 some : (c : tie.Else1 Inv-loop μ-loop) → 0 < c .before .before .before .put-group-within .result .taken
 some c = omega (arith, c .if1 .left)
 
-inside : (c : tie.Else1 Inv-loop μ-loop) → (c .before .before .before .before .before .before .loop .taken + c .before .before .before .put-group-within .result .taken ≤ c .before .before .before .before .before .before .before .before .before .args .n) × (c .before .before .before .before .before .before .loop .at + 16 * c .before .before .before .put-group-within .result .taken ≤ length (now (c .before .before .before .before .before .before .before .before .before .args .e)))
-inside c = within-there (c .before .before .before .before .before .before .loop .inv .0) (c .before .before .before .before .before .loop-test .taken) _ (some c) (c .before .before .before .put-group-within .ensures .0)
+size-is : (c : tie.After-width Inv-loop μ-loop) → 2 * c .width .result + 8 ≡ entrySize (familyOf (c .before .before .before .args .ipv6))
+size-is c = ap (λ w. 2 * w + 8) (c .width .ensures .0)
+
+inside : (c : tie.Else1 Inv-loop μ-loop) → (c .before .before .before .before .before .before .loop .taken + c .before .before .before .put-group-within .result .taken ≤ c .before .before .before .before .before .before .before .before .before .before .args .n) × (c .before .before .before .before .before .before .loop .at + (2 * c .before .before .before .before .before .before .before .width .result + 8) * c .before .before .before .put-group-within .result .taken ≤ length (now (c .before .before .before .before .before .before .before .before .before .before .args .e)))
+inside c = rw (size-is (c .before .before .before .before .before .before .before)) (within-there (c .before .before .before .before .before .before .loop .inv .0) (c .before .before .before .before .before .loop-test .taken) _ (some c) (c .before .before .before .put-group-within .ensures .0))
 
 loop-holds : tie.Need-loop-holds Inv-loop μ-loop
 loop-holds c =
-    let a = c .before .before .args in
-    (within-start Group (now (a .e)) (a .from) (a .n) (now (a .d)) (a .start) (a .limit) (c .before .before .pre .0) (c .before .before .pre .1) (c .before .before .pre .2), number-none Group (now (a .e)) (a .from), omega arith)
+    let a = c .before .before .before .args in
+    (within-start (familyOf (a .ipv6)) Group (now (a .e)) (a .from) (a .n) (now (a .d)) (a .start) (a .limit) (c .before .before .before .pre .0) (c .before .before .before .pre .1) (c .before .before .before .pre .2), number-none (familyOf (a .ipv6)) Group (now (a .e)) (a .from))
 
 sub-put-group-within : tie.Need-sub-put-group-within Inv-loop μ-loop
 sub-put-group-within c = omega (arith, c .loop-test .taken)
@@ -37,7 +41,7 @@ sub-put-group-within c = omega (arith, c .loop-test .taken)
 put-group-within-requires : tie.Need-put-group-within-requires Inv-loop μ-loop
 put-group-within-requires c κs =
     let t = c .before .before .loop .inv .0 in
-    (omega (arith, c .before .loop-test .taken), omega (arith, c .before .loop-test .taken, t .place, t .there), t .fits, t .room)
+    (omega (arith, c .before .loop-test .taken), t .there, t .fits, t .room)
 
 same-length : tie.Need-same-length Inv-loop μ-loop
 same-length c = omega (arith, c .before .before .before .put-group-within .kept, c .before .before .before .before .before .before .loop .inv .0 .same)
@@ -45,7 +49,7 @@ same-length c = omega (arith, c .before .before .before .put-group-within .kept,
 returns : tie.Need-returns Inv-loop μ-loop
 returns c =
     let wrote = c .before .before .before .put-group-within .ensures in
-    let done = within-stop (c .before .before .before .before .before .before .loop .inv .0) (c .before .before .before .before .before .loop-test .taken) _ (c .if1 .taken) (wrote .0) _ (wrote .1 .1) in
+    let done = within-stop (c .before .before .before .before .before .before .loop .inv .0) (c .before .before .before .before .before .loop-test .taken) _ (c .if1 .taken) (wrote .0) _ (wrote .1 .1 .1) in
     (done .most, (done .next, (c .before .before .before .before .before .before .loop .inv .1, done .buffer)))
 
 add-taken : tie.Need-add-taken Inv-loop μ-loop
@@ -57,16 +61,25 @@ mul-at c = omega (arith, inside c)
 add-at : tie.Need-add-at Inv-loop μ-loop
 add-at c = omega (arith, inside c)
 
+counted : (c : tie.Else1 Inv-loop μ-loop)
+    → c .before .before .before .before .before .before .loop .number + c .before .before .before .put-group-within .result .number ≡ numberOf (familyOf (c .before .before .before .before .before .before .before .before .before .before .args .ipv6)) Group (asserts (familyOf (c .before .before .before .before .before .before .before .before .before .before .args .ipv6)) (now (c .before .before .before .before .before .before .before .before .before .before .args .e)) (c .before .before .before .before .before .before .before .before .before .before .args .from) (c .before .before .before .before .before .before .loop .taken + c .before .before .before .put-group-within .result .taken))
+counted c = number-next (c .before .before .before .before .before .before .loop .inv .0) (c .before .before .before .before .before .loop-test .taken) _ (some c) (c .before .before .before .put-group-within .ensures .0) _ _ (c .before .before .before .before .before .before .loop .inv .1) (c .before .before .before .put-group-within .ensures .1 .1 .0)
+
 add-number : tie.Need-add-number Inv-loop μ-loop
-add-number c = omega (arith, inside c, some c, c .before .before .before .before .before .before .loop .inv .2)
+add-number c =
+    let f = familyOf (c .before .before .before .before .before .before .before .before .before .before .before .args .ipv6) in
+    let fits = within-room (c .before .before .before .before .before .before .before .loop .inv .0) (c .before .before .before .before .before .before .loop-test .taken) _ (some (c .before)) (c .before .before .before .before .put-group-within .ensures .0) in
+    omega (arith, fits, counted (c .before), number-few f (asserts f (now (c .before .before .before .before .before .before .before .before .before .before .before .args .e)) (c .before .before .before .before .before .before .before .before .before .before .before .args .from) (c .before .before .before .before .before .before .before .loop .taken + c .before .before .before .before .put-group-within .result .taken)), c .before .before .before .before .before .before .before .loop .inv .0 .room)
 
 loop-less : tie.Need-loop-less Inv-loop μ-loop
-loop-less c = omega (arith, inside c, some c)
+loop-less c = omega (arith, inside (c .before), some (c .before))
 
 loop-again : tie.Need-loop-again Inv-loop μ-loop
 loop-again c =
-    let wrote = c .before .before .before .put-group-within .ensures in
-    (within-next (c .before .before .before .before .before .before .loop .inv .0) (c .before .before .before .before .before .loop-test .taken) _ (some c) (wrote .0) _ _ (wrote .1 .1) (wrote .1 .0), number-next (c .before .before .before .before .before .before .loop .inv .0) (c .before .before .before .before .before .loop-test .taken) _ (some c) (wrote .0) _ (c .before .before .before .before .before .before .loop .inv .1), omega (arith, some c, c .before .before .before .before .before .before .loop .inv .2))
+    let wrote = c .before .before .before .before .put-group-within .ensures in (
+      within-next (c .before .before .before .before .before .before .before .loop .inv .0) (c .before .before .before .before .before .before .loop-test .taken) _ (some (c .before)) (wrote .0) _ _ _ (wrote .1 .1 .1) (ap (λ s. c .before .before .before .before .before .before .before .loop .at + s * c .before .before .before .before .put-group-within .result .taken) (size-is (c .before .before .before .before .before .before .before .before))) (wrote .1 .0),
+      counted (c .before),
+    )
 
 same-length-2 : tie.Need-same-length-2 Inv-loop μ-loop
 same-length-2 c = c .before .loop .inv .0 .same
@@ -82,6 +95,9 @@ put-groups-within-spec =
     (tie.spec
     Inv-loop
     μ-loop
+    (λ c κs. search needs)
+    (λ c. search needs)
+    (λ c. search needs)
     loop-holds
     sub-put-group-within
     put-group-within-requires

@@ -1,31 +1,38 @@
--- `packing::within::put_within` meets its contract: the loop's invariant is `RunsWithin`. The measure is the entries left.
+-- `packing::within::put_within` meets its contract: the loop's invariant is `RunsWithin`. The
+-- measure is the entries left.
 -- Assumes nothing.
 use native.Mathlib.Omega.{arith}
+use mathlib.Core.Path.{_≡_, ap}
 use denote.Ref.{now}
 use Prim.Native.Nat.{_+_, _-_, _*_, _<_, _≤_}
 use lib.ListN.{length}
-use Rattle.packing.specs.Joins.{Aggregated}
+use Rattle.format.specs.Family.{familyOf}
+use Rattle.packing.specs.Joins.{entrySize, Aggregated}
 use Rattle.packing.proofs.Limits.{RunsWithin, within-start, within-there, within-next, within-stop, within-end}
+use borrow.Author.Needs.{needs}
 use Rattle.packing.proofs.within.put_within.Statement.{statement}
 use Rattle.packing.proofs.within.put_within.Tie as tie
 
 abbrev Inv-loop : tie.InvT-loop
-Inv-loop e from n d₀ start limit taken₀ at₀ out₀ d taken at out = RunsWithin Aggregated e from n d₀ start limit d taken at out
+Inv-loop ipv6 e from n d₀ start limit size taken₀ at₀ out₀ d taken at out = RunsWithin (familyOf ipv6) Aggregated e from n d₀ start limit d taken at out
 
 abbrev μ-loop : tie.MeasureT-loop
-μ-loop e from n d₀ start limit taken₀ at₀ out₀ d taken at out = n - taken
+μ-loop ipv6 e from n d₀ start limit size taken₀ at₀ out₀ d taken at out = n - taken
 
 -- some entries were taken, and they are there
 some : (c : tie.Else1 Inv-loop μ-loop) → 0 < c .before .before .before .put-aggregated-within .result .taken
 some c = omega (arith, c .if1 .left)
 
-inside : (c : tie.Else1 Inv-loop μ-loop) → (c .before .before .before .before .before .before .loop .taken + c .before .before .before .put-aggregated-within .result .taken ≤ c .before .before .before .before .before .before .before .before .before .args .n) × (c .before .before .before .before .before .before .loop .at + 16 * c .before .before .before .put-aggregated-within .result .taken ≤ length (now (c .before .before .before .before .before .before .before .before .before .args .e)))
-inside c = within-there (c .before .before .before .before .before .before .loop .inv) (c .before .before .before .before .before .loop-test .taken) _ (some c) (c .before .before .before .put-aggregated-within .ensures .0)
+size-is : (c : tie.After-width Inv-loop μ-loop) → 2 * c .width .result + 8 ≡ entrySize (familyOf (c .before .before .before .args .ipv6))
+size-is c = ap (λ w. 2 * w + 8) (c .width .ensures .0)
+
+inside : (c : tie.Else1 Inv-loop μ-loop) → (c .before .before .before .before .before .before .loop .taken + c .before .before .before .put-aggregated-within .result .taken ≤ c .before .before .before .before .before .before .before .before .before .before .args .n) × (c .before .before .before .before .before .before .loop .at + (2 * c .before .before .before .before .before .before .before .width .result + 8) * c .before .before .before .put-aggregated-within .result .taken ≤ length (now (c .before .before .before .before .before .before .before .before .before .before .args .e)))
+inside c = rw (size-is (c .before .before .before .before .before .before .before)) (within-there (c .before .before .before .before .before .before .loop .inv) (c .before .before .before .before .before .loop-test .taken) _ (some c) (c .before .before .before .put-aggregated-within .ensures .0))
 
 loop-holds : tie.Need-loop-holds Inv-loop μ-loop
 loop-holds c =
-    let a = c .before .before .args in
-    within-start Aggregated (now (a .e)) (a .from) (a .n) (now (a .d)) (a .start) (a .limit) (c .before .before .pre .0) (c .before .before .pre .1) (c .before .before .pre .2)
+    let a = c .before .before .before .args in
+    within-start (familyOf (a .ipv6)) Aggregated (now (a .e)) (a .from) (a .n) (now (a .d)) (a .start) (a .limit) (c .before .before .before .pre .0) (c .before .before .before .pre .1) (c .before .before .before .pre .2)
 
 sub-put-aggregated-within : tie.Need-sub-put-aggregated-within Inv-loop μ-loop
 sub-put-aggregated-within c = omega (arith, c .loop-test .taken)
@@ -33,7 +40,7 @@ sub-put-aggregated-within c = omega (arith, c .loop-test .taken)
 put-aggregated-within-requires : tie.Need-put-aggregated-within-requires Inv-loop μ-loop
 put-aggregated-within-requires c κs =
     let t = c .before .before .loop .inv in
-    (omega (arith, c .before .loop-test .taken), omega (arith, c .before .loop-test .taken, t .place, t .there), t .fits, t .room)
+    (omega (arith, c .before .loop-test .taken), t .there, t .fits, t .room)
 
 same-length : tie.Need-same-length Inv-loop μ-loop
 same-length c = omega (arith, c .before .before .before .put-aggregated-within .kept, c .before .before .before .before .before .before .loop .inv .same)
@@ -59,7 +66,7 @@ loop-less c = omega (arith, inside c, some c)
 loop-again : tie.Need-loop-again Inv-loop μ-loop
 loop-again c =
     let wrote = c .before .before .before .put-aggregated-within .ensures in
-    within-next (c .before .before .before .before .before .before .loop .inv) (c .before .before .before .before .before .loop-test .taken) _ (some c) (wrote .0) _ _ (wrote .1 .1) (wrote .1 .0)
+    within-next (c .before .before .before .before .before .before .loop .inv) (c .before .before .before .before .before .loop-test .taken) _ (some c) (wrote .0) _ _ _ (wrote .1 .1) (ap (λ s. c .before .before .before .before .before .before .loop .at + s * c .before .before .before .put-aggregated-within .result .taken) (size-is (c .before .before .before .before .before .before .before))) (wrote .1 .0)
 
 same-length-2 : tie.Need-same-length-2 Inv-loop μ-loop
 same-length-2 c = c .before .loop .inv .same
@@ -75,6 +82,9 @@ put-within-spec =
     (tie.spec
     Inv-loop
     μ-loop
+    (λ c κs. search needs)
+    (λ c. search needs)
+    (λ c. search needs)
     loop-holds
     sub-put-aggregated-within
     put-aggregated-within-requires
