@@ -99,14 +99,14 @@ unfolding leastLimit
 limit-head f l h = omega arith
 
 -- every kind that is packed
-pub packed-is : (ipv6 : Bool) (k : Kind) → isPacked k ≡ true → (isAggregated k ≡ true → ipv6 ≡ false) → Packs ipv6 k
+pub packed-is : (ipv6 : Bool) (k : Kind) → isPacked k ≡ true → Packs ipv6 k
 unfolding plainBody simpleBody aggregatedBody pairBody recordBy recordsFor
-packed-is ipv6 Hello h b = let never : _≡_ {A = ℕ} 0 1 = cc in absurd (omega arith)
-packed-is ipv6 Assert h b = record { some = refl; base = b; body = λ es. refl }
-packed-is ipv6 Simple h b = record { some = refl; base = b; body = λ es. refl }
-packed-is ipv6 Aggregated h b = record { some = refl; base = b; body = λ es. refl }
-packed-is ipv6 NullRegister h b = record { some = refl; base = b; body = λ es. refl }
-packed-is ipv6 RegisterStop h b = record { some = refl; base = b; body = λ es. refl }
+packed-is ipv6 Hello h = let never : _≡_ {A = ℕ} 0 1 = cc in absurd (omega arith)
+packed-is ipv6 Assert h = record { some = refl; body = λ es. refl }
+packed-is ipv6 Simple h = record { some = refl; body = λ es. refl }
+packed-is ipv6 Aggregated h = record { some = refl; body = λ es. refl }
+packed-is ipv6 NullRegister h = record { some = refl; body = λ es. refl }
+packed-is ipv6 RegisterStop h = record { some = refl; body = λ es. refl }
 
 pub hello-never : (ipv6 : Bool) → Packs ipv6 Hello → ⊥
 hello-never ipv6 packs =

@@ -79,8 +79,6 @@ isPacked k = ltb 0 (formFor false k .atMost 1)
 
 pub record Packs (ipv6 : Bool) (k : Kind) : Type 0 where
   pub some : isPacked k ≡ true
-  -- aggregated records are written in IPv4 only
-  pub base : isAggregated k ≡ true → ipv6 ≡ false
   pub body : (es : List (entriesFor ipv6 k .Entry)) → formFor ipv6 k .body es ≡ frontOf k & recordsFor ipv6 k es
 
 -- as many records as there is room for past the head, and no more than there are entries

@@ -5,11 +5,11 @@ use crate::most::write_most;
 use format::Kind;
 use format::Refusal;
 ghost use mathlib.Core.Path.{_≡_};
-ghost use mathlib.Core.Bool.{true, false};
+ghost use mathlib.Core.Bool.{true};
 ghost use lib.ListN.{length};
 ghost use Rattle.format.specs.Family.{ipv4};
 ghost use Rattle.format.specs.Packing.{plain, simple, aggregated, nullRegister, registerStop, taken, pack, packing};
-ghost use Rattle.packing.specs.Kinds.{formFor, isAggregated, isPacked};
+ghost use Rattle.packing.specs.Kinds.{formFor, isPacked};
 ghost use Rattle.packing.specs.Answers.{packed};
 
 // What a packing call did.
@@ -21,7 +21,7 @@ pub enum Packing {
 
 // Packs a message of a kind.
 fn pack(ipv6: bool, kind: Kind, e: &[u8], start: usize, limit: usize, d: &mut [u8]) -> Packing
-    requires { ⌜ (isPacked kind ≡ true) × (isAggregated kind ≡ true → ipv6 ≡ false) ⌝ }
+    requires { ⌜ isPacked kind ≡ true ⌝ }
     ensures answer { λ r. ⌜ packed r ≡ packing (formFor ipv6 kind) (now (e .entry)) start limit (now (d .entry)) .answer ⌝ }
     ensures buffer { λ r. ⌜ now (d .exit) ≡ packing (formFor ipv6 kind) (now (e .entry)) start limit (now (d .entry)) .buffer ⌝ }
 {

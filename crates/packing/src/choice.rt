@@ -7,7 +7,7 @@ use crate::within::smaller;
 use format::Kind;
 use format::Refusal;
 ghost use mathlib.Core.Path.{_≡_};
-ghost use mathlib.Core.Bool.{false, _&&_, _||_};
+ghost use mathlib.Core.Bool.{_&&_, _||_};
 ghost use lib.Dec.{eqb, ltb};
 ghost use Rattle.format.specs.Family.{ipv4, familyOf};
 ghost use Rattle.format.specs.Packing.{choice};
@@ -46,7 +46,6 @@ fn both(
     simple: &mut [u8],
     aggregated: &mut [u8],
 ) -> Choice
-    requires { ⌜ ipv6 ≡ false ⌝ }
     ensures answer { λ r. ⌜ chosenBy r ≡ choice (familyOf ipv6) (now (e .entry)) start limit (now (simple .entry)) (now (aggregated .entry)) .answer ⌝ }
     ensures simple { λ r. ⌜ now (simple .exit) ≡ choice (familyOf ipv6) (now (e .entry)) start limit (now (simple .entry)) (now (aggregated .entry)) .simpleBuffer ⌝ }
     ensures aggregated { λ r. ⌜ now (aggregated .exit) ≡ choice (familyOf ipv6) (now (e .entry)) start limit (now (simple .entry)) (now (aggregated .entry)) .aggregatedBuffer ⌝ }

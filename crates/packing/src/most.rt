@@ -49,7 +49,7 @@ fn put_most(
 {
     let l = layout_of(kind);
     if l.aggregated {
-        return put_within(false, e, from, n, d, out, limit);
+        return put_within(ipv6, e, from, n, d, out, limit);
     }
     let taken = how_many_fixed(ipv6, kind, limit, n);
     let next = put_records(ipv6, kind, e, from, taken, d, out);

@@ -27,7 +27,7 @@ write-most-requires : tie.Need-write-most-requires
 write-most-requires c κs =
     let a = c .before .before .before .before .before .before .before .args in
     let h = asks (c .before) in
-    (packed-is (a .ipv6) (a .kind) (c .before .before .before .before .before .before .before .pre .0) (c .before .before .before .before .before .before .before .pre .1), h .inside, asked-limit (a .ipv6) (a .kind) (now (a .e)) (a .start) (a .limit) (length (now (a .d))) _ h, h .enough)
+    (packed-is (a .ipv6) (a .kind) (c .before .before .before .before .before .before .before .pre), h .inside, asked-limit (a .ipv6) (a .kind) (now (a .e)) (a .start) (a .limit) (length (now (a .d))) _ h, h .enough)
 
 returns : tie.Need-returns
 unfolding packed

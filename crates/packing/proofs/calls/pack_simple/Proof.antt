@@ -6,7 +6,7 @@ use Rattle.packing.proofs.calls.pack_simple.Statement.{statement}
 use Rattle.packing.proofs.calls.pack_simple.Tie as tie
 
 pack-requires : tie.Need-pack-requires
-pack-requires c κs = (refl, λ h. refl)
+pack-requires c κs = refl
 
 pub pack-simple-spec : {M : Type 1} → statement M
 pack-simple-spec = tie.close (tie.spec pack-requires (λ c. search needs) (λ c. search needs))

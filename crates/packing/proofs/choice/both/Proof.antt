@@ -56,13 +56,13 @@ write-most-requires : tie.Need-write-most-requires
 write-most-requires c κs =
     let a = c .before .before .before .before .before .before .before .before .before .args in
     let h = asks (c .before) in
-    (packed-is (a .ipv6) Simple refl (λ h. c .before .before .before .before .before .before .before .before .before .pre), h .inside, asked-limit (a .ipv6) Simple (now (a .e)) (a .start) (a .limit) _ _ h, omega (arith, h .enough))
+    (packed-is (a .ipv6) Simple refl, h .inside, asked-limit (a .ipv6) Simple (now (a .e)) (a .start) (a .limit) _ _ h, omega (arith, h .enough))
 
 write-most-requires-2 : tie.Need-write-most-requires-2
 write-most-requires-2 c κs =
     let a = c .before .before .before .before .before .before .before .before .before .before .before .before .before .args in
     let h = asks (c .before .before .before .before .before) in
-    (packed-is (a .ipv6) Aggregated refl (λ h. c .before .before .before .before .before .before .before .before .before .before .before .before .before .pre), h .inside, asked-limit (a .ipv6) Simple (now (a .e)) (a .start) (a .limit) _ _ h, omega (arith, h .enough))
+    (packed-is (a .ipv6) Aggregated refl, h .inside, asked-limit (a .ipv6) Simple (now (a .e)) (a .start) (a .limit) _ _ h, omega (arith, h .enough))
 
 returns : tie.Need-returns
 unfolding chosenBy

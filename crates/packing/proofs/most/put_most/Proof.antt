@@ -7,7 +7,7 @@ use mathlib.Core.Path.{_≡_, sym, ap, _∙_}
 use mathlib.Core.Bool.{false}
 use denote.Ref.{now}
 use borrow.Author.Needs.{needs}
-use Rattle.format.specs.Family.{familyOf, ipv4}
+use Rattle.format.specs.Family.{familyOf}
 use Rattle.format.specs.Entry.{entriesAt}
 use Rattle.format.specs.Packing.{taken}
 use Rattle.format.proofs.Entries.{length-entriesAt}
@@ -39,7 +39,7 @@ counted c =
 
 put-within-requires : tie.Need-put-within-requires
 put-within-requires c κs =
-    let there = rw (aggregated-is (c .before .before .before .before .before .args .kind) (sym (c .before .before .layout-of .ensures .3) ∙ c .before .if1 .taken), c .before .before .before .before .before .pre .0 .base (sym (c .before .before .layout-of .ensures .3) ∙ c .before .if1 .taken)) at (c .before .before .before .before .before .pre .2) in
+    let there = rw (aggregated-is (c .before .before .before .before .before .args .kind) (sym (c .before .before .layout-of .ensures .3) ∙ c .before .if1 .taken)) at (c .before .before .before .before .before .pre .2) in
     (there, omega (arith, head (c .before .before .before .before .before), c .before .before .before .before .before .pre .5), c .before .before .before .before .before .pre .4)
 
 returns : tie.Need-returns
@@ -47,11 +47,10 @@ unfolding recordsFor octetsOf recordsOf allOf
 returns c =
     let a = c .before .before .before .before .before .before .before .before .args in
     let kind = aggregated-is (a .kind) (sym (c .before .before .before .before .before .layout-of .ensures .3) ∙ c .before .before .before .before .if1 .taken) in
-    let base = c .before .before .before .before .before .before .before .before .pre .0 .base (sym (c .before .before .before .before .before .layout-of .ensures .3) ∙ c .before .before .before .before .if1 .taken) in
     let past : a .out ≡ 8 = rw kind at (c .before .before .before .before .before .before .before .before .pre .5) in
     let wrote = c .before .before .put-within .ensures in
     let fit = rw past at (wrote .0) in
-    rw (kind, base) (taken-within ipv4 (now (a .e)) (a .from) (a .n) (a .limit) _ (limit-head (familyOf (a .ipv6)) (a .limit) (c .before .before .before .before .before .before .before .before .pre .3)) (fit .inside) (fit .fits) (fit .full), wrote .1)
+    rw kind (taken-within (familyOf (a .ipv6)) (now (a .e)) (a .from) (a .n) (a .limit) _ (limit-head (familyOf (a .ipv6)) (a .limit) (c .before .before .before .before .before .before .before .before .pre .3)) (fit .inside) (fit .fits) (fit .full), wrote .1)
 
 how-many-fixed-requires : tie.Need-how-many-fixed-requires
 how-many-fixed-requires c κs = (c .before .before .before .before .pre .0, c .before .before .before .before .pre .1, head (c .before .before .before .before))
