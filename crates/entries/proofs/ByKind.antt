@@ -1,5 +1,6 @@
 -- What holds of the entries of every kind, over the family.
---     sized, size-pair, size-range     their size: group and source, and 8 octets more or none
+--     sized, by-size, by-range         their size: group and source, and 8 octets more or none
+--     size-pair, size-range            the same by the kind
 --     family-is                  their family
 --     group-at, source-at        group and source as code reads them
 --     allowed-is                 an entry is allowed by its group and its source, which may be 0 or not
@@ -28,16 +29,21 @@ pub sized : (f : Family) (asserts stop : Bool) → entriesBy f asserts stop .siz
 sized f true stop = refl
 sized f false stop = omega arith
 
-by-size : (f : Family) (asserts stop : Bool) → (2 * f .width ≤ entriesBy f asserts stop .size) × (entriesBy f asserts stop .size ≤ 2 * f .width + 8)
+pub by-size : (f : Family) (asserts stop : Bool) → (2 * f .width ≤ entriesBy f asserts stop .size) × (entriesBy f asserts stop .size ≤ 2 * f .width + 8)
 by-size f true stop = (omega arith, omega arith)
 by-size f false stop = (omega arith, omega arith)
+
+pub by-range : (ipv6 asserts stop : Bool) → (8 ≤ entriesBy (familyOf ipv6) asserts stop .size) × (entriesBy (familyOf ipv6) asserts stop .size ≤ 40)
+by-range ipv6 asserts stop =
+    let size = by-size (familyOf ipv6) asserts stop in
+    (omega (arith, size, width-range ipv6), omega (arith, size, width-range ipv6))
 
 module _ (ipv6 : Bool) (k : Kind) where
   pub size-pair : (2 * familyOf ipv6 .width ≤ entriesFor ipv6 k .size) × (entriesFor ipv6 k .size ≤ 2 * familyOf ipv6 .width + 8)
   size-pair = by-size (familyOf ipv6) (isAssert k) (isStop k)
 
   pub size-range : (8 ≤ entriesFor ipv6 k .size) × (entriesFor ipv6 k .size ≤ 40)
-  size-range = (omega (arith, size-pair, width-range ipv6), omega (arith, size-pair, width-range ipv6))
+  size-range = by-range ipv6 (isAssert k) (isStop k)
 
 by-family : (f : Family) (asserts stop : Bool) → entriesBy f asserts stop .family ≡ f
 by-family f true stop = refl

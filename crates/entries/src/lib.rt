@@ -8,11 +8,12 @@ use format::Kind;
 use format::r_bit;
 use octets::number32;
 ghost use mathlib.Core.Path.{_≡_};
+ghost use mathlib.Core.Bool.{Bool};
 ghost use Prim.Native.Nat.{_+_, _≤_};
 ghost use lib.ListN.{length};
 ghost use Rattle.format.specs.Family.{familyOf};
 ghost use Rattle.format.specs.Packing.{firstBad};
-ghost use Rattle.entries.specs.Kinds.{isAssert, isStop, entriesFor, zeroBy, listedBy};
+ghost use Rattle.entries.specs.Kinds.{isAssert, isStop, entriesBy, entriesFor, zeroBy, listedBy};
 
 // Whether the entries of a list are allowed.
 pub enum Listed {
@@ -48,32 +49,38 @@ fn is_stop(kind: Kind) -> bool
     }
 }
 
-// The octets of an entry.
-pub fn entry_size(ipv6: bool, kind: Kind) -> usize
-    ensures { λ r. ⌜ r ≡ entriesFor ipv6 kind .size ⌝ }
+// The octets of an entry: an assert has 8 more than a pair.
+fn size_by(ipv6: bool, asserts: bool) -> usize
+    ensures { λ r. ⌜ ((stop : Bool) → r ≡ entriesBy (familyOf ipv6) asserts stop .size) ⌝ }
 {
     let pair = 2 * width(ipv6);
-    if is_assert(kind) {
+    if asserts {
         return pair + 8;
     }
     pair
 }
 
-// Whether the source of an entry may be 0: of an assert by its R bit, of a pair by the kind.
-fn zero_allowed(ipv6: bool, kind: Kind, e: &[u8], at: usize) -> bool
-    requires { ⌜ at + entriesFor ipv6 kind .size ≤ length (now e) ⌝ }
-    ensures { λ r. ⌜ r ≡ zeroBy (familyOf ipv6) (isAssert kind) (isStop kind) (now (e .entry)) at ⌝ }
+pub fn entry_size(ipv6: bool, kind: Kind) -> usize
+    ensures { λ r. ⌜ r ≡ entriesFor ipv6 kind .size ⌝ }
 {
-    if is_assert(kind) {
+    size_by(ipv6, is_assert(kind))
+}
+
+// Whether the source of an entry may be 0: of an assert by its R bit, of a pair by the kind.
+fn zero_allowed(ipv6: bool, asserts: bool, stop: bool, e: &[u8], at: usize) -> bool
+    requires { ⌜ at + entriesBy (familyOf ipv6) asserts stop .size ≤ length (now e) ⌝ }
+    ensures { λ r. ⌜ r ≡ zeroBy (familyOf ipv6) asserts stop (now (e .entry)) at ⌝ }
+{
+    if asserts {
         return r_bit(number32(e, at + 2 * width(ipv6)));
     }
-    is_stop(kind)
+    stop
 }
 
 // Whether an entry is allowed: by its group, and by its source, which is not 0 where it may not be.
-fn allowed(ipv6: bool, kind: Kind, e: &[u8], at: usize) -> bool
-    requires { ⌜ at + entriesFor ipv6 kind .size ≤ length (now e) ⌝ }
-    ensures { λ r. ⌜ r ≡ entriesFor ipv6 kind .allowedAt (now (e .entry)) at ⌝ }
+fn allowed(ipv6: bool, asserts: bool, stop: bool, e: &[u8], at: usize) -> bool
+    requires { ⌜ at + entriesBy (familyOf ipv6) asserts stop .size ≤ length (now e) ⌝ }
+    ensures { λ r. ⌜ r ≡ entriesBy (familyOf ipv6) asserts stop .allowedAt (now (e .entry)) at ⌝ }
 {
     if !is_multicast(ipv6, e[at]) {
         return false;
@@ -83,14 +90,14 @@ fn allowed(ipv6: bool, kind: Kind, e: &[u8], at: usize) -> bool
     if is_source(ipv6, source) {
         return true;
     }
-    zero_allowed(ipv6, kind, e, at)
+    zero_allowed(ipv6, asserts, stop, e, at)
 }
 
-// The first entry from a number on that a message of a kind may not have.
-pub fn first_bad(ipv6: bool, kind: Kind, e: &[u8], start: usize) -> Listed
-    ensures { λ r. ⌜ listedBy r ≡ firstBad (entriesFor ipv6 kind) (now (e .entry)) start ⌝ }
+// The first entry from a number on that is not allowed.
+fn first_bad_of(ipv6: bool, asserts: bool, stop: bool, e: &[u8], start: usize) -> Listed
+    ensures { λ r. ⌜ listedBy r ≡ firstBad (entriesBy (familyOf ipv6) asserts stop) (now (e .entry)) start ⌝ }
 {
-    let size = entry_size(ipv6, kind);
+    let size = size_by(ipv6, asserts);
     let count = e.len() / size;
     if count < start {
         return Listed::Allowed;
@@ -98,11 +105,25 @@ pub fn first_bad(ipv6: bool, kind: Kind, e: &[u8], start: usize) -> Listed
     let mut i = start;
     let mut at = size * start;
     while i < count {
-        if !allowed(ipv6, kind, e, at) {
+        if !allowed(ipv6, asserts, stop, e, at) {
             return Listed::Bad(i);
         }
         i += 1;
         at += size;
     }
     Listed::Allowed
+}
+
+// The first entry from a number on that a message of a kind may not have. The loop is called with literals, so that the
+// compiler makes one for each sort of entry.
+pub fn first_bad(ipv6: bool, kind: Kind, e: &[u8], start: usize) -> Listed
+    ensures { λ r. ⌜ listedBy r ≡ firstBad (entriesFor ipv6 kind) (now (e .entry)) start ⌝ }
+{
+    if is_assert(kind) {
+        return first_bad_of(ipv6, true, false, e, start);
+    }
+    if is_stop(kind) {
+        return first_bad_of(ipv6, false, true, e, start);
+    }
+    first_bad_of(ipv6, false, false, e, start)
 }

@@ -9,15 +9,15 @@ use borrow.Author.Tests.{not-true, not-false}
 use borrow.Author.Needs.{needs}
 use Rattle.octets.specs.Octets.{numberAt}
 use Rattle.format.specs.Family.{familyOf}
-use Rattle.entries.specs.Kinds.{isAssert, isStop, zeroBy}
-use Rattle.entries.proofs.ByKind.{size-pair, group-at, source-at, allowed-is, some-source, no-source}
+use Rattle.entries.specs.Kinds.{zeroBy}
+use Rattle.entries.proofs.ByKind.{by-size, group-at, source-at, allowed-is, some-source, no-source}
 use Rattle.entries.proofs.allowed.Statement.{statement}
 use Rattle.entries.proofs.allowed.Tie as tie
 use Rattle.addresses.proofs.Laws.{width-range}
 
 -- group and source are there, in an entry of either size
 there : (c : tie.Start) → c .args .at + 2 * familyOf (c .args .ipv6) .width ≤ length (now (c .args .e))
-there c = omega (arith, c .pre, size-pair (c .args .ipv6) (c .args .kind))
+there c = omega (arith, c .pre, by-size (familyOf (c .args .ipv6)) (c .args .asserts) (c .args .stop))
 
 shared-slice-read-is-multicast : tie.Need-shared-slice-read-is-multicast
 shared-slice-read-is-multicast c = omega (arith, there (c .before .before), width-range (c .before .before .args .ipv6))
@@ -31,7 +31,7 @@ group-is c =
 returns : tie.Need-returns
 returns c =
     let a = c .before .before .before .before .args in
-    rw (allowed-is (familyOf (a .ipv6)) (isAssert (a .kind)) (isStop (a .kind)) (now (a .e)) (a .at), group-is (c .before), not-true (c .before .is-multicast .result) (c .if1 .taken))
+    rw (allowed-is (familyOf (a .ipv6)) (a .asserts) (a .stop) (now (a .e)) (a .at), group-is (c .before), not-true (c .before .is-multicast .result) (c .if1 .taken))
 
 part-address-at-end : tie.Need-part-address-at-end
 part-address-at-end c = omega (arith, there (c .before .before .before .before .before), c .width .ensures)
@@ -48,15 +48,15 @@ returns-2 : tie.Need-returns-2
 returns-2 c =
     let a = c .before .before .before .before .before .before .before .before .before .args in
     let f = familyOf (a .ipv6) in
-    rw (allowed-is f (isAssert (a .kind)) (isStop (a .kind)) (now (a .e)) (a .at), group-is (c .before .before .before .before .before .before), not-false (c .before .before .before .before .before .before .is-multicast .result) (c .before .before .before .before .before .if1 .left))
-    (sym (some-source f (zeroBy f (isAssert (a .kind)) (isStop (a .kind)) (now (a .e)) (a .at)) _ (sym (source-is (c .before)) ∙ c .if2 .taken)))
+    rw (allowed-is f (a .asserts) (a .stop) (now (a .e)) (a .at), group-is (c .before .before .before .before .before .before), not-false (c .before .before .before .before .before .before .is-multicast .result) (c .before .before .before .before .before .if1 .left))
+    (sym (some-source f (zeroBy f (a .asserts) (a .stop) (now (a .e)) (a .at)) _ (sym (source-is (c .before)) ∙ c .if2 .taken)))
 
 returns-3 : tie.Need-returns-3
 returns-3 c =
     let a = c .before .before .before .before .before .before .before .before .before .before .args in
     let f = familyOf (a .ipv6) in
-    rw (allowed-is f (isAssert (a .kind)) (isStop (a .kind)) (now (a .e)) (a .at), group-is (c .before .before .before .before .before .before .before), not-false (c .before .before .before .before .before .before .before .is-multicast .result) (c .before .before .before .before .before .before .if1 .left))
-    (c .zero-allowed .ensures ∙ sym (no-source (a .ipv6) (zeroBy f (isAssert (a .kind)) (isStop (a .kind)) (now (a .e)) (a .at)) _ (sym (source-is (c .before .before)) ∙ c .before .if2 .left)))
+    rw (allowed-is f (a .asserts) (a .stop) (now (a .e)) (a .at), group-is (c .before .before .before .before .before .before .before), not-false (c .before .before .before .before .before .before .before .is-multicast .result) (c .before .before .before .before .before .before .if1 .left))
+    (c .zero-allowed .ensures ∙ sym (no-source (a .ipv6) (zeroBy f (a .asserts) (a .stop) (now (a .e)) (a .at)) _ (sym (source-is (c .before .before)) ∙ c .before .if2 .left)))
 
 pub allowed-spec : {M : Type 1} → statement M
 allowed-spec =
