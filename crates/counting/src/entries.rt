@@ -11,10 +11,11 @@ use fields::in_record;
 use fields::octets_check;
 use fields::pair_check;
 use format::Kind;
+use format::Refusal;
 ghost use mathlib.Core.Path.{_≡_};
 ghost use Prim.Native.Nat.{_≤_};
 ghost use lib.ListN.{length};
-ghost use Rattle.format.specs.Reader.{toEnd, records};
+ghost use Rattle.format.specs.Reader.{bad, toEnd, records};
 ghost use Rattle.format.specs.Family.{familyOf};
 ghost use Rattle.format.specs.Record.{pairRecord};
 ghost use Rattle.format.specs.Body.{assertsBody, pairsBody};
@@ -108,6 +109,12 @@ fn packed_check(m: &[u8]) -> Checked
     Checked::Next(first)
 }
 
+fn refused(number: u8, place: usize) -> Counted
+    ensures { λ r. ⌜ counted r ≡ bad number place ⌝ }
+{
+    Counted::Bad(Refusal { number, place })
+}
+
 // One assert record, and nothing more.
 fn count_plain(ipv6: bool, m: &[u8]) -> Counted
     ensures { λ r. ⌜ counted r ≡ tallied length (assertsBody (familyOf ipv6) Kind.Assert (now (m .entry)) 4) ⌝ }
@@ -117,7 +124,7 @@ fn count_plain(ipv6: bool, m: &[u8]) -> Counted
         return with_count(0, c);
     };
     if next < m.len() {
-        return with_count(0, bad(6, next));
+        return refused(6, next);
     }
     Counted::All { entries: 1, next }
 }
@@ -138,12 +145,12 @@ pub fn count_asserts(ipv6: bool, kind: Kind, m: &[u8]) -> Counted
     ensures { λ r. ⌜ counted r ≡ tallied length (assertsBody (familyOf ipv6) kind (now (m .entry)) 4) ⌝ }
 {
     match kind {
-        Kind::Hello => with_count(0, bad(4, 0)),
+        Kind::Hello => refused(4, 0),
         Kind::Assert => count_plain(ipv6, m),
         Kind::Simple => count_packed(ipv6, false, m),
         Kind::Aggregated => count_packed(ipv6, true, m),
-        Kind::NullRegister => with_count(0, bad(4, 0)),
-        Kind::RegisterStop => with_count(0, bad(4, 0)),
+        Kind::NullRegister => refused(4, 0),
+        Kind::RegisterStop => refused(4, 0),
     }
 }
 
@@ -152,7 +159,7 @@ fn count_register(ipv6: bool, zero_allowed: bool, m: &[u8]) -> Counted
     ensures { λ r. ⌜ counted r ≡ tallied length (records (pairRecord (familyOf ipv6) «zero_allowed») (now (m .entry)) 4) ⌝ }
 {
     if m.len() <= 4 {
-        return with_count(0, bad(5, 4));
+        return refused(5, 4);
     }
     count_to_end(ipv6, false, false, zero_allowed, m, 4)
 }
@@ -162,10 +169,10 @@ pub fn count_pairs(ipv6: bool, kind: Kind, m: &[u8]) -> Counted
     ensures { λ r. ⌜ counted r ≡ tallied length (pairsBody (familyOf ipv6) kind (now (m .entry)) 4) ⌝ }
 {
     match kind {
-        Kind::Hello => with_count(0, bad(4, 0)),
-        Kind::Assert => with_count(0, bad(4, 0)),
-        Kind::Simple => with_count(0, bad(4, 0)),
-        Kind::Aggregated => with_count(0, bad(4, 0)),
+        Kind::Hello => refused(4, 0),
+        Kind::Assert => refused(4, 0),
+        Kind::Simple => refused(4, 0),
+        Kind::Aggregated => refused(4, 0),
         Kind::NullRegister => count_register(ipv6, false, m),
         Kind::RegisterStop => count_register(ipv6, true, m),
     }

@@ -1,16 +1,14 @@
 -- `counting::entries::count_asserts` meets its contract, kind by kind.
 -- Assumes nothing.
-use mathlib.Core.Path.{ap, _∙_}
 use borrow.Author.Needs.{needs}
 use Rattle.format.specs.Body.{assertsBody}
-use Rattle.fields.specs.Answers.{checked}
 use Rattle.counting.specs.Counts.{tallied}
 use Rattle.counting.proofs.entries.count_asserts.Statement.{statement}
 use Rattle.counting.proofs.entries.count_asserts.Tie as tie
 
 returns : tie.Need-returns
-unfolding assertsBody checked tallied
-returns c = rw (c .before .before .enum-told .given .1) (c .with-count .ensures ∙ ap (λ x. tallied (λ u. 0) (checked x)) (c .before .bad .ensures))
+unfolding assertsBody tallied
+returns c = rw (c .before .enum-told .given .1) (c .refused .ensures)
 
 returns-2 : tie.Need-returns-2
 returns-2 c = rw (c .before .enum-told2 .given .1) (c .count-plain .ensures)
@@ -22,12 +20,12 @@ returns-4 : tie.Need-returns-4
 returns-4 c = rw (c .before .enum-told4 .given .1) (c .count-packed2 .ensures)
 
 returns-5 : tie.Need-returns-5
-unfolding assertsBody checked tallied
-returns-5 c = rw (c .before .before .enum-told5 .given .1) (c .with-count2 .ensures ∙ ap (λ x. tallied (λ u. 0) (checked x)) (c .before .bad2 .ensures))
+unfolding assertsBody tallied
+returns-5 c = rw (c .before .enum-told5 .given .1) (c .refused2 .ensures)
 
 returns-6 : tie.Need-returns-6
-unfolding assertsBody checked tallied
-returns-6 c = rw (c .before .before .enum-told6 .given .1) (c .with-count3 .ensures ∙ ap (λ x. tallied (λ u. 0) (checked x)) (c .before .bad3 .ensures))
+unfolding assertsBody tallied
+returns-6 c = rw (c .before .enum-told6 .given .1) (c .refused3 .ensures)
 
 pub count-asserts-spec : {M : Type 1} → statement M
 count-asserts-spec =
@@ -35,7 +33,6 @@ count-asserts-spec =
     (tie.spec
     (λ c. search needs)
     (λ c κs. search needs)
-    (λ c κs. search needs)
     (λ c. search needs)
     (λ c κs. search needs)
     (λ c. search needs)
@@ -44,9 +41,7 @@ count-asserts-spec =
     (λ c κs. search needs)
     (λ c. search needs)
     (λ c κs. search needs)
-    (λ c κs. search needs)
     (λ c. search needs)
-    (λ c κs. search needs)
     (λ c κs. search needs)
     returns
     returns-2

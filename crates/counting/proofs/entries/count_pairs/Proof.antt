@@ -1,28 +1,26 @@
 -- `counting::entries::count_pairs` meets its contract, kind by kind.
 -- Assumes nothing.
-use mathlib.Core.Path.{ap, _∙_}
 use borrow.Author.Needs.{needs}
 use Rattle.format.specs.Body.{pairsBody}
-use Rattle.fields.specs.Answers.{checked}
 use Rattle.counting.specs.Counts.{tallied}
 use Rattle.counting.proofs.entries.count_pairs.Statement.{statement}
 use Rattle.counting.proofs.entries.count_pairs.Tie as tie
 
 returns : tie.Need-returns
-unfolding pairsBody checked tallied
-returns c = rw (c .before .before .enum-told .given .1) (c .with-count .ensures ∙ ap (λ x. tallied (λ u. 0) (checked x)) (c .before .bad .ensures))
+unfolding pairsBody tallied
+returns c = rw (c .before .enum-told .given .1) (c .refused .ensures)
 
 returns-2 : tie.Need-returns-2
-unfolding pairsBody checked tallied
-returns-2 c = rw (c .before .before .enum-told2 .given .1) (c .with-count2 .ensures ∙ ap (λ x. tallied (λ u. 0) (checked x)) (c .before .bad2 .ensures))
+unfolding pairsBody tallied
+returns-2 c = rw (c .before .enum-told2 .given .1) (c .refused2 .ensures)
 
 returns-3 : tie.Need-returns-3
-unfolding pairsBody checked tallied
-returns-3 c = rw (c .before .before .enum-told3 .given .1) (c .with-count3 .ensures ∙ ap (λ x. tallied (λ u. 0) (checked x)) (c .before .bad3 .ensures))
+unfolding pairsBody tallied
+returns-3 c = rw (c .before .enum-told3 .given .1) (c .refused3 .ensures)
 
 returns-4 : tie.Need-returns-4
-unfolding pairsBody checked tallied
-returns-4 c = rw (c .before .before .enum-told4 .given .1) (c .with-count4 .ensures ∙ ap (λ x. tallied (λ u. 0) (checked x)) (c .before .bad4 .ensures))
+unfolding pairsBody tallied
+returns-4 c = rw (c .before .enum-told4 .given .1) (c .refused4 .ensures)
 
 returns-5 : tie.Need-returns-5
 unfolding pairsBody
@@ -38,15 +36,11 @@ count-pairs-spec =
     (tie.spec
     (λ c. search needs)
     (λ c κs. search needs)
+    (λ c. search needs)
     (λ c κs. search needs)
     (λ c. search needs)
     (λ c κs. search needs)
-    (λ c κs. search needs)
     (λ c. search needs)
-    (λ c κs. search needs)
-    (λ c κs. search needs)
-    (λ c. search needs)
-    (λ c κs. search needs)
     (λ c κs. search needs)
     (λ c. search needs)
     (λ c κs. search needs)

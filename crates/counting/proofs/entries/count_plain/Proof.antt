@@ -3,9 +3,8 @@
 use denote.Ref.{now}
 use borrow.Author.Needs.{needs}
 use Rattle.format.specs.Family.{familyOf}
-use mathlib.Core.Path.{ap, _∙_}
-use Rattle.fields.specs.Answers.{checked}
-use Rattle.counting.specs.Counts.{counted, tallied}
+use mathlib.Core.Path.{_∙_}
+use Rattle.counting.specs.Counts.{counted}
 use Rattle.counting.proofs.Bodies.{plain-bad, plain-more, plain-end}
 use Rattle.counting.proofs.entries.count_plain.Statement.{statement}
 use Rattle.counting.proofs.entries.count_plain.Tie as tie
@@ -14,11 +13,10 @@ returns : tie.Need-returns
 returns c = plain-bad (familyOf (c .before .before .before .before .before .args .ipv6)) (now (c .before .before .before .before .before .args .m)) (c .before .enum-told .given .1) (c .before .before .before .assert-check .ensures) (c .with-count .ensures)
 
 returns-2 : tie.Need-returns-2
-unfolding checked tallied
 returns-2 c =
-    c .with-count2 .ensures
-    ∙ ap (λ x. tallied (λ u. 0) (checked x)) (c .before .bad .ensures)
-    ∙ plain-more (familyOf (c .before .before .before .before .before .before .before .before .args .ipv6)) (now (c .before .before .before .before .before .before .before .before .args .m)) (c .before .before .before .before .c .given .1) (c .before .before .before .before .before .before .assert-check .ensures) (c .before .before .if1 .taken)
+    let d = c .before .before in
+    let a = d .before .before .before .before .before .args in
+    c .refused .ensures ∙ plain-more (familyOf (a .ipv6)) (now (a .m)) (d .before .c .given .1) (d .before .before .before .assert-check .ensures) (c .before .if1 .taken)
 
 returns-3 : tie.Need-returns-3
 unfolding counted
@@ -33,7 +31,6 @@ count-plain-spec =
     (λ c. search needs)
     (λ c κs. search needs)
     returns
-    (λ c κs. search needs)
     (λ c κs. search needs)
     returns-2
     returns-3)

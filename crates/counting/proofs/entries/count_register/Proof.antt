@@ -7,19 +7,16 @@ use mathlib.Core.Path.{sym, ap, _∙_}
 use lib.ListN.{length}
 use Rattle.format.specs.Family.{familyOf}
 use Rattle.format.specs.Record.{pairRecord}
-use Rattle.fields.specs.Answers.{checked}
 use Rattle.counting.specs.Counts.{tallied}
 use Rattle.counting.proofs.Bodies.{count-pairs, records-none-left, records-left}
 use Rattle.counting.proofs.entries.count_register.Statement.{statement}
 use Rattle.counting.proofs.entries.count_register.Tie as tie
 
 returns : tie.Need-returns
-unfolding checked tallied
+unfolding tallied
 returns c =
-    let a = c .before .before .before .before .args in
-    c .with-count .ensures
-    ∙ ap (λ x. tallied (λ u. 0) (checked x)) (c .before .bad .ensures)
-    ∙ sym (ap (tallied length) (records-none-left (pairRecord (familyOf (a .ipv6)) (a .zero-allowed)) (now (a .m)) 4 (omega arith)))
+    let a = c .before .before .before .args in
+    c .refused .ensures ∙ sym (ap (tallied length) (records-none-left (pairRecord (familyOf (a .ipv6)) (a .zero-allowed)) (now (a .m)) 4 (omega arith)))
 
 returns-2 : tie.Need-returns-2
 returns-2 c =
@@ -30,4 +27,4 @@ returns-2 c =
 
 pub count-register-spec : {M : Type 1} → statement M
 count-register-spec =
-    tie.close (tie.spec (λ c κs. search needs) (λ c κs. search needs) returns (λ c κs. search needs) returns-2)
+    tie.close (tie.spec (λ c κs. search needs) returns (λ c κs. search needs) returns-2)
