@@ -7,14 +7,11 @@ use addresses::is_zero;
 use addresses::mask_length;
 use addresses::width;
 use format::Refusal;
-use octets::number32;
 ghost use mathlib.Core.Path.{_≡_};
 ghost use mathlib.Core.Bool.{_&&_};
 ghost use Prim.Native.Nat.{_≤_};
 ghost use lib.Dec.{eqb};
 ghost use lib.ListN.{length};
-ghost use Rattle.octets.specs.Octets.{numberAt};
-ghost use Rattle.records.specs.Records.{rBit};
 ghost use Rattle.records.specs.Sizes.{groupSize, sourceSize};
 ghost use Rattle.format.specs.Reader.{octets, handUp};
 ghost use Rattle.format.specs.Family.{familyOf};
@@ -91,13 +88,6 @@ pub fn is_source(ipv6: bool, s: &[u8], zero_allowed: bool) -> bool
         return is_zero(a);
     }
     false
-}
-
-// R, the highest bit of the word that it has with the metric preference. A caller lends the four octets.
-pub fn r_bit(word: &[u8]) -> bool
-    ensures { λ r. ⌜ r ≡ rBit (numberAt 4 (now (word .entry)) 0) ⌝ }
-{
-    0x8000_0000 <= number32(word, 0)
 }
 
 // The octets of a group, or of a source.

@@ -15,7 +15,6 @@ pub use field::is_address;
 pub use field::is_group;
 pub use field::is_source;
 pub use field::octets_check;
-pub use field::r_bit;
 pub use field::source_check;
 pub use record::Single;
 pub use record::assert_check;
