@@ -1,5 +1,5 @@
-// Fields of either family: whether the octets of one are allowed. A check finds the place past a field that is there whole
-// and allowed, or the refusal, at the field's own place.
+// Fields of either family: whether the octets of one are allowed. A check finds the place past a field that is there
+// whole and allowed, or the refusal, at the field's own place.
 use addresses::address_at;
 use addresses::family_number;
 use addresses::is_multicast;
