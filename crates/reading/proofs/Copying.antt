@@ -23,7 +23,7 @@ use borrow.Author.Tests.{le-leb, lt-leb}
 use borrow.Rule.Slice.PartMut.{putMid}
 use Rattle.octets.specs.Octets.{Octets, numberAt, be, put, copied}
 use Rattle.octets.proofs.Laws.{put-nil, put-put, put-next, length-put, length-be, copied-number}
-use Rattle.records.specs.Records.{rBit, AssertRecord, assert, PairRecord, ofGroup, AggregatedRecord, ofSource, ofRp, groupEntries, allGroupEntries, entries, allEntries}
+use Rattle.records.specs.Records.{rBit, AssertRecord, assert, ofGroup, AggregatedRecord, ofSource, ofRp, groupEntries, allGroupEntries, entries, allEntries}
 use Rattle.records.specs.Sizes.{groupRecordSize, groupRecordsSize, aggregatedSize, allSize}
 use Rattle.format.specs.Family.{Family}
 use Rattle.format.specs.Entry.{assertEntryOctets, pairEntryOctets}

@@ -8,7 +8,7 @@
 -- The numbers of one assert record and of one pair are in Answers.antt of the crate fields. That a reader of the crate format that gives a value
 -- gives this one is proved in proofs/.
 -- Assumes nothing: these are definitions.
-use Prim.Native.Nat.{ℕ, zero, suc, _+_, _*_}
+use Prim.Native.Nat.{ℕ, zero, suc, _+_}
 use mathlib.Core.Bool.{Bool, true, false, cond}
 use mathlib.Core.List.{List, [], _∷_, map}
 use lib.ListN.{length}

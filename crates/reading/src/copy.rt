@@ -6,7 +6,6 @@
 use addresses::copy_address;
 use addresses::width;
 use format::r_bit;
-use octets::copy4;
 use octets::number16;
 use octets::number32;
 ghost use mathlib.Core.Path.{_≡_};
@@ -33,13 +32,14 @@ pub(crate) fn either(first: bool, a: usize, b: usize) -> usize
     b
 }
 
-// R with preference, and metric.
-fn copy_words(m: &[u8], word: usize, d: &mut [u8], out: usize)
-    requires { ⌜ (word + 8 ≤ length (now m)) × (out + 8 ≤ length (now d)) ⌝ }
-    ensures { λ r. ⌜ now (d .exit) ≡ put (now (d .entry)) out (be 4 (numberAt 4 (now (m .entry)) word) ++ be 4 (numberAt 4 (now (m .entry)) (word + 4))) ⌝ }
+// Two fields of one size, one after another: addresses of a family, or words, which are as long as an IPv4 address.
+fn copy_two(ipv6: bool, m: &[u8], first: usize, s: &[u8], second: usize, d: &mut [u8], out: usize)
+    requires { ⌜ (first + familyOf ipv6 .width ≤ length (now m)) × (second + familyOf ipv6 .width ≤ length (now s)) × (out + 2 * familyOf ipv6 .width ≤ length (now d)) ⌝ }
+    ensures { λ r. ⌜ now (d .exit) ≡ put (now (d .entry)) out (be (familyOf ipv6 .width) (numberAt (familyOf ipv6 .width) (now (m .entry)) first) ++ be (familyOf ipv6 .width) (numberAt (familyOf ipv6 .width) (now (s .entry)) second)) ⌝ }
 {
-    copy4(&m[word..word + 4], &mut d[out..out + 4]);
-    copy4(&m[word + 4..word + 8], &mut d[out + 4..out + 8]);
+    let w = width(ipv6);
+    copy_address(ipv6, &m[first..first + w], &mut d[out..out + w]);
+    copy_address(ipv6, &s[second..second + w], &mut d[out + w..out + 2 * w]);
 }
 
 // An entry, from the places of its group and, of an assert, of its word R with preference, after which the metric stands.
@@ -58,12 +58,9 @@ fn copy_entry(
     requires { ⌜ (group + familyOf ipv6 .width ≤ length (now m)) × (source + familyOf ipv6 .width ≤ length (now s)) × (word + words «is_assert» ≤ length (now m)) × (out + (2 * familyOf ipv6 .width + words «is_assert») ≤ length (now d)) ⌝ }
     ensures { λ r. ⌜ now (d .exit) ≡ put (now (d .entry)) out (entriesFor «is_assert» (familyOf ipv6) .octetsOf (entryWith «is_assert» (familyOf ipv6) (numberAt (familyOf ipv6 .width) (now (m .entry)) group) (numberAt (familyOf ipv6 .width) (now (s .entry)) source) (numberAt 4 (now (m .entry)) word) (numberAt 4 (now (m .entry)) (word + 4)))) ⌝ }
 {
-    let w = width(ipv6);
-    copy_address(ipv6, &m[group..group + w], &mut d[out..out + w]);
-    let past = out + 2 * w;
-    copy_address(ipv6, &s[source..source + w], &mut d[out + w..past]);
+    copy_two(ipv6, m, group, s, source, d, out);
     if is_assert {
-        copy_words(m, word, d, past);
+        copy_two(false, m, word, m, word + 4, d, out + 2 * width(ipv6));
     }
 }
 
