@@ -1,6 +1,6 @@
 -- What holds of every kind, and of those whose records have one length.
---     record-long, record-short      the record of an assert entry, and of a pair, as code writes it
---     record-sized                   a record is 6 octets longer than its entry
+--     record-long, record-short, record-is     the record of an assert entry, and of a pair, as code writes it
+--     by-sized, record-sized         a record is 6 octets longer than its entry
 --     kind-is, most-is               a form is of its kind, and takes no more than there is
 --     front-long, front-short, head-range, limit-head     the beginning of a message, with Zero and Reserved or without
 --     packed-is, hello-never         the five kinds that are packed, and the one that is not
@@ -54,45 +54,33 @@ record-sized ipv6 k e = by-sized (familyOf ipv6) (isAssert k) (isStop k) e
 
 -- ---- forms
 
+-- a law for each kind, in the order of the kinds
+by-kinds : (P : Kind → Type 0) → P Hello → P Assert → P Simple → P Aggregated → P NullRegister → P RegisterStop → (k : Kind) → P k
+by-kinds P h p s a n r Hello = h
+by-kinds P h p s a n r Assert = p
+by-kinds P h p s a n r Simple = s
+by-kinds P h p s a n r Aggregated = a
+by-kinds P h p s a n r NullRegister = n
+by-kinds P h p s a n r RegisterStop = r
+
 pub kind-is : (ipv6 : Bool) (k : Kind) → formFor ipv6 k .kind ≡ k
-kind-is ipv6 Hello = refl
-kind-is ipv6 Assert = refl
-kind-is ipv6 Simple = refl
-kind-is ipv6 Aggregated = refl
-kind-is ipv6 NullRegister = refl
-kind-is ipv6 RegisterStop = refl
+kind-is ipv6 = by-kinds (λ k. formFor ipv6 k .kind ≡ k) refl refl refl refl refl refl
 
 pub most-is : (ipv6 : Bool) (k : Kind) (n : ℕ) → formFor ipv6 k .atMost n ≤ n
-most-is ipv6 Hello n = omega arith
-most-is ipv6 Assert n = omega arith
-most-is ipv6 Simple n = omega arith
-most-is ipv6 Aggregated n = omega arith
-most-is ipv6 NullRegister n = omega arith
-most-is ipv6 RegisterStop n = omega arith
+most-is ipv6 k n = by-kinds (λ k. formFor ipv6 k .atMost n ≤ n) (omega arith) (omega arith) (omega arith) (omega arith) (omega arith) (omega arith) k
 
 pub front-long : (k : Kind) → headSize k ≡ 8 → frontOf k ≡ zeros
-front-long Hello h = absurd (omega arith)
-front-long Assert h = absurd (omega arith)
-front-long Simple h = refl
-front-long Aggregated h = refl
-front-long NullRegister h = absurd (omega arith)
-front-long RegisterStop h = absurd (omega arith)
+front-long =
+    by-kinds (λ k. headSize k ≡ 8 → frontOf k ≡ zeros)
+    (λ h. absurd (omega arith)) (λ h. absurd (omega arith)) (λ h. refl) (λ h. refl) (λ h. absurd (omega arith)) (λ h. absurd (omega arith))
 
 pub front-short : (k : Kind) → (headSize k ≡ 8 → ⊥) → frontOf k ≡ []
-front-short Hello h = refl
-front-short Assert h = refl
-front-short Simple h = absurd (h refl)
-front-short Aggregated h = absurd (h refl)
-front-short NullRegister h = refl
-front-short RegisterStop h = refl
+front-short =
+    by-kinds (λ k. (headSize k ≡ 8 → ⊥) → frontOf k ≡ [])
+    (λ h. refl) (λ h. refl) (λ h. absurd (h refl)) (λ h. absurd (h refl)) (λ h. refl) (λ h. refl)
 
 pub head-range : (k : Kind) → headSize k ≤ 8
-head-range Hello = omega arith
-head-range Assert = omega arith
-head-range Simple = omega arith
-head-range Aggregated = omega arith
-head-range NullRegister = omega arith
-head-range RegisterStop = omega arith
+head-range = by-kinds (λ k. headSize k ≤ 8) (omega arith) (omega arith) (omega arith) (omega arith) (omega arith) (omega arith)
 
 pub limit-head : (f : Family) (l : ℕ) → leastLimit f ≤ l → 8 ≤ l
 unfolding leastLimit
@@ -114,41 +102,26 @@ hello-never ipv6 packs =
     let never : _≡_ {A = ℕ} 0 1 = cc in
     omega arith
 
-module _ (ipv6 : Bool) (n : ℕ) where
-  pub most-one : (k : Kind) → 0 < n → takesOne k ≡ true → formFor ipv6 k .atMost n ≡ 1
-  unfolding takesOne
-  most-one Hello some h = cc
-  most-one Assert some h = omega arith
-  most-one Simple some h = cc
-  most-one Aggregated some h = cc
-  most-one NullRegister some h = cc
-  most-one RegisterStop some h = cc
+pub most-one : (ipv6 : Bool) (n : ℕ) (k : Kind) → 0 < n → takesOne k ≡ true → formFor ipv6 k .atMost n ≡ 1
+unfolding takesOne
+most-one ipv6 n =
+    by-kinds (λ k. 0 < n → takesOne k ≡ true → formFor ipv6 k .atMost n ≡ 1)
+    (λ some h. cc) (λ some h. omega arith) (λ some h. cc) (λ some h. cc) (λ some h. cc) (λ some h. cc)
 
-  pub most-all : (k : Kind) → Packs ipv6 k → takesOne k ≡ false → formFor ipv6 k .atMost n ≡ n
-  unfolding takesOne
-  most-all Hello packs h = absurd (hello-never ipv6 packs)
-  most-all Assert packs h = cc
-  most-all Simple packs h = refl
-  most-all Aggregated packs h = refl
-  most-all NullRegister packs h = refl
-  most-all RegisterStop packs h = refl
+pub most-all : (ipv6 : Bool) (n : ℕ) (k : Kind) → Packs ipv6 k → takesOne k ≡ false → formFor ipv6 k .atMost n ≡ n
+unfolding takesOne
+most-all ipv6 n =
+    by-kinds (λ k. Packs ipv6 k → takesOne k ≡ false → formFor ipv6 k .atMost n ≡ n)
+    (λ packs h. absurd (hello-never ipv6 packs)) (λ packs h. cc) (λ packs h. refl) (λ packs h. refl) (λ packs h. refl) (λ packs h. refl)
 
 -- ---- which kind has records of runs
 
 pub aggregated-is : (k : Kind) → isAggregated k ≡ true → k ≡ Aggregated
 unfolding isAggregated
-aggregated-is Hello h = cc
-aggregated-is Assert h = cc
-aggregated-is Simple h = cc
-aggregated-is Aggregated h = refl
-aggregated-is NullRegister h = cc
-aggregated-is RegisterStop h = cc
+aggregated-is = by-kinds (λ k. isAggregated k ≡ true → k ≡ Aggregated) (λ h. cc) (λ h. cc) (λ h. cc) (λ h. refl) (λ h. cc) (λ h. cc)
 
 pub each-record : (ipv6 : Bool) (k : Kind) → isAggregated k ≡ false → (es : List (entriesFor ipv6 k .Entry)) → recordsFor ipv6 k es ≡ each (recordOctets ipv6 k) es
 unfolding isAggregated recordsFor
-each-record ipv6 Hello h es = refl
-each-record ipv6 Assert h es = refl
-each-record ipv6 Simple h es = refl
-each-record ipv6 Aggregated h es = cc
-each-record ipv6 NullRegister h es = refl
-each-record ipv6 RegisterStop h es = refl
+each-record ipv6 =
+    by-kinds (λ k. isAggregated k ≡ false → (es : List (entriesFor ipv6 k .Entry)) → recordsFor ipv6 k es ≡ each (recordOctets ipv6 k) es)
+    (λ h es. refl) (λ h es. refl) (λ h es. refl) (λ h es. cc) (λ h es. refl) (λ h es. refl)

@@ -14,7 +14,6 @@ use Rattle.records.proofs.Least.{one-entry}
 use Rattle.records.proofs.Most.{most-unique, most-ge}
 use Rattle.format.specs.Outcome
 use Rattle.format.specs.Family.{Family, familyOf}
-use Rattle.format.specs.Record.{each, aggregatedOctets}
 use Rattle.format.specs.Entry.{assertAt, assertEntries, entriesAt}
 use Rattle.format.specs.Packing.{leastLimit, aggregated, canonical, taken, packed, pack}
 use Rattle.format.specs.declared.Kind.{Kind}
@@ -23,6 +22,8 @@ use Rattle.format.proofs.Trains.{length-canonical}
 use Rattle.format.proofs.MostThatFit.{Grows, aggregated-grows}
 use Rattle.format.proofs.Entries.{length-entriesAt, take-entries}
 use Rattle.format.proofs.Calls.{taken-most, taken-fits, pack-none, pack-some}
+use Rattle.packing.specs.Joins.{asserts, Aggregated as Joined}
+use Rattle.packing.specs.Aggregates.{octetsOf, recordsOf, allOf, MostWithin}
 use Rattle.packing.specs.Kinds.{formFor, recordSize, isAggregated, takesOne, headSize, Packs, fitting}
 use Rattle.packing.proofs.ByKind.{most-is, head-range, aggregated-is, most-one, most-all}
 use Rattle.packing.proofs.Fitting.{taken-fixed}
@@ -34,40 +35,36 @@ use borrow.Author.Tests.{le-leb, lt-leb, leb-true}
 -- ---- how many entries are taken
 
 module _ (f : Family) (o : List ℕ) (from n limit : ℕ) where
-  -- the records of the first k entries
-  abbrev records : ℕ → List ℕ
-  records k = each (aggregatedOctets f) (joined (f .width) (entriesAt (assertEntries f) o from k))
-
   fits : ℕ → Bool
-  fits k = leb (length (canonical (aggregated f) (take k (entriesAt (assertEntries f) o from n)))) limit
+  fits k = leb (length (canonical (aggregated f) (take k (asserts f o from n)))) limit
 
   fewer : (k : ℕ) → fits (suc k) ≡ true → fits k ≡ true
   unfolding fits Grows
-  fewer k e = le-leb _ limit (le-trans (aggregated-grows f (entriesAt (assertEntries f) o from n) k (suc k) (omega arith)) (leb-true _ limit e))
+  fewer k e = le-leb _ limit (le-trans (aggregated-grows f (asserts f o from n) k (suc k) (omega arith)) (leb-true _ limit e))
 
   -- the message of the first k entries, by its records
-  prefix : (k : ℕ) → k ≤ n → length (canonical (aggregated f) (take k (entriesAt (assertEntries f) o from n))) ≡ 8 + length (records k)
+  prefix : (k : ℕ) → k ≤ n → length (canonical (aggregated f) (take k (asserts f o from n))) ≡ 8 + length (allOf f Joined (asserts f o from k))
+  unfolding allOf recordsOf octetsOf
   prefix k h =
       ap (λ es. length (canonical (aggregated f) es)) (take-entries (assertEntries f) o k n from h)
-      ∙ length-canonical f (entriesAt (assertEntries f) o from k)
-      ∙ ap (λ m. 8 + m) (sym (length-all f (joined (f .width) (entriesAt (assertEntries f) o from k))))
+      ∙ length-canonical f (asserts f o from k)
+      ∙ ap (λ m. 8 + m) (sym (length-all f (joined (f .width) (asserts f o from k))))
 
   -- they fit, and one more does not
-  pub taken-within : (k : ℕ) → 8 ≤ limit → k ≤ n → length (records k) ≤ limit - 8 → (k < n → limit - 8 < length (records (suc k)))
-      → k ≡ taken (aggregated f) limit (entriesAt (assertEntries f) o from n)
+  pub taken-within : (k : ℕ) → 8 ≤ limit → MostWithin f (allOf f Joined) o from n (limit - 8) k → k ≡ taken (aggregated f) limit (asserts f o from n)
   unfolding taken fits
-  taken-within k room inside fit full =
+  taken-within k room most =
       rw (length-entriesAt (assertEntries f) o from n)
-      (sym (most-unique fits fewer n k inside
-      (λ p. le-leb _ limit (omega (arith, prefix k inside, fit)))
-      (λ p. lt-leb _ limit (omega (arith, prefix (suc k) (omega arith), full p)))))
+      (sym (most-unique fits fewer n k (most .inside)
+      (λ p. le-leb _ limit (omega (arith, prefix k (most .inside), most .fits)))
+      (λ p. lt-leb _ limit (omega (arith, prefix (suc k) (omega arith), most .full p)))))
 
-  taken-one : 0 < n → leastLimit f ≤ limit → 0 < taken (aggregated f) limit (entriesAt (assertEntries f) o from n)
+  taken-one : 0 < n → leastLimit f ≤ limit → 0 < taken (aggregated f) limit (asserts f o from n)
   unfolding taken fits entriesAt leastLimit
   taken-one some room =
       rw (length-entriesAt (assertEntries f) o from n)
       (most-ge fits n 1 (omega arith) (omega arith)
-      (le-leb _ limit (rw (take-entries (assertEntries f) o 1 n from (omega arith)) (omega (arith, length-canonical f (entriesAt (assertEntries f) o from 1), one-entry (f .width) (assertAt f o from))))))
+      (le-leb _ limit (rw (take-entries (assertEntries f) o 1 n from (omega arith)) (omega (arith, length-canonical f (asserts f o from 1), one-entry (f .width) (assertAt f o from))))))
 
 module _ (ipv6 : Bool) (k : Kind) (packs : Packs ipv6 k) (limit : ℕ) (room : leastLimit (familyOf ipv6) ≤ limit) where
   -- one record has room past the head

@@ -49,8 +49,7 @@ returns c =
     let kind = aggregated-is (a .kind) (sym (c .before .before .before .before .before .layout-of .ensures .3) ∙ c .before .before .before .before .if1 .taken) in
     let past : a .out ≡ 8 = rw kind at (c .before .before .before .before .before .before .before .before .pre .5) in
     let wrote = c .before .before .put-within .ensures in
-    let fit = rw past at (wrote .0) in
-    rw kind (taken-within (familyOf (a .ipv6)) (now (a .e)) (a .from) (a .n) (a .limit) _ (limit-head (familyOf (a .ipv6)) (a .limit) (c .before .before .before .before .before .before .before .before .pre .3)) (fit .inside) (fit .fits) (fit .full), wrote .1)
+    rw kind (taken-within (familyOf (a .ipv6)) (now (a .e)) (a .from) (a .n) (a .limit) _ (limit-head (familyOf (a .ipv6)) (a .limit) (c .before .before .before .before .before .before .before .before .pre .3)) (rw past at (wrote .0)), wrote .1)
 
 how-many-fixed-requires : tie.Need-how-many-fixed-requires
 how-many-fixed-requires c κs = (c .before .before .before .before .pre .0, c .before .before .before .before .pre .1, head (c .before .before .before .before))
