@@ -10,7 +10,7 @@ use mathlib.Core.Path.{_≡_, refl}
 use mathlib.Core.Bool.{Bool, true, false, not, _&&_}
 use mathlib.Core.List.{List, []}
 use Prim.Native.Nat.{ℕ, zero, suc, _+_, _*_, _/_, _%_, _≤_, _<_}
-use native.Mathlib.Nat.{add-zero, mul-zero}
+use native.Mathlib.Nat.{add-zero, mul-zero, mul-suc}
 use native.Mathlib.Numerals.{add-one}
 use native.Mathlib.Omega.{arith}
 use borrow.Author.Tests.{lt-ltb, le-ltb, eq-eqb, ne-eqb}
@@ -19,10 +19,11 @@ use lib.Dec.{eqb, ltb}
 use Rattle.octets.specs.Octets.{value, numberAt}
 use Rattle.octets.proofs.Laws.{number-is}
 use Rattle.fields.proofs.Fields.{number-none}
-use Rattle.format.specs.Family.{Family, ipv4}
+use Rattle.format.specs.Family.{Family}
 use Rattle.format.specs.Outcome.{gives, refuses, refuseIf, _>>_}
 use Rattle.neighbours.specs.Rows.{addressOf, noRow, allowed, has}
 use Rattle.neighbours.specs.declared.Neighbour.{Neighbour}
+use Rattle.sections.specs.Layout.{rowSize}
 use Rattle.sections.specs.Contents.{flagsAt, rowAt}
 use Rattle.sections.specs.Checking.{fault, rowForm, rowFits, checkRows}
 use Rattle.sections.specs.Sections.{earlierRows}
@@ -31,15 +32,13 @@ pub octet-is : (o : List ℕ) (at : ℕ) → at < length o → getD o at 0 ≡ n
 unfolding value
 octet-is o at h = omega (arith, number-is 1 o at (omega arith))
 
-pub row-is : (o : List ℕ) (at : ℕ) {address priority flags holdtime : ℕ}
-    → address ≡ numberAt 4 o at → priority ≡ numberAt 4 o (at + 4) → flags ≡ numberAt 1 o (at + 8) → holdtime ≡ numberAt 2 o (at + 10)
+pub row-is : (f : Family) (o : List ℕ) (at : ℕ) {address priority flags holdtime b c d : ℕ}
+    → address ≡ numberAt (f .width) o at → priority ≡ numberAt 4 o b → flags ≡ numberAt 1 o c → holdtime ≡ numberAt 2 o d
+    → b ≡ at + f .width → c ≡ at + f .width + 4 → d ≡ at + f .width + 6
     → record { address = address; priority = priority; «has_priority» = eqb (flags % 2) 1; packs = eqb (flags / 2 % 2) 1; holdtime = holdtime }
-    ≡ rowAt ipv4 o at
+    ≡ rowAt f o at
 unfolding rowAt flagsAt
-row-is o at ea ep ef eh =
-    let e8 : at + 8 ≡ at + 4 + 4 = omega arith in
-    let e10 : at + 10 ≡ at + 4 + 6 = omega arith in
-    rw (ea, ep, ef, eh, e8, e10)
+row-is f o at ea ep ef eh eb ec ed = rw (ea, ep, ef, eh, eb, ec, ed)
 
 -- past the end there is nothing, and the row is all 0
 pub row-none : (f : Family) (o : List ℕ) (at : ℕ) → length o ≤ at → rowAt f o at ≡ noRow
@@ -54,13 +53,13 @@ row-none f o at h =
 
 -- ---- the earlier rows
 
-module _ (a : ℕ) (o : List ℕ) (from i : ℕ) {w : Bool} (so : has a (earlierRows ipv4 o from i) ≡ w) where
-  module _ {j x : ℕ} (one : i ≡ suc j) (is : x ≡ numberAt 4 o (from + 12 * j)) where
+module _ (f : Family) (a : ℕ) (o : List ℕ) (from i : ℕ) {w : Bool} (so : has a (earlierRows f o from i) ≡ w) where
+  module _ {j x : ℕ} (one : i ≡ suc j) (is : x ≡ numberAt (f .width) o (from + rowSize f * j)) where
     pub earlier-here : x ≡ a → true ≡ w
     unfolding has earlierRows rowAt
     earlier-here e = rw (one, ← is, eq-eqb x a e) at so
 
-    pub earlier-next : (x ≡ a → ⊥) → has a (earlierRows ipv4 o from j) ≡ w
+    pub earlier-next : (x ≡ a → ⊥) → has a (earlierRows f o from j) ≡ w
     unfolding has earlierRows rowAt
     earlier-next e = rw (one, ← is, ne-eqb x a e) at so
 
@@ -72,69 +71,67 @@ module _ (a : ℕ) (o : List ℕ) (from i : ℕ) {w : Bool} (so : has a (earlier
 
 -- ---- one row
 
-module _ (o : List ℕ) (at : ℕ) (earlier : List Neighbour) {x y : ℕ} (flags : x ≡ numberAt 1 o (at + 8)) (octet : y ≡ numberAt 1 o (at + 9)) where
-  form-is : rowForm ipv4 o at ≡ (ltb x 4 && eqb y 0)
+module _ (f : Family) (o : List ℕ) (at : ℕ) (earlier : List Neighbour) {x y p q : ℕ} (flags : x ≡ numberAt 1 o p) (octet : y ≡ numberAt 1 o q)
+    (here : p ≡ at + f .width + 4) (next : q ≡ at + f .width + 5) where
+  form-is : rowForm f o at ≡ (ltb x 4 && eqb y 0)
   unfolding rowForm flagsAt
-  form-is =
-      let e8 : at + 4 + 4 ≡ at + 8 = omega arith in
-      let e9 : at + 4 + 5 ≡ at + 9 = omega arith in
-      rw (e8, e9, ← flags, ← octet)
+  form-is = rw (flags, octet, here, next)
 
-  pub fits-flags : 4 ≤ x → false ≡ rowFits ipv4 o at earlier
+  pub fits-flags : 4 ≤ x → false ≡ rowFits f o at earlier
   unfolding rowFits
   fits-flags h = rw (form-is, le-ltb x 4 h)
 
-  pub fits-zero : x < 4 → (y ≡ 0 → ⊥) → false ≡ rowFits ipv4 o at earlier
+  pub fits-zero : x < 4 → (y ≡ 0 → ⊥) → false ≡ rowFits f o at earlier
   unfolding rowFits
   fits-zero h n = rw (form-is, lt-ltb x 4 h, ne-eqb y 0 n)
 
-  module _ (few : x < 4) (none : y ≡ 0) {row : Neighbour} (is : row ≡ rowAt ipv4 o at) where
-    pub fits-not : allowed row ≡ false → false ≡ rowFits ipv4 o at earlier
+  module _ (few : x < 4) (none : y ≡ 0) {row : Neighbour} (is : row ≡ rowAt f o at) where
+    pub fits-not : allowed row ≡ false → false ≡ rowFits f o at earlier
     unfolding rowFits
     fits-not e = rw (form-is, lt-ltb x 4 few, eq-eqb y 0 none, ← is, e)
 
-    pub fits-is : allowed row ≡ true → {b : Bool} → b ≡ has (addressOf row) earlier → not b ≡ rowFits ipv4 o at earlier
+    pub fits-is : allowed row ≡ true → {b : Bool} → b ≡ has (addressOf row) earlier → not b ≡ rowFits f o at earlier
     unfolding rowFits
     fits-is e h = rw (form-is, lt-ltb x 4 few, eq-eqb y 0 none, ← is, e, ← h)
 
 -- ---- all rows
 
 -- the rows that are left, after those before them, say what all of them say
-pub record RowsLeft (o : List ℕ) (from n i : ℕ) : Type 0 where
+pub record RowsLeft (f : Family) (o : List ℕ) (from n i : ℕ) : Type 0 where
   pub left : ℕ
   pub count : i + left ≡ n
-  pub same : checkRows ipv4 o (earlierRows ipv4 o from i) (from + 12 * i) left ≡ checkRows ipv4 o [] from n
+  pub same : checkRows f o (earlierRows f o from i) (from + rowSize f * i) left ≡ checkRows f o [] from n
 
-pub rows-start : (o : List ℕ) (from n : ℕ) → RowsLeft o from n 0
+pub rows-start : (f : Family) (o : List ℕ) (from n : ℕ) → RowsLeft f o from n 0
 unfolding earlierRows
-rows-start o from n = record { left = n; count = omega arith; same = rw (mul-zero, add-zero) refl }
+rows-start f o from n = record { left = n; count = omega arith; same = rw (mul-zero, add-zero) refl }
 
-module _ {o : List ℕ} {from n i : ℕ} (l : RowsLeft o from n i) {b : Bool} (fits : b ≡ rowFits ipv4 o (from + 12 * i) (earlierRows ipv4 o from i)) where
-  pub rows-bad : i < n → b ≡ false → refuses 14 (from + 12 * i) ≡ checkRows ipv4 o [] from n
+module _ {f : Family} {o : List ℕ} {from n i : ℕ} (l : RowsLeft f o from n i) {b : Bool} (fits : b ≡ rowFits f o (from + rowSize f * i) (earlierRows f o from i)) where
+  pub rows-bad : i < n → b ≡ false → refuses 14 (from + rowSize f * i) ≡ checkRows f o [] from n
   unfolding checkRows fault refuseIf _>>_
-  rows-bad h f = go (l .left) (l .count) (l .same)
+  rows-bad h g = go (l .left) (l .count) (l .same)
     where
-      go : (left : ℕ) → i + left ≡ n → checkRows ipv4 o (earlierRows ipv4 o from i) (from + 12 * i) left ≡ checkRows ipv4 o [] from n
-          → refuses 14 (from + 12 * i) ≡ checkRows ipv4 o [] from n
+      go : (left : ℕ) → i + left ≡ n → checkRows f o (earlierRows f o from i) (from + rowSize f * i) left ≡ checkRows f o [] from n
+          → refuses 14 (from + rowSize f * i) ≡ checkRows f o [] from n
       go zero e s = absurd (omega arith)
-      go (suc left) e s = rw (← fits, f) at s
+      go (suc left) e s = rw (← fits, g) at s
 
-  pub rows-next : i < n → b ≡ true → RowsLeft o from n (i + 1)
+  pub rows-next : i < n → b ≡ true → RowsLeft f o from n (i + 1)
   unfolding checkRows fault refuseIf _>>_ earlierRows
-  rows-next h f = go (l .left) (l .count) (l .same)
+  rows-next h g = go (l .left) (l .count) (l .same)
     where
-      go : (left : ℕ) → i + left ≡ n → checkRows ipv4 o (earlierRows ipv4 o from i) (from + 12 * i) left ≡ checkRows ipv4 o [] from n
-          → RowsLeft o from n (i + 1)
+      go : (left : ℕ) → i + left ≡ n → checkRows f o (earlierRows f o from i) (from + rowSize f * i) left ≡ checkRows f o [] from n
+          → RowsLeft f o from n (i + 1)
       go zero e s = absurd (omega arith)
       go (suc left) e s =
-          let place : from + 12 * (i + 1) ≡ from + 12 * i + 12 = omega arith in
-          record { left = left; count = omega arith; same = rw (place, add-one) (rw (← fits, f) at s) }
+          let place : from + rowSize f * suc i ≡ from + rowSize f * i + rowSize f = omega (arith, mul-suc (rowSize f) i) in
+          record { left = left; count = omega arith; same = rw (add-one, place) (rw (← fits, g) at s) }
 
-pub rows-end : {o : List ℕ} {from n i : ℕ} → RowsLeft o from n i → n ≤ i → gives tt ≡ checkRows ipv4 o [] from n
+pub rows-end : {f : Family} {o : List ℕ} {from n i : ℕ} → RowsLeft f o from n i → n ≤ i → gives tt ≡ checkRows f o [] from n
 unfolding checkRows
-rows-end {o} {from} {n} {i} l h = go (l .left) (l .count) (l .same)
+rows-end {f} {o} {from} {n} {i} l h = go (l .left) (l .count) (l .same)
   where
-    go : (left : ℕ) → i + left ≡ n → checkRows ipv4 o (earlierRows ipv4 o from i) (from + 12 * i) left ≡ checkRows ipv4 o [] from n
-        → gives tt ≡ checkRows ipv4 o [] from n
+    go : (left : ℕ) → i + left ≡ n → checkRows f o (earlierRows f o from i) (from + rowSize f * i) left ≡ checkRows f o [] from n
+        → gives tt ≡ checkRows f o [] from n
     go zero e s = s
     go (suc left) e s = absurd (omega arith)

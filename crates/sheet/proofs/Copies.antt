@@ -4,6 +4,7 @@
 --     Rowing                            where a loop that writes rows stands: rowing-start, rowing-there, rowing-next, rowing-end
 -- Assumes nothing.
 use Prim.Native.Nat.{ℕ, suc, _+_, _*_, _≤_, _<_}
+use native.Mathlib.Nat.{mul-suc, mul-le-mul-left}
 use native.Mathlib.Omega.{arith}
 use mathlib.Core.Path.{_≡_, refl, sym, ap, _∙_}
 use borrow.Author.Tests.{le-leb}
@@ -13,13 +14,14 @@ use lib.Seq.{take-add, take-all, take-suc, drop-drop, drop-cons, getD-take, leng
 use Rattle.octets.specs.Octets.{put, be}
 use Rattle.octets.specs.Field.{fitted}
 use Rattle.octets.proofs.Laws.{stores-put, put-nil, put-next, put-number-next, length-put, length-be, length-fitted}
-use Rattle.format.specs.Family.{ipv4}
+use Rattle.format.specs.Family.{Family}
 use Rattle.format.specs.Record.{each}
 use Rattle.format.proofs.Lengths.{each-append}
 use Rattle.neighbours.specs.Rows.{used}
 use Rattle.neighbours.specs.declared.Neighbour.{Neighbour}
 use Rattle.neighbours.specs.declared.Table.{Table}
 use Rattle.neighbours.proofs.Rows.{used-long}
+use Rattle.sections.specs.Layout.{rowSize}
 use Rattle.sections.specs.Contents.{rowOctets}
 use Rattle.sheet.proofs.Rows.{length-row, length-rows}
 
@@ -78,47 +80,49 @@ written-next k d at n f {d′} m p h r q =
 -- ---- rows one after another
 
 -- after i rows
-pub record Rowing (t : Table) (d₀ : List ℕ) (at : ℕ) (d : List ℕ) (i : ℕ) : Type 0 where
+pub record Rowing (f : Family) (t : Table) (d₀ : List ℕ) (at : ℕ) (d : List ℕ) (i : ℕ) : Type 0 where
   pub full : t .count ≤ length (t .rows)
-  pub room : at + 12 * t .count ≤ length d₀
+  pub room : at + rowSize f * t .count ≤ length d₀
   pub within : i ≤ t .count
   pub same : length d ≡ length d₀
-  pub gives : d ≡ put d₀ at (each (rowOctets ipv4) (take i (used t)))
+  pub gives : d ≡ put d₀ at (each (rowOctets f) (take i (used t)))
 
-pub rowing-start : {t : Table} {d : List ℕ} {at : ℕ} → t .count ≤ length (t .rows) → at + 12 * t .count ≤ length d → Rowing t d at d 0
+pub rowing-start : {f : Family} {t : Table} {d : List ℕ} {at : ℕ} → t .count ≤ length (t .rows) → at + rowSize f * t .count ≤ length d → Rowing f t d at d 0
 unfolding each
-rowing-start {t} {d} {at} full room = record { full = full; room = room; within = omega arith; same = refl; gives = sym (put-nil d at) }
+rowing-start {t = t} {d} {at} full room = record { full = full; room = room; within = omega arith; same = refl; gives = sym (put-nil d at) }
 
-module _ {t : Table} {d₀ : List ℕ} {at : ℕ} {d : List ℕ} {i : ℕ} (c : Rowing t d₀ at d i) where
-  pub rowing-there : i < t .count → at + 12 * i + 12 ≤ length d
-  rowing-there h = omega (arith, c .room, c .same)
+module _ {f : Family} {t : Table} {d₀ : List ℕ} {at : ℕ} {d : List ℕ} {i : ℕ} (c : Rowing f t d₀ at d i) where
+  pub rowing-there : i < t .count → at + rowSize f * i + rowSize f ≤ length d
+  rowing-there h =
+      let more : rowSize f * suc i ≤ rowSize f * t .count = mul-le-mul-left (rowSize f) h in
+      omega (arith, c .room, c .same, more, mul-suc (rowSize f) i)
 
   pub rowing-next : {d′ : List ℕ} {i′ : ℕ} (z : Neighbour) → i < t .count
-      → d′ ≡ put d (at + 12 * i) (rowOctets ipv4 (getD (t .rows) i z)) → i′ ≡ i + 1 → Rowing t d₀ at d′ i′
+      → d′ ≡ put d (at + rowSize f * i) (rowOctets f (getD (t .rows) i z)) → i′ ≡ i + 1 → Rowing f t d₀ at d′ i′
   unfolding each
   rowing-next {d′} {i′} z h p q =
       let n : Neighbour = getD (t .rows) i z in
       let front : List Neighbour = take i (used t) in
       let many : length (used t) ≡ t .count = used-long (t .rows) (t .count) (c .full) in
       let long : length front ≡ i = length-take-le i (used t) (omega (arith, many)) in
-      let octets : length (each (rowOctets ipv4) front) ≡ 12 * i = length-rows ipv4 front ∙ ap (λ x. 12 * x) long in
-      let row : length (rowOctets ipv4 n) ≡ 12 = length-row ipv4 n in
+      let octets : length (each (rowOctets f) front) ≡ rowSize f * i = length-rows f front ∙ ap (λ x. rowSize f * x) long in
+      let row : length (rowOctets f n) ≡ rowSize f = length-row f n in
       let suc-i : i′ ≡ suc i = omega (arith, q) in
       let more : take i′ (used t) ≡ front ++ (n ∷ []) =
       ap (λ x. take x (used t)) suc-i ∙ (take-suc (used t) i z (omega (arith, many)) ∙ ap (λ x. front ++ (x ∷ [])) (getD-take (t .count) (t .rows) i z h)) in
-      let last : each (rowOctets ipv4) (front ++ (n ∷ [])) ≡ each (rowOctets ipv4) front ++ rowOctets ipv4 n =
-      each-append (rowOctets ipv4) front (n ∷ []) ∙ ap (λ x. each (rowOctets ipv4) front ++ x) (append-nil (rowOctets ipv4 n)) in
+      let last : each (rowOctets f) (front ++ (n ∷ [])) ≡ each (rowOctets f) front ++ rowOctets f n =
+      each-append (rowOctets f) front (n ∷ []) ∙ ap (λ x. each (rowOctets f) front ++ x) (append-nil (rowOctets f n)) in
       record {
         full = c .full;
         room = c .room;
         within = omega (arith, q);
-        same = ap length p ∙ (length-put d (at + 12 * i) (rowOctets ipv4 n) (omega (arith, row, rowing-there h)) ∙ c .same);
+        same = ap length p ∙ (length-put d (at + rowSize f * i) (rowOctets f n) (omega (arith, row, rowing-there h)) ∙ c .same);
         gives =
-            put-next d₀ at (each (rowOctets ipv4) front) (rowOctets ipv4 n) (c .gives) p (omega (arith, octets))
-            ∙ ap (put d₀ at) (sym (ap (each (rowOctets ipv4)) more ∙ last));
+            put-next d₀ at (each (rowOctets f) front) (rowOctets f n) (c .gives) p (omega (arith, octets))
+            ∙ ap (put d₀ at) (sym (ap (each (rowOctets f)) more ∙ last));
       }
 
-  pub rowing-end : t .count ≤ i → d ≡ put d₀ at (each (rowOctets ipv4) (used t))
+  pub rowing-end : t .count ≤ i → d ≡ put d₀ at (each (rowOctets f) (used t))
   rowing-end h =
       let e : i ≡ t .count = omega (arith, c .within) in
       let all : take i (used t) ≡ used t = take-all i (used t) (omega (arith, used-long (t .rows) (t .count) (c .full), h)) in

@@ -14,13 +14,13 @@ use lib.Seq.{append-snoc, set-at, length-take-le}
 use Rattle.octets.specs.Octets.{put}
 use Rattle.format.specs.Outcome
 use Rattle.format.specs.Outcome.{Outcome, gives, refuses, refuseIf}
-use Rattle.format.specs.Family.{ipv4}
+use Rattle.format.specs.Family.{Family, ipv4}
 use Rattle.format.specs.declared.Refusal.{Refusal}
 use Rattle.neighbours.specs.Rows.{most, noRow, tableOf}
 use Rattle.neighbours.specs.declared.Neighbour.{Neighbour}
 use Rattle.neighbours.specs.declared.Table.{Table}
 use Rattle.neighbours.proofs.Changes.{table-is}
-use Rattle.sections.specs.Layout.{base, pairsFrom, rowsFrom}
+use Rattle.sections.specs.Layout.{base, rowSize, pairsFrom, rowsFrom}
 use Rattle.sections.specs.Contents.{rowAt, rowsAt, contentsAt}
 use Rattle.sections.specs.Checking.{checking, checkedBy}
 use Rattle.sections.specs.declared.Counts.{Counts}
@@ -32,12 +32,12 @@ use Rattle.sheet.proofs.Again.{sizes}
 
 -- ---- rows gathered
 
-rows-snoc : (o : List ℕ) (i at : ℕ) → rowsAt ipv4 o at (suc i) ≡ rowsAt ipv4 o at i ++ (rowAt ipv4 o (at + 12 * i) ∷ [])
+rows-snoc : (f : Family) (o : List ℕ) (i at : ℕ) → rowsAt f o at (suc i) ≡ rowsAt f o at i ++ (rowAt f o (at + rowSize f * i) ∷ [])
 unfolding rowsAt
-rows-snoc o zero at = rw (mul-zero 12, add-zero at)
-rows-snoc o (suc i) at =
-    let e : at + 12 + 12 * i ≡ at + 12 * suc i = omega (arith, mul-suc 12 i) in
-    ap (λ l. rowAt ipv4 o at ∷ l) (rows-snoc o i (at + 12) ∙ ap (λ p. rowsAt ipv4 o (at + 12) i ++ (rowAt ipv4 o p ∷ [])) e)
+rows-snoc f o zero at = rw (mul-zero, add-zero)
+rows-snoc f o (suc i) at =
+    let e : at + rowSize f + rowSize f * i ≡ at + rowSize f * suc i = omega (arith, mul-suc (rowSize f) i) in
+    ap (λ l. rowAt f o at ∷ l) (rows-snoc f o i (at + rowSize f) ∙ ap (λ p. rowsAt f o (at + rowSize f) i ++ (rowAt f o p ∷ [])) e)
 
 -- a row more
 table-more : (l : List Neighbour) (r : Neighbour) (i : ℕ) → length l ≡ i → i < most
@@ -52,36 +52,36 @@ table-more l r i e h =
     refl (sym long) (omega arith)
 
 -- after i of n rows
-pub record Gathering (o : List ℕ) (at n : ℕ) (t : Table) (i : ℕ) : Type 0 where
+pub record Gathering (f : Family) (o : List ℕ) (at n : ℕ) (t : Table) (i : ℕ) : Type 0 where
   pub few : n ≤ most
-  pub there : at + 12 * n ≤ length o
+  pub there : at + rowSize f * n ≤ length o
   pub within : i ≤ n
-  pub is : t ≡ tableOf (rowsAt ipv4 o at i)
+  pub is : t ≡ tableOf (rowsAt f o at i)
 
-pub gathering-start : {o : List ℕ} {at n : ℕ} {t : Table} → n ≤ most → at + 12 * n ≤ length o → t ≡ tableOf [] → Gathering o at n t 0
+pub gathering-start : {f : Family} {o : List ℕ} {at n : ℕ} {t : Table} → n ≤ most → at + rowSize f * n ≤ length o → t ≡ tableOf [] → Gathering f o at n t 0
 unfolding rowsAt
 gathering-start few there e = record { few = few; there = there; within = omega arith; is = e }
 
-module _ {o : List ℕ} {at n : ℕ} {t : Table} {i : ℕ} (g : Gathering o at n t i) where
-  pub gathering-next : {r : Neighbour} {p i′ : ℕ} → i < n → r ≡ rowAt ipv4 o p → p ≡ at + 12 * i → i′ ≡ i + 1
-      → Gathering o at n (record { rows = set (t .rows) i r; count = i′ }) i′
+module _ {f : Family} {o : List ℕ} {at n : ℕ} {t : Table} {i : ℕ} (g : Gathering f o at n t i) where
+  pub gathering-next : {r : Neighbour} {p i′ : ℕ} → i < n → r ≡ rowAt f o p → p ≡ at + rowSize f * i → i′ ≡ i + 1
+      → Gathering f o at n (record { rows = set (t .rows) i r; count = i′ }) i′
   gathering-next {r} {p} {i′} h e q j =
       let next : suc i ≡ i′ = omega arith in
-      let long = length-rowsAt ipv4 o at i in
-      let more : rowsAt ipv4 o at i ++ (r ∷ []) ≡ rowsAt ipv4 o at (i + 1) =
-      ap (λ x. rowsAt ipv4 o at i ++ (x ∷ [])) (e ∙ ap (rowAt ipv4 o) q) ∙ (sym (rows-snoc o i at) ∙ ap (rowsAt ipv4 o at) (next ∙ j)) in
+      let long = length-rowsAt f o at i in
+      let more : rowsAt f o at i ++ (r ∷ []) ≡ rowsAt f o at (i + 1) =
+      ap (λ x. rowsAt f o at i ++ (x ∷ [])) (e ∙ ap (rowAt f o) q) ∙ (sym (rows-snoc f o i at) ∙ ap (rowsAt f o at) (next ∙ j)) in
       record {
         few = g .few;
         there = g .there;
         within = omega arith;
         is =
             rw (g .is, j)
-            (table-more (rowsAt ipv4 o at i) r i long (omega (arith, g .few))
+            (table-more (rowsAt f o at i) r i long (omega (arith, g .few))
             ∙ ap tableOf more);
       }
 
-  pub gathering-end : n ≤ i → t ≡ tableOf (rowsAt ipv4 o at n)
-  gathering-end h = let e : i ≡ n = omega (arith, g .within) in g .is ∙ ap (λ x. tableOf (rowsAt ipv4 o at x)) e
+  pub gathering-end : n ≤ i → t ≡ tableOf (rowsAt f o at n)
+  gathering-end h = let e : i ≡ n = omega (arith, g .within) in g .is ∙ ap (λ x. tableOf (rowsAt f o at x)) e
 
 -- ---- what the check answered
 

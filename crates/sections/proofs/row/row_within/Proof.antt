@@ -1,9 +1,11 @@
 -- `sections::row::row_within` meets its contract, field by field.
 -- Assumes nothing.
+use mathlib.Core.Path.{refl}
 use Prim.Native.Nat.{_+_}
 use native.Mathlib.Omega.{arith}
 use denote.Ref.{now}
 use borrow.Author.Needs.{needs}
+use Rattle.format.specs.Family.{ipv4}
 use Rattle.format.proofs.Entries.{numberAt-lt}
 use Rattle.sections.proofs.Rows.{row-is}
 use Rattle.sections.proofs.row.row_within.Statement.{statement}
@@ -17,7 +19,8 @@ cast-t14 c =
 returns : tie.Need-returns
 returns c =
     let a = c .before .before .before .before .before .args in
-    row-is (now (a .o)) (a .at) (c .before .before .number32 .ensures) (c .before .number322 .ensures) (c .before .before .before .number8 .ensures) (c .number16 .ensures)
+    row-is ipv4 (now (a .o)) (a .at) (c .before .before .number32 .ensures) (c .before .number322 .ensures) (c .before .before .before .number8 .ensures) (c .number16 .ensures)
+    refl (omega arith) (omega arith)
 
 pub row-within-spec : {M : Type 1} → statement M
 row-within-spec =

@@ -4,19 +4,20 @@ use Prim.Native.Nat.{_-_}
 use native.Mathlib.Omega.{arith}
 use denote.Ref.{now}
 use borrow.Author.Tests.{not-true, not-false}
+use Rattle.format.specs.Family.{ipv4}
 use Rattle.sections.specs.Sections.{sectionBy}
 use Rattle.sections.proofs.Rows.{RowsLeft, rows-start, rows-bad, rows-next, rows-end}
 use Rattle.sections.proofs.section.check_rows.Statement.{statement}
 use Rattle.sections.proofs.section.check_rows.Tie as tie
 
 abbrev Inv-loop : tie.InvT-loop
-Inv-loop o from count i₀ i = RowsLeft o from count i
+Inv-loop o from count i₀ i = RowsLeft ipv4 o from count i
 
 abbrev μ-loop : tie.MeasureT-loop
 μ-loop o from count i₀ i = count - i
 
 loop-holds : tie.Need-loop-holds Inv-loop μ-loop
-loop-holds c = rows-start (now (c .before .args .o)) (c .before .args .from) (c .before .args .count)
+loop-holds c = rows-start ipv4 (now (c .before .args .o)) (c .before .args .from) (c .before .args .count)
 
 row-fits-requires : tie.Need-row-fits-requires Inv-loop μ-loop
 row-fits-requires c κs = omega (arith, c .loop-test .taken, c .before .before .before .pre)

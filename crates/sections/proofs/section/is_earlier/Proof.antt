@@ -34,7 +34,7 @@ add-number32 c = omega (arith, c .before .loop .inv .0, c .before .before .befor
 returns : tie.Need-returns Inv-loop μ-loop
 returns c =
     let a = c .before .before .before .before .before .args in
-    earlier-here (a .address) (now (a .o)) (a .from) (c .before .before .before .loop .i) (c .before .before .before .loop .inv .1) (before-it (c .before .before))
+    earlier-here ipv4 (a .address) (now (a .o)) (a .from) (c .before .before .before .loop .i) (c .before .before .before .loop .inv .1) (before-it (c .before .before))
     (c .before .number32 .ensures)
     (c .if1 .taken)
 
@@ -45,13 +45,13 @@ loop-again : tie.Need-loop-again Inv-loop μ-loop
 loop-again c =
     let a = c .before .before .before .before .before .args in (
       omega (arith, c .before .before .before .loop .inv .0),
-      earlier-next (a .address) (now (a .o)) (a .from) (c .before .before .before .loop .i) (c .before .before .before .loop .inv .1) (before-it (c .before .before)) (c .before .number32 .ensures) (c .if1 .left),
+      earlier-next ipv4 (a .address) (now (a .o)) (a .from) (c .before .before .before .loop .i) (c .before .before .before .loop .inv .1) (before-it (c .before .before)) (c .before .number32 .ensures) (c .if1 .left),
     )
 
 returns-2 : tie.Need-returns-2 Inv-loop μ-loop
 returns-2 c =
     let a = c .before .before .before .args in
-    earlier-none (a .address) (now (a .o)) (a .from) (c .before .loop .i) (c .before .loop .inv .1) (c .loop-test .left)
+    earlier-none ipv4 (a .address) (now (a .o)) (a .from) (c .before .loop .i) (c .before .loop .inv .1) (c .loop-test .left)
 
 pub is-earlier-spec : {M : Type 1} → statement M
 is-earlier-spec =

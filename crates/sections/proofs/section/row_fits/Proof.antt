@@ -14,13 +14,13 @@ use Rattle.sections.proofs.section.row_fits.Tie as tie
 returns : tie.Need-returns
 returns c =
     let a = c .before .before .before .args in
-    fits-flags (now (a .o)) (a .from + 12 * a .i) (earlierRows ipv4 (now (a .o)) (a .from) (a .i)) (c .before .number8 .ensures) refl (c .if1 .taken)
+    fits-flags ipv4 (now (a .o)) (a .from + 12 * a .i) (earlierRows ipv4 (now (a .o)) (a .from) (a .i)) (c .before .number8 .ensures) refl (omega arith) refl (c .if1 .taken)
 
 returns-2 : tie.Need-returns-2
 returns-2 c =
     let a = c .before .before .before .before .before .args in
-    fits-zero (now (a .o)) (a .from + 12 * a .i) (earlierRows ipv4 (now (a .o)) (a .from) (a .i))
-    (c .before .before .before .number8 .ensures) (c .before .number82 .ensures) (c .before .before .if1 .left) (c .if2 .taken)
+    fits-zero ipv4 (now (a .o)) (a .from + 12 * a .i) (earlierRows ipv4 (now (a .o)) (a .from) (a .i))
+    (c .before .before .before .number8 .ensures) (c .before .number82 .ensures) (omega arith) (omega arith) (c .before .before .if1 .left) (c .if2 .taken)
 
 is-earlier-requires : tie.Need-is-earlier-requires
 is-earlier-requires c κs = omega (arith, c .before .before .before .before .before .before .before .before .pre)
@@ -28,8 +28,8 @@ is-earlier-requires c κs = omega (arith, c .before .before .before .before .bef
 returns-3 : tie.Need-returns-3
 returns-3 c =
     let a = c .before .before .before .before .before .before .before .before .before .args in
-    fits-is (now (a .o)) (a .from + 12 * a .i) (earlierRows ipv4 (now (a .o)) (a .from) (a .i))
-    (c .before .before .before .before .before .before .before .number8 .ensures) (c .before .before .before .before .before .number82 .ensures) (c .before .before .before .before .before .before .if1 .left) (c .before .before .before .before .if2 .left)
+    fits-is ipv4 (now (a .o)) (a .from + 12 * a .i) (earlierRows ipv4 (now (a .o)) (a .from) (a .i))
+    (c .before .before .before .before .before .before .before .number8 .ensures) (c .before .before .before .before .before .number82 .ensures) (omega arith) (omega arith) (c .before .before .before .before .before .before .if1 .left) (c .before .before .before .before .if2 .left)
     (c .before .before .before .row-at .ensures)
     (sym (c .before .before .is-allowed .ensures) ∙ c .before .if3 .taken)
     (c .is-earlier .ensures)
@@ -37,8 +37,8 @@ returns-3 c =
 returns-4 : tie.Need-returns-4
 returns-4 c =
     let a = c .before .before .before .before .before .before .before .before .args in
-    fits-not (now (a .o)) (a .from + 12 * a .i) (earlierRows ipv4 (now (a .o)) (a .from) (a .i))
-    (c .before .before .before .before .before .before .number8 .ensures) (c .before .before .before .before .number82 .ensures) (c .before .before .before .before .before .if1 .left) (c .before .before .before .if2 .left)
+    fits-not ipv4 (now (a .o)) (a .from + 12 * a .i) (earlierRows ipv4 (now (a .o)) (a .from) (a .i))
+    (c .before .before .before .before .before .before .number8 .ensures) (c .before .before .before .before .number82 .ensures) (omega arith) (omega arith) (c .before .before .before .before .before .if1 .left) (c .before .before .before .if2 .left)
     (c .before .before .row-at .ensures)
     (sym (c .before .is-allowed .ensures) ∙ c .if3 .left)
 

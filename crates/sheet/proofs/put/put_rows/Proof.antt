@@ -4,6 +4,7 @@ use Prim.Native.Nat.{_-_, _≤_}
 use native.Mathlib.Omega.{arith}
 use mathlib.Core.Path.{_≡_, refl}
 use lib.ListN.{length}
+use Rattle.format.specs.Family.{ipv4}
 use Rattle.neighbours.specs.Rows.{most}
 use Rattle.neighbours.proofs.Rows.{all-rows}
 use Rattle.sheet.proofs.Copies.{Rowing, rowing-start, rowing-there, rowing-next, rowing-end}
@@ -12,7 +13,7 @@ use Rattle.sheet.proofs.put.put_rows.Statement.{statement}
 use Rattle.sheet.proofs.put.put_rows.Tie as tie
 
 abbrev Inv-loop : tie.InvT-loop
-Inv-loop d₀ at table count i₀ d i = Rowing table d₀ at d i
+Inv-loop d₀ at table count i₀ d i = Rowing ipv4 table d₀ at d i
 
 abbrev μ-loop : tie.MeasureT-loop
 μ-loop d₀ at table count i₀ d i = count - i

@@ -3,13 +3,14 @@
 use Prim.Native.Nat.{_-_}
 use native.Mathlib.Omega.{arith}
 use mathlib.Core.Path.{refl}
+use Rattle.format.specs.Family.{ipv4}
 use Rattle.sheet.proofs.Gathered.{Gathering, gathering-start, gathering-next, gathering-end}
 use borrow.Author.Needs.{needs}
 use Rattle.sheet.proofs.read.gather.Statement.{statement}
 use Rattle.sheet.proofs.read.gather.Tie as tie
 
 abbrev Inv-loop : tie.InvT-loop
-Inv-loop o at n table₀ i₀ table i = Gathering o at n table i
+Inv-loop o at n table₀ i₀ table i = Gathering ipv4 o at n table i
 
 abbrev μ-loop : tie.MeasureT-loop
 μ-loop o at n table₀ i₀ table i = n - i
