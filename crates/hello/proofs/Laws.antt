@@ -7,16 +7,16 @@
 --     tested                                            refused by the code's tests, one of them of the four octets 00 28 00 00
 --     option-got, option-bad                            an option by its fields: a fault is handed up
 -- Assumes nothing.
-use mathlib.Core.Path.{_≡_, refl, sym, _∙_}
-use mathlib.Core.Bool.{Bool, true, false, not, _&&_, _||_, cond}
+use mathlib.Core.Path.{_≡_, refl, sym, ap, _∙_}
+use mathlib.Core.Bool.{Bool, true, false, not, _||_, cond}
 use mathlib.Core.List.{List, [], _∷_}
 use Prim.Native.Nat.{ℕ, _+_, _*_, _≤_}
 use native.Mathlib.Omega.{arith}
-use borrow.Author.Tests.{eq-eqb, ne-eqb, eqb-true}
+use borrow.Author.Tests.{eq-eqb, ne-eqb, eqb-true, eqb-false}
 use lib.Dec.{eqb}
-use lib.ListN.{length, getD}
-use Rattle.octets.specs.Octets.{Octets, value}
-use Rattle.octets.proofs.Laws.{octets-back, number-is, number-back}
+use lib.ListN.{length}
+use Rattle.octets.specs.Octets.{value, numberAt}
+use Rattle.octets.proofs.Laws.{octets-back, number-split, number-back}
 use Rattle.format.specs.Reader.{got, bad, continue, _>>=_, _>>_, give, here, octets, number, refuse, placed, handUp, inRecord}
 use Rattle.hello.specs.Options.{Said, named, lengthOf, isSome, given, against, hear, optionValue, optionFields, option}
 use Rattle.hello.specs.Answers.{ifGiven, stepped, fourAt, lengthFits}
@@ -83,12 +83,6 @@ value-there s k n o at e f = go k (own-length s k n e)
 
 -- ---- an option's type and length
 
-two : (o : List ℕ) (at : ℕ) {v n : ℕ} → number 2 o at ≡ got v n → v ≡ getD o at 0 * 256 + getD o (at + 1) 0
-unfolding value
-two o at e =
-    let b = number-back 2 o at e in
-    b .0 ∙ number-is 2 o at (omega arith) ∙ omega arith
-
 pub no-type : (s : Said) (o : List ℕ) (at : ℕ) {i p : ℕ} → number 2 o at ≡ bad i p → optionFields s o at ≡ bad i p
 unfolding optionFields here _>>=_ continue
 no-type s o at e = rw e
@@ -101,39 +95,18 @@ no-length s o at e f = rw (e, f)
 abbrev capability : List ℕ
 capability = 0 ∷ 40 ∷ 0 ∷ 0 ∷ []
 
-and-true : (a b : Bool) → (a && b) ≡ true → (a ≡ true) × (b ≡ true)
-and-true true b e = (refl, e)
-and-true false b e = (e, absurd (let z : _≡_ {A = ℕ} 0 1 = cc in omega arith))
+capability-number : numberAt 4 capability 0 ≡ 2621440
+unfolding numberAt value
+capability-number = refl
 
-module _ (o : List ℕ) (at n : ℕ) (size : n ≡ getD o (at + 2) 0 * 256 + getD o (at + 3) 0) where
-  four-empty : fourAt o at capability ≡ true → n ≡ 0
-  unfolding fourAt
-  four-empty e =
-      let p = and-true _ _ e in
-      let q = and-true _ _ (p .1) in
-      let r = and-true _ _ (q .1) in
-      let a : getD o at 0 ≡ 0 = eqb-true _ _ (p .0) in
-      let b : getD o (at + 1) 0 ≡ 40 = eqb-true _ _ (q .0) in
-      let c : getD o (at + 2) 0 ≡ 0 = eqb-true _ _ (r .0) in
-      let d : getD o (at + 3) 0 ≡ 0 = eqb-true _ _ (r .1) in
-      omega arith
-
-  empty-four : Octets o → 40 ≡ getD o at 0 * 256 + getD o (at + 1) 0 → n ≡ 0 → fourAt o at capability ≡ true
-  unfolding fourAt
-  empty-four l t z =
-      let a : getD o at 0 ≡ 0 = omega (arith, l at, l (at + 1)) in
-      let b : getD o (at + 1) 0 ≡ 40 = omega (arith, l at, l (at + 1)) in
-      let c : getD o (at + 2) 0 ≡ 0 = omega (arith, l (at + 2), l (at + 3)) in
-      let d : getD o (at + 3) 0 ≡ 0 = omega (arith, l (at + 2), l (at + 3)) in
-      rw (a, b, c, d)
-
-  -- octets of type 40 are these four exactly if their length is 0
-  four-capability : Octets o → 40 ≡ getD o at 0 * 256 + getD o (at + 1) 0 → fourAt o at capability ≡ eqb n 0
-  four-capability l t = go (fourAt o at capability) refl
-    where
-      go : (b : Bool) → fourAt o at capability ≡ b → b ≡ eqb n 0
-      go true e = sym (eq-eqb n 0 (four-empty e))
-      go false e = sym (ne-eqb n 0 (λ z. let f = sym e ∙ empty-four l t z in let y : _≡_ {A = ℕ} 0 1 = cc in omega arith))
+-- octets of type 40 are these four exactly if their length is 0
+four-capability : (o : List ℕ) (at n : ℕ) → at + 4 ≤ length o → 40 ≡ numberAt 2 o at → n ≡ numberAt 2 o (at + 2) → fourAt o at capability ≡ eqb n 0
+unfolding fourAt
+four-capability o at n there t size = rw (capability-number, number-split 2 2 o at there, ← t, ← size) (go (eqb n 0) refl)
+  where
+    go : (b : Bool) → eqb n 0 ≡ b → eqb (40 * 65536 + n) 2621440 ≡ b
+    go true e = eq-eqb (40 * 65536 + n) 2621440 (omega (arith, eqb-true n 0 e))
+    go false e = ne-eqb (40 * 65536 + n) 2621440 (λ q. eqb-false n 0 e (omega arith))
 
 -- the type at a place names the option k, the length n follows, and the value is due at the next place
 pub record Head (o : List ℕ) (at : ℕ) (k : Known) (n next : ℕ) : Type 0 where
@@ -142,20 +115,19 @@ pub record Head (o : List ℕ) (at : ℕ) (k : Known) (n next : ℕ) : Type 0 wh
   -- the length that the code tests is the option's own
   pub own : lengthFits o at k n ≡ eqb n (lengthOf k n)
 
-pub head : (o : List ℕ) (at : ℕ) {t b n next : ℕ} {k : Known} → Octets o → number 2 o at ≡ got t b → number 2 o b ≡ got n next → k ≡ named t → Head o at k n next
+pub head : (o : List ℕ) (at : ℕ) {t b n next : ℕ} {k : Known} → number 2 o at ≡ got t b → number 2 o b ≡ got n next → k ≡ named t → Head o at k n next
 unfolding optionFields here _>>=_ continue lengthFits lengthOf
-head o at {t} {b} {n} {next} {k} l e f g =
-    let x = number-back 2 o at e in
-    let y = number-back 2 o b f in
-    let i : at + 2 + 1 ≡ at + 3 = omega arith in
-    let size : n ≡ getD o (at + 2) 0 * 256 + getD o (at + 3) 0 = rw (x .1, i) at (two o b f) in
-    record { fits = omega arith; reads = λ s. rw (g, e, f); own = go size k g }
+head o at {t} {b} {n} {next} {k} e f g =
+    let first = number-back 2 o at e in
+    let second = number-back 2 o b f in
+    let there : at + 4 ≤ length o = omega arith in
+    record { fits = there; reads = λ s. rw (g, e, f); own = go there (first .0) (second .0 ∙ ap (numberAt 2 o) (first .1)) k g }
   where
-    go : n ≡ getD o (at + 2) 0 * 256 + getD o (at + 3) 0 → (j : Known) → j ≡ named t → lengthFits o at j n ≡ eqb n (lengthOf j n)
-    go h Holdtime q = refl
-    go h Priority q = refl
-    go h Packing q = four-capability o at n h l (sym (packing-type t (sym q)) ∙ two o at e)
-    go h Other q = refl
+    go : at + 4 ≤ length o → t ≡ numberAt 2 o at → n ≡ numberAt 2 o (at + 2) → (j : Known) → j ≡ named t → lengthFits o at j n ≡ eqb n (lengthOf j n)
+    go h x y Holdtime q = refl
+    go h x y Priority q = refl
+    go h x y Packing q = four-capability o at n h (sym (packing-type t (sym q)) ∙ x) y
+    go h x y Other q = refl
 
 -- refused by the tests that the code made
 pub tested : {o : List ℕ} {at n next : ℕ} {k : Known} → Head o at k n next → (s : Said) {r b : Bool}

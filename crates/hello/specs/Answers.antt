@@ -5,13 +5,13 @@
 --     zeroPriority, unannounced     a priority that is not announced is answered as 0
 --     fourAt, lengthFits            four octets at a place are those of a string; the length of an option there, as it is tested
 -- Assumes nothing: these are definitions.
-use Prim.Native.Nat.{ℕ, _+_}
+use Prim.Native.Nat.{ℕ}
 use mathlib.Core.Path.{_≡_}
-use mathlib.Core.Bool.{Bool, false, cond, _&&_}
+use mathlib.Core.Bool.{Bool, false, cond}
 use mathlib.Core.List.{List, [], _∷_}
 use mathlib.Core.Option.{Option, none, some}
-use lib.ListN.{getD}
 use lib.Dec.{eqb}
+use Rattle.octets.specs.Octets.{numberAt}
 use Rattle.format.specs.Outcome.{Outcome, gives, refuses}
 use Rattle.format.specs.Reader.{Read, got, bad}
 use Rattle.hello.specs.Options.{Said, said, lengthOf}
@@ -57,11 +57,7 @@ unannounced (Is h) = zeroPriority h
 unannounced (NoHello r) = Unit {0}
 
 unfoldable pub fourAt : List ℕ → ℕ → List ℕ → Bool
-fourAt o at s =
-    eqb (getD o at 0) (getD s 0 0)
-    && (eqb (getD o (at + 1) 0) (getD s 1 0)
-    && (eqb (getD o (at + 2) 0) (getD s 2 0)
-    && eqb (getD o (at + 3) 0) (getD s 3 0)))
+fourAt o at s = eqb (numberAt 4 o at) (numberAt 4 s 0)
 
 -- "packed assert capability is the four octets 00 28 00 00"
 unfoldable pub lengthFits : List ℕ → ℕ → Known → ℕ → Bool

@@ -43,19 +43,10 @@ pub(crate) fn option_named(kind: u32) -> Known
 
 // Whether the four octets at a place are those of a string.
 fn four_at(m: &[u8], at: usize, s: &[u8]) -> bool
-    requires { ⌜ (at + 4 ≤ length (now m)) × (length (now s) ≡ 4) ⌝ }
+    requires { ⌜ at + 4 ≤ length (now m) ⌝ }
     ensures { λ r. ⌜ r ≡ fourAt (now (m .entry)) at (now (s .entry)) ⌝ }
 {
-    if m[at] != s[0] {
-        return false;
-    }
-    if m[at + 1] != s[1] {
-        return false;
-    }
-    if m[at + 2] != s[2] {
-        return false;
-    }
-    m[at + 3] == s[3]
+    number32(&m[at..at + 4], 0) == number32(s, 0)
 }
 
 // Whether an option that begins at a place has its length. The packing capability is its four octets.

@@ -19,8 +19,7 @@ found : (c : tie.After-option-named)
 found c =
     let l = c .before .before .before .before in
     let t = l .before .before in
-    let s = t .before .before .before in
-    head _ _ (λ i. s .shared-slice-known .given i .fits) (read-got (t .before .before .read16 .ensures) (t .t .given .1))
+    head _ _ (read-got (t .before .before .read16 .ensures) (t .t .given .1))
     (read-got (l .read162 .ensures) (c .before .before .l .given .1)) (c .option-named .ensures)
 
 returns : tie.Need-returns

@@ -1,31 +1,19 @@
--- `hello::table::four_at` meets its contract, by the octets that were found equal.
+-- `hello::table::four_at` meets its contract: two numbers are compared.
 -- Assumes nothing.
-use borrow.Author.Tests.{eq-eqb, ne-eqb}
+use mathlib.Core.Path.{refl}
+use Prim.Native.Nat.{_+_}
+use denote.Ref.{now}
 use borrow.Author.Needs.{needs}
+use Rattle.octets.proofs.Laws.{number-cut}
 use Rattle.hello.specs.Answers.{fourAt}
 use Rattle.hello.proofs.table.four_at.Statement.{statement}
 use Rattle.hello.proofs.table.four_at.Tie as tie
 
 returns : tie.Need-returns
 unfolding fourAt
-returns c = rw (ne-eqb _ _ (c .if1 .taken))
-
-returns-2 : tie.Need-returns-2
-unfolding fourAt
-returns-2 c = rw (eq-eqb _ _ (c .before .before .before .if1 .left), ne-eqb _ _ (c .if2 .taken))
-
-returns-3 : tie.Need-returns-3
-unfolding fourAt
-returns-3 c =
-    let d = c .before .before .before in
-    rw (eq-eqb _ _ (d .before .before .before .if1 .left), eq-eqb _ _ (d .if2 .left), ne-eqb _ _ (c .if3 .taken))
-
-returns-4 : tie.Need-returns-4
-unfolding fourAt
-returns-4 c =
-    let e = c .before .before in
-    let d = e .before .before .before in
-    rw (eq-eqb _ _ (d .before .before .before .if1 .left), eq-eqb _ _ (d .if2 .left), eq-eqb _ _ (e .if3 .left))
+returns c =
+    let s = c .before .before .before .before .before in
+    rw (c .before .number32 .ensures, number-cut 4 (now (s .args .m)) (s .args .at) (s .args .at + 4) refl (s .pre), c .number322 .ensures)
 
 pub four-at-spec : {M : Type 1} → statement M
 four-at-spec =
@@ -33,16 +21,8 @@ four-at-spec =
     (tie.spec
     (λ c. search needs)
     (λ c. search needs)
-    returns
     (λ c. search needs)
     (λ c. search needs)
-    (λ c. search needs)
-    returns-2
-    (λ c. search needs)
-    (λ c. search needs)
-    (λ c. search needs)
-    returns-3
-    (λ c. search needs)
-    (λ c. search needs)
-    (λ c. search needs)
-    returns-4)
+    (λ c κs. search needs)
+    (λ c κs. search needs)
+    returns)

@@ -8,9 +8,6 @@ use Rattle.hello.specs.Answers.{lengthFits}
 use Rattle.hello.proofs.table.length_fits.Statement.{statement}
 use Rattle.hello.proofs.table.length_fits.Tie as tie
 
-four-at-requires : tie.Need-four-at-requires
-four-at-requires c κs = (c .before .before .before .before .pre, refl)
-
 returns : tie.Need-returns
 unfolding lengthFits lengthOf
 returns c = rw (c .enum-told .given .1)
@@ -35,7 +32,7 @@ length-fits-spec =
     (λ c. search needs)
     (λ c. search needs)
     (λ c. search needs)
-    four-at-requires
+    (λ c κs. search needs)
     (λ c. search needs)
     returns
     returns-2
