@@ -24,9 +24,9 @@ ghost use Rattle.sections.specs.Layout.{base};
 ghost use Rattle.sections.specs.Checking.{checking, checkedBy};
 
 // The most entries of the first two sections; of neighbours there are at most `ROWS`.
-pub const ASSERT_LIMIT: usize = 1024;
+pub(crate) const ASSERT_LIMIT: usize = 1024;
 
-pub const PAIR_LIMIT: usize = 1024;
+pub(crate) const PAIR_LIMIT: usize = 1024;
 
 // The octets of a header, and of an assert, a pair and a neighbour in IPv4.
 pub const HEADER: usize = 12;
