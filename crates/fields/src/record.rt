@@ -5,8 +5,7 @@ use crate::field::group_check;
 use crate::field::in_record;
 use crate::field::octets_check;
 use crate::field::source_check;
-use addresses::address_at;
-use addresses::is_zero;
+use crate::field::zero_at;
 use format::AssertFields;
 use format::Kind;
 use format::PairFields;
@@ -39,7 +38,7 @@ fn assert_fields(ipv6: bool, m: &[u8], at: usize) -> Checked
     if r_bit(number32(m, word_at)) {
         return octets_check(m, metric_at, 4);
     }
-    if is_zero(address_at(ipv6, m, source_at + 2)) {
+    if zero_at(ipv6, m, source_at + 2) {
         return bad(7, source_at);
     }
     octets_check(m, metric_at, 4)

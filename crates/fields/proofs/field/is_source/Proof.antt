@@ -8,12 +8,11 @@ use borrow.Author.Needs.{needs}
 use denote.Ref.{now}
 use lib.Dec.{eqb}
 use lib.ListN.{length}
+use Rattle.octets.specs.Octets.{numberAt}
 use Rattle.records.specs.Sizes.{sourceSize}
 use Rattle.format.specs.Family.{familyOf, mayBeSource}
-use Rattle.format.specs.Values.{numberOf}
 use Rattle.format.specs.Address.{sourceForm}
-use Rattle.addresses.proofs.Laws.{address-there}
-use Rattle.fields.proofs.Fields.{sourceTest, source-form}
+use Rattle.fields.proofs.Fields.{sourceTest, source-form, source-first, source-zero, source-other}
 use Rattle.fields.proofs.field.is_source.Statement.{statement}
 use Rattle.fields.proofs.field.is_source.Tie as tie
 
@@ -42,35 +41,39 @@ returns-3 c =
     let e = c .before .before in
     rw (asked (e .before .before .before), ← (e .before .family-number .ensures), eq-eqb _ _ (e .if2 .left), ne-eqb _ _ (c .if3 .taken))
 
+abbrev past : tie.Else3 → tie.Else1
+past c = c .before .before .before .before .before
+
 -- past those tests the address decides
-left : (c : tie.After-address-at)
-    → sourceTest (familyOf (start (c .before .before .before .before .before .before) .args .ipv6)) (start (c .before .before .before .before .before .before) .args .zero-allowed) (now (start (c .before .before .before .before .before .before) .args .s))
-    ≡ mayBeSource (familyOf (start (c .before .before .before .before .before .before) .args .ipv6)) (start (c .before .before .before .before .before .before) .args .zero-allowed) (numberOf (c .address-at .result))
+left : (c : tie.Else3)
+    → (eqb (length (now (start (past c) .args .s))) (sourceSize (familyOf (start (past c) .args .ipv6) .width)) && sourceForm (familyOf (start (past c) .args .ipv6)) (start (past c) .args .zero-allowed) (now (start (past c) .args .s)))
+    ≡ mayBeSource (familyOf (start (past c) .args .ipv6)) (start (past c) .args .zero-allowed) (numberAt (familyOf (start (past c) .args .ipv6) .width) (now (start (past c) .args .s)) 2)
 left c =
-    let e = c .before .before .before in
-    let d = e .before .before .before in
-    let a = start d .args in
-    rw (← (e .before .family-number .ensures), eq-eqb _ _ (e .if2 .left), eq-eqb _ _ (c .before .if3 .left), c .address-at .ensures, address-there (familyOf (a .ipv6)) (now (a .s)) 2 (omega (arith, long d)))
+    let e = c .before .before in
+    rw (asked (past c), ← (e .before .family-number .ensures), eq-eqb _ _ (e .if2 .left), eq-eqb _ _ (c .if3 .left))
 
 returns-4 : tie.Need-returns-4
-unfolding mayBeSource
 returns-4 c =
-    let d = c .before .before in
-    rw (asked (d .before .before .before .before .before .before), left d, ← (c .before .is-source .ensures), c .if4 .taken)
+    let e = c .before .before in
+    let a = start (past e) .args in
+    rw (left e) (source-first (a .ipv6) (a .zero-allowed) (now (a .s)) (λ i. c .before .shared-slice-known4 .given i .fits) (long (past e)) (c .if4 .taken))
+
+zero-at-requires : tie.Need-zero-at-requires
+zero-at-requires c κs = omega (arith, long (past (c .before .before)))
 
 returns-5 : tie.Need-returns-5
-unfolding mayBeSource
 returns-5 c =
-    let e = c .before .before in
-    let d = e .before .before in
-    rw (asked (d .before .before .before .before .before .before), left d, ← (e .before .is-source .ensures), e .if4 .left, c .before .if5 .taken) (c .is-zero .ensures)
+    let z = c .before in
+    let e = z .before .before .before in
+    let a = start (past e) .args in
+    rw (left e) (source-zero (a .ipv6) (a .zero-allowed) _ (z .zero-at .ensures) (c .if5 .taken))
 
 returns-6 : tie.Need-returns-6
-unfolding mayBeSource
 returns-6 c =
-    let e = c .before in
-    let d = e .before .before in
-    rw (asked (d .before .before .before .before .before .before), left d, ← (e .before .is-source .ensures), e .if4 .left, c .if5 .left)
+    let z = c .before in
+    let e = z .before .before .before in
+    let a = start (past e) .args in
+    rw (left e) (source-other (a .ipv6) (a .zero-allowed) _ (z .zero-at .ensures) (c .if5 .left))
 
 pub is-source-spec : {M : Type 1} → statement M
 is-source-spec =
@@ -84,9 +87,8 @@ is-source-spec =
     returns-2
     (λ c. search needs)
     returns-3
-    (λ c κs. search needs)
-    (λ c κs. search needs)
+    (λ c. search needs)
     returns-4
-    (λ c κs. search needs)
+    zero-at-requires
     returns-5
     returns-6)

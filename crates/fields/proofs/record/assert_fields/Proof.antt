@@ -1,15 +1,12 @@
 -- `fields::record::assert_fields` meets its contract: each field by its own check.
 -- Assumes nothing.
-use Prim.Native.Nat.{_+_}
 use mathlib.Core.Path.{_≡_, ap, _∙_}
 use native.Mathlib.Omega.{arith}
 use borrow.Author.Needs.{needs}
 use denote.Ref.{now}
-use lib.Dec.{eqb}
 use Rattle.octets.specs.Octets.{numberAt}
 use Rattle.records.specs.Records.{rBit}
 use Rattle.format.specs.Family.{familyOf}
-use Rattle.addresses.proofs.Laws.{address-there}
 use Rattle.fields.proofs.Asserts.{assert-no-group, assert-no-source, assert-no-word, Head, head, head-room, zero-tested, assert-zero, assert-last}
 use Rattle.fields.proofs.record.assert_fields.Statement.{statement}
 use Rattle.fields.proofs.record.assert_fields.Tie as tie
@@ -69,34 +66,22 @@ returns-4 c =
     let b = c .before .before in
     assert-last (found (b .before .before)) (rw (← bit-is b, c .before .if1 .taken)) (c .octets-check2 .ensures)
 
-add-address-at : tie.Need-add-address-at
-add-address-at c = omega (arith, head-room (found (c .before .before .before)))
-
-abbrev worded : tie.After-is-zero → tie.After-known-told3
-worded c = c .before .before .before .before .before
-
--- the source as code has read it is the one that is tested
-source-is : (c : tie.After-is-zero)
-    → c .is-zero .result ≡ eqb (numberAt (familyOf (start (grouped (sourced (worded c))) .args .ipv6) .width) (now (start (grouped (sourced (worded c))) .args .m)) (grouped (sourced (worded c)) .before .g .given .0 .0 + 2)) 0
-source-is c =
-    let g = grouped (sourced (worded c)) in
-    let a = start g .args in
-    c .is-zero .ensures
-    ∙ ap (λ x. eqb x 0) (c .before .address-at .ensures ∙ address-there (familyOf (a .ipv6)) (now (a .m)) (g .before .g .given .0 .0 + 2) (omega (arith, head-room (found (worded c)))))
+abbrev worded : tie.After-zero-at → tie.After-known-told3
+worded c = c .before .before .before .before
 
 returns-5 : tie.Need-returns-5
 returns-5 c =
     let z = c .before .before in
-    let e = z .before .before in
+    let e = z .before in
     let h = found (worded z) in
-    assert-zero h (zero-tested h (bit-is (e .before)) (e .if1 .left) (source-is z) (c .before .if2 .taken)) (c .bad .ensures)
+    assert-zero h (zero-tested h (bit-is (e .before)) (e .if1 .left) (z .zero-at .ensures) (c .before .if2 .taken)) (c .bad .ensures)
 
 returns-6 : tie.Need-returns-6
 returns-6 c =
     let z = c .before .before in
-    let e = z .before .before in
+    let e = z .before in
     let h = found (worded z) in
-    assert-last h (zero-tested h (bit-is (e .before)) (e .if1 .left) (source-is z) (c .before .if2 .left)) (c .octets-check3 .ensures)
+    assert-last h (zero-tested h (bit-is (e .before)) (e .if1 .left) (z .zero-at .ensures) (c .before .if2 .left)) (c .octets-check3 .ensures)
 
 pub assert-fields-spec : {M : Type 1} → statement M
 assert-fields-spec =
@@ -118,9 +103,8 @@ assert-fields-spec =
     (λ c κs. search needs)
     (λ c κs. search needs)
     returns-4
-    add-address-at
-    (λ c κs. search needs)
-    (λ c κs. search needs)
+    (λ c. omega (arith, head-room (found (c .before .before .before))))
+    (λ c κs. omega (arith, head-room (found (c .before .before .before))))
     (λ c κs. search needs)
     returns-5
     (λ c κs. search needs)
