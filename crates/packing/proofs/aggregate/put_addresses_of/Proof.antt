@@ -35,12 +35,6 @@ loop-holds c =
 put-address-requires : tie.Need-put-address-requires Inv-loop μ-loop
 put-address-requires c κs = there (c .before)
 
-add-at-2 : tie.Need-add-at-2 Inv-loop μ-loop
-add-at-2 c = omega (arith, there (c .before .before .before .before), c .before .before .before .before .before .before .before .width .ensures)
-
-add-out : tie.Need-add-out Inv-loop μ-loop
-add-out c = omega (arith, there (c .before .before .before .before), c .before .before .before .before .before .before .address-size .ensures, c .before .before .before .before .before .loop .inv .same)
-
 loop-again : tie.Need-loop-again Inv-loop μ-loop
 loop-again c =
     rows-next (c .before .before .before .before .before .loop .inv) (address-sized (familyOf (c .before .before .before .before .before .before .before .before .before .before .args .ipv6)) (c .before .before .before .before .before .before .before .before .before .before .args .source)) (c .before .before .before .before .loop-test .taken) _ _ _ _ (c .before .before .put-address .ensures) refl
@@ -64,8 +58,8 @@ put-addresses-of-spec =
     put-address-requires
     (λ c. search needs)
     (λ c. search needs)
-    add-at-2
-    add-out
+    (λ c. omega (arith, there (c .before .before .before .before), c .before .before .before .before .before .before .before .width .ensures))
+    (λ c. omega (arith, there (c .before .before .before .before), c .before .before .before .before .before .before .address-size .ensures, c .before .before .before .before .before .loop .inv .same))
     (λ c. search needs)
     (λ c. search needs)
     loop-again

@@ -15,9 +15,6 @@ use borrow.Author.Needs.{needs}
 use Rattle.packing.proofs.aggregate.put_group_head.Statement.{statement}
 use Rattle.packing.proofs.aggregate.put_group_head.Tie as tie
 
-put-number-requires : tie.Need-put-number-requires
-put-number-requires c κs = omega (arith, c .before .before .before .before .before .width .ensures, c .before .before .before .before .before .before .before .before .pre, c .before .before .before .put-group .kept)
-
 returns : tie.Need-returns
 returns c =
     let a = c .before .before .before .before .before .before .before .before .before .before .before .args in
@@ -36,7 +33,7 @@ put-group-head-spec =
     (λ c κs. search needs)
     (λ c. search needs)
     (λ c. search needs)
-    put-number-requires
+    (λ c κs. omega (arith, c .before .before .before .before .before .width .ensures, c .before .before .before .before .before .before .before .before .pre, c .before .before .before .put-group .kept))
     (λ c. search needs)
     (λ c. search needs)
     (λ c. search needs)

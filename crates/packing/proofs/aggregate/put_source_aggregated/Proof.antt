@@ -29,29 +29,11 @@ room : (c : tie.After-width)
     → c .before .before .before .args .out + (14 + familyOf (c .before .before .before .args .ipv6) .width + (familyOf (c .before .before .before .args .ipv6) .width + 4) * c .before .before .before .args .k) ≤ length (now (c .before .before .before .args .d))
 room c = rw (source-long (familyOf (c .before .before .before .args .ipv6)) (now (c .before .before .before .args .e)) (c .before .before .before .args .from) (c .before .before .before .args .k) (c .before .before .before .pre .0) (c .before .before .before .pre .2)) at (c .before .before .before .pre .3)
 
-add-put-metric : tie.Need-add-put-metric
-add-put-metric c = omega (arith, there c, c .width .ensures)
-
 put-metric-requires : tie.Need-put-metric-requires
 put-metric-requires c κs = (omega (arith, there (c .before), c .before .width .ensures), omega (arith, room (c .before)))
 
-add-put-source : tie.Need-add-put-source
-add-put-source c = omega (arith, there (c .before .before .before .before), c .before .before .before .before .width .ensures)
-
-add-put-source-2 : tie.Need-add-put-source-2
-add-put-source-2 c = omega (arith, room (c .before .before .before .before .before))
-
 put-source-requires : tie.Need-put-source-requires
 put-source-requires c κs = (omega (arith, there (c .before .before .before .before .before), c .before .before .before .before .before .width .ensures), omega (arith, room (c .before .before .before .before .before), c .before .before .before .put-metric .kept))
-
-add-put-number-2 : tie.Need-add-put-number-2
-add-put-number-2 c = omega (arith, room (c .before .before .before .before .before .before .before .before .before), c .before .before .before .before .before .before .before .before .before .width .ensures)
-
-put-number-requires : tie.Need-put-number-requires
-put-number-requires c κs = omega (arith, room (c .before .before .before .before .before .before .before .before .before), c .before .before .before .before .before .before .before .before .before .width .ensures, c .before .before .before .before .before .before .before .put-metric .kept, c .before .before .before .put-source .kept)
-
-add-put-addresses-2 : tie.Need-add-put-addresses-2
-add-put-addresses-2 c = omega (arith, room (c .before .before .before .before .before .before .before .before .before .before .before .before .before), c .before .before .before .before .before .before .before .before .before .before .before .before .before .width .ensures)
 
 put-addresses-requires : tie.Need-put-addresses-requires
 put-addresses-requires c κs = (c .before .before .before .before .before .before .before .before .before .before .before .before .before .before .before .before .pre .1, omega (arith, room (c .before .before .before .before .before .before .before .before .before .before .before .before .before), c .before .before .before .before .before .before .before .before .before .before .before .before .before .width .ensures, c .before .before .before .before .before .before .before .before .before .before .before .put-metric .kept, c .before .before .before .before .before .before .before .put-source .kept, c .before .before .before .put-number .kept))
@@ -82,16 +64,16 @@ put-source-aggregated-spec =
     (tie.spec
     (λ c κs. search needs)
     (λ c. search needs)
-    add-put-metric
+    (λ c. omega (arith, there c, c .width .ensures))
     put-metric-requires
-    add-put-source
-    add-put-source-2
+    (λ c. omega (arith, there (c .before .before .before .before), c .before .before .before .before .width .ensures))
+    (λ c. omega (arith, room (c .before .before .before .before .before)))
     put-source-requires
     (λ c. search needs)
-    add-put-number-2
-    put-number-requires
+    (λ c. omega (arith, room (c .before .before .before .before .before .before .before .before .before), c .before .before .before .before .before .before .before .before .before .width .ensures))
+    (λ c κs. omega (arith, room (c .before .before .before .before .before .before .before .before .before), c .before .before .before .before .before .before .before .before .before .width .ensures, c .before .before .before .before .before .before .before .put-metric .kept, c .before .before .before .put-source .kept))
     (λ c. search needs)
-    add-put-addresses-2
+    (λ c. omega (arith, room (c .before .before .before .before .before .before .before .before .before .before .before .before .before), c .before .before .before .before .before .before .before .before .before .before .before .before .before .width .ensures))
     put-addresses-requires
     (λ c. search needs)
     returns)

@@ -33,17 +33,8 @@ tested c = sym (c .is-zero .ensures ∙ ap (λ x. eqb x 0) (rw (c .before .befor
 loop-holds : tie.Need-loop-holds Inv-loop μ-loop
 loop-holds c = count-start (familyOf (c .before .before .args .ipv6)) zeroSource (now (c .before .before .args .e)) (c .before .before .args .from) (c .before .before .args .n) (c .before .before .pre)
 
-add-address : tie.Need-add-address Inv-loop μ-loop
-add-address c = omega (arith, there c, c .before .before .width .ensures)
-
-address-requires : tie.Need-address-requires Inv-loop μ-loop
-address-requires c κs = omega (arith, there c, c .before .before .width .ensures)
-
 returns : tie.Need-returns Inv-loop μ-loop
 returns c = count-stop (c .before .before .before .before .loop .inv) (c .before .before .before .loop-test .taken) (tested (c .before) ∙ not-true _ (c .if1 .taken))
-
-add-at-2 : tie.Need-add-at-2 Inv-loop μ-loop
-add-at-2 c = omega (arith, there (c .before .before .before), c .before .before .before .before .before .width .ensures)
 
 loop-again : tie.Need-loop-again Inv-loop μ-loop
 loop-again c = count-next (c .before .before .before .before .loop .inv) (c .before .before .before .loop-test .taken) _ (tested (c .before) ∙ not-false _ (c .if1 .left)) (ap (λ w. c .before .before .before .before .loop .at + (2 * w + 8)) (c .before .before .before .before .before .width .ensures .0))
@@ -59,14 +50,14 @@ zeros-spec =
     μ-loop
     (λ c κs. search needs)
     loop-holds
-    add-address
-    address-requires
+    (λ c. omega (arith, there c, c .before .before .width .ensures))
+    (λ c κs. omega (arith, there c, c .before .before .width .ensures))
     (λ c κs. search needs)
     returns
     (λ c. search needs)
     (λ c. search needs)
     (λ c. search needs)
-    add-at-2
+    (λ c. omega (arith, there (c .before .before .before), c .before .before .before .before .before .width .ensures))
     (λ c. search needs)
     loop-again
     returns-2)

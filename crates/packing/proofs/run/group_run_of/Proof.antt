@@ -32,25 +32,13 @@ tested : (c : tie.After-is-same Inv-loop μ-loop)
     → joins Group (assertAt (familyOf (c .before .before .before .before .before .before .before .args .ipv6)) (now (c .before .before .before .before .before .before .before .args .e)) (c .before .before .before .before .before .before .before .args .from)) (assertAt (familyOf (c .before .before .before .before .before .before .before .args .ipv6)) (now (c .before .before .before .before .before .before .before .args .e)) (c .before .before .before .loop .at)) ≡ c .is-same .result
 tested c = group-joins (familyOf (c .before .before .before .before .before .before .before .args .ipv6)) (now (c .before .before .before .before .before .before .before .args .e)) (c .before .before .before .before .before .before .before .args .from) (c .before .before .before .loop .at) ∙ rw (← c .before .before .before .before .address .ensures, ← c .before .address2 .ensures) (sym (c .is-same .ensures))
 
-address-requires : tie.Need-address-requires Inv-loop μ-loop
-address-requires c κs = omega (arith, first c)
-
-add-at : tie.Need-add-at Inv-loop μ-loop
-add-at c = omega (arith, first (c .before), c .before .width .ensures)
-
 loop-holds : tie.Need-loop-holds Inv-loop μ-loop
 loop-holds c =
     let a = c .before .before .before .args in
     rw (c .before .width .ensures .0) (count-run (familyOf (a .ipv6)) Group (now (a .e)) (a .from) (a .n) (c .before .before .before .pre .0) (c .before .before .before .pre .1))
 
-address-requires-2 : tie.Need-address-requires-2 Inv-loop μ-loop
-address-requires-2 c κs = omega (arith, there c)
-
 returns : tie.Need-returns Inv-loop μ-loop
 returns c = count-stop (c .before .before .before .before .loop .inv) (c .before .before .before .loop-test .taken) (tested (c .before) ∙ not-true _ (c .if1 .taken))
-
-add-at-2 : tie.Need-add-at-2 Inv-loop μ-loop
-add-at-2 c = omega (arith, there (c .before .before .before), c .before .before .before .before .before .before .width .ensures)
 
 loop-again : tie.Need-loop-again Inv-loop μ-loop
 loop-again c = count-next (c .before .before .before .before .loop .inv) (c .before .before .before .loop-test .taken) _ (tested (c .before) ∙ not-false _ (c .if1 .left)) (ap (λ w. c .before .before .before .before .loop .at + (2 * w + 8)) (c .before .before .before .before .before .before .width .ensures .0))
@@ -67,14 +55,14 @@ group-run-of-spec =
     (λ c κs. search needs)
     (λ c. search needs)
     (λ c. search needs)
-    address-requires
-    add-at
+    (λ c κs. omega (arith, first c))
+    (λ c. omega (arith, first (c .before), c .before .width .ensures))
     loop-holds
-    address-requires-2
+    (λ c κs. omega (arith, there c))
     (λ c κs. search needs)
     returns
     (λ c. search needs)
-    add-at-2
+    (λ c. omega (arith, there (c .before .before .before), c .before .before .before .before .before .before .width .ensures))
     (λ c. search needs)
     loop-again
     returns-2)

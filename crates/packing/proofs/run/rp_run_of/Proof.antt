@@ -34,40 +34,13 @@ tested c =
     let w = c .before .before .before .before .before .width .ensures .0 in
     rp-joins (familyOf (c .before .before .before .before .before .before .before .args .ipv6)) (now (c .before .before .before .before .before .before .before .args .e)) (c .before .before .before .before .before .before .before .args .from) (c .before .before .loop .at) (c .before .before .before .before .before .before .before .pre .2) ∙ rw (← w, ← c .before .before .before .before .word .ensures, ← c .before .before .before .word2 .ensures) (sym (c .has-metric .ensures))
 
-add-word : tie.Need-add-word Inv-loop μ-loop
-add-word c = omega (arith, first c, c .width .ensures)
-
-word-requires : tie.Need-word-requires Inv-loop μ-loop
-word-requires c κs = omega (arith, first c, c .width .ensures)
-
-add-word-2 : tie.Need-add-word-2 Inv-loop μ-loop
-add-word-2 c = omega (arith, first (c .before), c .before .width .ensures)
-
-add-word-3 : tie.Need-add-word-3 Inv-loop μ-loop
-add-word-3 c = omega (arith, first (c .before), c .before .width .ensures)
-
-word-requires-2 : tie.Need-word-requires-2 Inv-loop μ-loop
-word-requires-2 c κs = omega (arith, first (c .before), c .before .width .ensures)
-
-add-at : tie.Need-add-at Inv-loop μ-loop
-add-at c = omega (arith, first (c .before .before), c .before .before .width .ensures)
-
 loop-holds : tie.Need-loop-holds Inv-loop μ-loop
 loop-holds c =
     let a = c .before .before .before .before .args in
     rw (c .before .before .width .ensures .0) (count-run (familyOf (a .ipv6)) Aggregated (now (a .e)) (a .from) (a .n) (c .before .before .before .before .pre .0) (c .before .before .before .before .pre .1))
 
-add-has-metric : tie.Need-add-has-metric Inv-loop μ-loop
-add-has-metric c = omega (arith, there c, c .before .before .before .before .width .ensures)
-
-has-metric-requires : tie.Need-has-metric-requires Inv-loop μ-loop
-has-metric-requires c κs = omega (arith, there c, c .before .before .before .before .width .ensures)
-
 returns : tie.Need-returns Inv-loop μ-loop
 returns c = count-stop (c .before .before .before .loop .inv) (c .before .before .loop-test .taken) (tested (c .before) ∙ not-true _ (c .if1 .taken))
-
-add-at-2 : tie.Need-add-at-2 Inv-loop μ-loop
-add-at-2 c = omega (arith, there (c .before .before), c .before .before .before .before .before .before .width .ensures)
 
 loop-again : tie.Need-loop-again Inv-loop μ-loop
 loop-again c = count-next (c .before .before .before .loop .inv) (c .before .before .loop-test .taken) _ (tested (c .before) ∙ not-false _ (c .if1 .left)) (ap (λ w. c .before .before .before .loop .at + (2 * w + 8)) (c .before .before .before .before .before .before .width .ensures .0))
@@ -85,20 +58,20 @@ rp-run-of-spec =
     (λ c. search needs)
     (λ c. search needs)
     (λ c. search needs)
-    add-word
-    word-requires
+    (λ c. omega (arith, first c, c .width .ensures))
+    (λ c κs. omega (arith, first c, c .width .ensures))
     (λ c. search needs)
-    add-word-2
-    add-word-3
-    word-requires-2
-    add-at
+    (λ c. omega (arith, first (c .before), c .before .width .ensures))
+    (λ c. omega (arith, first (c .before), c .before .width .ensures))
+    (λ c κs. omega (arith, first (c .before), c .before .width .ensures))
+    (λ c. omega (arith, first (c .before .before), c .before .before .width .ensures))
     loop-holds
     (λ c. search needs)
-    add-has-metric
-    has-metric-requires
+    (λ c. omega (arith, there c, c .before .before .before .before .width .ensures))
+    (λ c κs. omega (arith, there c, c .before .before .before .before .width .ensures))
     returns
     (λ c. search needs)
-    add-at-2
+    (λ c. omega (arith, there (c .before .before), c .before .before .before .before .before .before .width .ensures))
     (λ c. search needs)
     loop-again
     returns-2)

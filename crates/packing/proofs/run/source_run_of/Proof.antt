@@ -44,55 +44,16 @@ both : (c : tie.After-is-same Inv-loop μ-loop)
     → joins Aggregated (assertAt (familyOf (c .before .before .before .before .before .before .before .before .before .before .before .args .ipv6)) (now (c .before .before .before .before .before .before .before .before .before .before .before .args .e)) (c .before .before .before .before .before .before .before .before .before .before .before .args .from)) (assertAt (familyOf (c .before .before .before .before .before .before .before .before .before .before .before .args .ipv6)) (now (c .before .before .before .before .before .before .before .before .before .before .before .args .e)) (c .before .before .before .before .before .loop .at)) ≡ c .is-same .result
 both c = tested (c .before .before .before) ∙ rw (not-false (c .before .before .before .has-metric .result) (c .before .before .if1 .left), ← c .before .address2 .ensures) (sym (c .is-same .ensures))
 
-add-address : tie.Need-add-address Inv-loop μ-loop
-add-address c = omega (arith, first c, c .width .ensures)
-
-address-requires : tie.Need-address-requires Inv-loop μ-loop
-address-requires c κs = omega (arith, first c, c .width .ensures)
-
-add-word : tie.Need-add-word Inv-loop μ-loop
-add-word c = omega (arith, first (c .before), c .before .width .ensures)
-
-word-requires : tie.Need-word-requires Inv-loop μ-loop
-word-requires c κs = omega (arith, first (c .before), c .before .width .ensures)
-
-add-word-2 : tie.Need-add-word-2 Inv-loop μ-loop
-add-word-2 c = omega (arith, first (c .before .before), c .before .before .width .ensures)
-
-add-word-3 : tie.Need-add-word-3 Inv-loop μ-loop
-add-word-3 c = omega (arith, first (c .before .before), c .before .before .width .ensures)
-
-word-requires-2 : tie.Need-word-requires-2 Inv-loop μ-loop
-word-requires-2 c κs = omega (arith, first (c .before .before), c .before .before .width .ensures)
-
-add-at : tie.Need-add-at Inv-loop μ-loop
-add-at c = omega (arith, first (c .before .before .before), c .before .before .before .width .ensures)
-
 loop-holds : tie.Need-loop-holds Inv-loop μ-loop
 loop-holds c =
     let a = c .before .before .before .before .before .args in
     rw (c .before .before .before .width .ensures .0) (count-run (familyOf (a .ipv6)) Aggregated (now (a .e)) (a .from) (a .n) (c .before .before .before .before .before .pre .0) (c .before .before .before .before .before .pre .1))
 
-add-has-metric : tie.Need-add-has-metric Inv-loop μ-loop
-add-has-metric c = omega (arith, there c, c .before .before .before .before .before .width .ensures)
-
-has-metric-requires : tie.Need-has-metric-requires Inv-loop μ-loop
-has-metric-requires c κs = omega (arith, there c, c .before .before .before .before .before .width .ensures)
-
 returns : tie.Need-returns Inv-loop μ-loop
 returns c = count-stop (c .before .before .before .loop .inv) (c .before .before .loop-test .taken) (tested (c .before) ∙ rw (not-true (c .before .has-metric .result) (c .if1 .taken)))
 
-add-address-2 : tie.Need-add-address-2 Inv-loop μ-loop
-add-address-2 c = omega (arith, there (c .before .before), c .before .before .before .before .before .before .before .width .ensures)
-
-address-requires-2 : tie.Need-address-requires-2 Inv-loop μ-loop
-address-requires-2 c κs = omega (arith, there (c .before .before), c .before .before .before .before .before .before .before .width .ensures)
-
 returns-2 : tie.Need-returns-2 Inv-loop μ-loop
 returns-2 c = count-stop (c .before .before .before .before .before .before .loop .inv) (c .before .before .before .before .before .loop-test .taken) (both (c .before) ∙ not-true _ (c .if2 .taken))
-
-add-at-2 : tie.Need-add-at-2 Inv-loop μ-loop
-add-at-2 c = omega (arith, there (c .before .before .before .before .before), c .before .before .before .before .before .before .before .before .before .before .width .ensures)
 
 loop-again : tie.Need-loop-again Inv-loop μ-loop
 loop-again c = count-next (c .before .before .before .before .before .before .loop .inv) (c .before .before .before .before .before .loop-test .taken) _ (both (c .before) ∙ not-false _ (c .if2 .left)) (ap (λ w. c .before .before .before .before .before .before .loop .at + (2 * w + 8)) (c .before .before .before .before .before .before .before .before .before .before .width .ensures .0))
@@ -109,27 +70,27 @@ source-run-of-spec =
     (λ c κs. search needs)
     (λ c. search needs)
     (λ c. search needs)
-    add-address
-    address-requires
+    (λ c. omega (arith, first c, c .width .ensures))
+    (λ c κs. omega (arith, first c, c .width .ensures))
     (λ c. search needs)
-    add-word
-    word-requires
+    (λ c. omega (arith, first (c .before), c .before .width .ensures))
+    (λ c κs. omega (arith, first (c .before), c .before .width .ensures))
     (λ c. search needs)
-    add-word-2
-    add-word-3
-    word-requires-2
-    add-at
+    (λ c. omega (arith, first (c .before .before), c .before .before .width .ensures))
+    (λ c. omega (arith, first (c .before .before), c .before .before .width .ensures))
+    (λ c κs. omega (arith, first (c .before .before), c .before .before .width .ensures))
+    (λ c. omega (arith, first (c .before .before .before), c .before .before .before .width .ensures))
     loop-holds
     (λ c. search needs)
-    add-has-metric
-    has-metric-requires
+    (λ c. omega (arith, there c, c .before .before .before .before .before .width .ensures))
+    (λ c κs. omega (arith, there c, c .before .before .before .before .before .width .ensures))
     returns
-    add-address-2
-    address-requires-2
+    (λ c. omega (arith, there (c .before .before), c .before .before .before .before .before .before .before .width .ensures))
+    (λ c κs. omega (arith, there (c .before .before), c .before .before .before .before .before .before .before .width .ensures))
     (λ c κs. search needs)
     returns-2
     (λ c. search needs)
-    add-at-2
+    (λ c. omega (arith, there (c .before .before .before .before .before), c .before .before .before .before .before .before .before .before .before .before .width .ensures))
     (λ c. search needs)
     loop-again
     returns-3)

@@ -21,12 +21,6 @@ there c = entry-there (familyOf (c .before .before .before .args .ipv6)) (now (c
 first : (c : tie.After-r-bit) → rBit (numberAt 4 (now (c .before .before .before .before .before .args .e)) (c .before .before .before .before .before .args .from + 2 * familyOf (c .before .before .before .before .before .args .ipv6) .width)) ≡ c .r-bit .result
 first c = sym (c .r-bit .ensures ∙ ap rBit (rw (c .before .before .width .ensures .0) at (c .before .word .ensures)))
 
-add-word : tie.Need-add-word
-add-word c = omega (arith, there c, c .width .ensures)
-
-word-requires : tie.Need-word-requires
-word-requires c κs = omega (arith, there c, c .width .ensures)
-
 put-rp-within-requires : tie.Need-put-rp-within-requires
 put-rp-within-requires c κs = (c .before .before .before .before .before .before .before .pre .0, c .before .before .before .before .before .before .before .pre .1, c .before .before .before .before .before .before .before .pre .2, c .before .before .before .before .before .before .before .pre .3, first (c .before .before) ∙ c .before .if1 .taken)
 
@@ -45,8 +39,8 @@ put-aggregated-within-spec =
     (tie.spec
     (λ c κs. search needs)
     (λ c. search needs)
-    add-word
-    word-requires
+    (λ c. omega (arith, there c, c .width .ensures))
+    (λ c κs. omega (arith, there c, c .width .ensures))
     (λ c κs. search needs)
     put-rp-within-requires
     (λ c. search needs)

@@ -35,31 +35,16 @@ loop-holds c =
     let a = c .before .before .before .args in
     (within-start (familyOf (a .ipv6)) Group (now (a .e)) (a .from) (a .n) (now (a .d)) (a .start) (a .limit) (c .before .before .before .pre .0) (c .before .before .before .pre .1) (c .before .before .before .pre .2), number-none (familyOf (a .ipv6)) Group (now (a .e)) (a .from))
 
-sub-put-group-within : tie.Need-sub-put-group-within Inv-loop μ-loop
-sub-put-group-within c = omega (arith, c .loop-test .taken)
-
 put-group-within-requires : tie.Need-put-group-within-requires Inv-loop μ-loop
 put-group-within-requires c κs =
     let t = c .before .before .loop .inv .0 in
     (omega (arith, c .before .loop-test .taken), t .there, t .fits, t .room)
-
-same-length : tie.Need-same-length Inv-loop μ-loop
-same-length c = omega (arith, c .before .before .before .put-group-within .kept, c .before .before .before .before .before .before .loop .inv .0 .same)
 
 returns : tie.Need-returns Inv-loop μ-loop
 returns c =
     let wrote = c .before .before .before .put-group-within .ensures in
     let done = within-stop (c .before .before .before .before .before .before .loop .inv .0) (c .before .before .before .before .before .loop-test .taken) _ (c .if1 .taken) (wrote .0) _ (wrote .1 .1 .1) in
     (done .most, (done .next, (c .before .before .before .before .before .before .loop .inv .1, done .buffer)))
-
-add-taken : tie.Need-add-taken Inv-loop μ-loop
-add-taken c = omega (arith, inside c)
-
-mul-at : tie.Need-mul-at Inv-loop μ-loop
-mul-at c = omega (arith, inside c)
-
-add-at : tie.Need-add-at Inv-loop μ-loop
-add-at c = omega (arith, inside c)
 
 counted : (c : tie.Else1 Inv-loop μ-loop)
     → c .before .before .before .before .before .before .loop .number + c .before .before .before .put-group-within .result .number ≡ numberOf (familyOf (c .before .before .before .before .before .before .before .before .before .before .args .ipv6)) Group (asserts (familyOf (c .before .before .before .before .before .before .before .before .before .before .args .ipv6)) (now (c .before .before .before .before .before .before .before .before .before .before .args .e)) (c .before .before .before .before .before .before .before .before .before .before .args .from) (c .before .before .before .before .before .before .loop .taken + c .before .before .before .put-group-within .result .taken))
@@ -70,9 +55,6 @@ add-number c =
     let f = familyOf (c .before .before .before .before .before .before .before .before .before .before .before .args .ipv6) in
     let fits = within-room (c .before .before .before .before .before .before .before .loop .inv .0) (c .before .before .before .before .before .before .loop-test .taken) _ (some (c .before)) (c .before .before .before .before .put-group-within .ensures .0) in
     omega (arith, fits, counted (c .before), number-few f (asserts f (now (c .before .before .before .before .before .before .before .before .before .before .before .args .e)) (c .before .before .before .before .before .before .before .before .before .before .before .args .from) (c .before .before .before .before .before .before .before .loop .taken + c .before .before .before .before .put-group-within .result .taken)), c .before .before .before .before .before .before .before .loop .inv .0 .room)
-
-loop-less : tie.Need-loop-less Inv-loop μ-loop
-loop-less c = omega (arith, inside (c .before), some (c .before))
 
 loop-again : tie.Need-loop-again Inv-loop μ-loop
 loop-again c =
@@ -99,15 +81,15 @@ put-groups-within-spec =
     (λ c. search needs)
     (λ c. search needs)
     loop-holds
-    sub-put-group-within
+    (λ c. omega (arith, c .loop-test .taken))
     put-group-within-requires
-    same-length
+    (λ c. omega (arith, c .before .before .before .put-group-within .kept, c .before .before .before .before .before .before .loop .inv .0 .same))
     returns
-    add-taken
-    mul-at
-    add-at
+    (λ c. omega (arith, inside c))
+    (λ c. omega (arith, inside c))
+    (λ c. omega (arith, inside c))
     add-number
-    loop-less
+    (λ c. omega (arith, inside (c .before), some (c .before)))
     loop-again
     same-length-2
     returns-2)

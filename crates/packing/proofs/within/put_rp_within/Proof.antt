@@ -53,9 +53,6 @@ rp-run-requires c κs =
     let far : entrySize (familyOf (c .before .before .before .before .before .before .args .ipv6)) * c .smaller .result ≤ entrySize (familyOf (c .before .before .before .before .before .before .args .ipv6)) * c .before .before .before .before .before .before .args .n = mul-le-mul-left (entrySize (familyOf (c .before .before .before .before .before .before .args .ipv6))) (omega (arith, few .0)) in
     (omega (arith, few, c .before .before .before .before .before .before .pre .0), omega (arith, c .before .before .before .before .before .before .pre .1), c .before .before .before .before .before .before .pre .4)
 
-add-put-groups-within : tie.Need-add-put-groups-within
-add-put-groups-within c = omega (arith, c .before .before .before .before .if1 .left)
-
 put-groups-within-requires : tie.Need-put-groups-within-requires
 put-groups-within-requires c κs =
     let a = c .before .before .before .before .before .before .before .before .args in
@@ -75,17 +72,8 @@ returns-2 c =
 there : (c : tie.After-width) → c .before .before .before .args .from + entrySize (familyOf (c .before .before .before .args .ipv6)) ≤ length (now (c .before .before .before .args .e))
 there c = entry-there (familyOf (c .before .before .before .args .ipv6)) (now (c .before .before .before .args .e)) (c .before .before .before .args .from) (c .before .before .before .args .n) (c .before .before .before .pre .0) (c .before .before .before .pre .1)
 
-add-put-metric : tie.Need-add-put-metric
-add-put-metric c = omega (arith, there (c .before .before .before .before .before .before .before .before .before .before), c .before .before .before .before .before .before .before .before .before .before .width .ensures)
-
 put-metric-requires : tie.Need-put-metric-requires
 put-metric-requires c κs = (omega (arith, there (c .before .before .before .before .before .before .before .before .before .before .before), c .before .before .before .before .before .before .before .before .before .before .before .width .ensures), omega (arith, c .before .before .before .before .before .before .before .before .before .before .before .before .before .before .pre, c .before .before .before .before .before .before .before .before .before .before .if1 .left, c .before .before .before .before .before .put-groups-within .kept))
-
-add-put-number : tie.Need-add-put-number
-add-put-number c = omega (arith, c .before .before .before .before .before .before .before .before .before .before .before .before .before .before .if1 .left)
-
-put-number-requires : tie.Need-put-number-requires
-put-number-requires c κs = omega (arith, c .before .before .before .before .before .before .before .before .before .before .before .before .before .before .before .before .before .before .pre, c .before .before .before .before .before .before .before .before .before .before .before .before .before .before .if1 .left, c .before .before .before .before .before .before .before .before .before .put-groups-within .kept, c .before .before .before .put-metric .kept)
 
 returns-3 : tie.Need-returns-3
 returns-3 c =
@@ -124,14 +112,14 @@ put-rp-within-spec =
     (λ c κs. search needs)
     (λ c κs. search needs)
     rp-run-requires
-    add-put-groups-within
+    (λ c. omega (arith, c .before .before .before .before .if1 .left))
     put-groups-within-requires
     (λ c. search needs)
     returns-2
     (λ c. search needs)
-    add-put-metric
+    (λ c. omega (arith, there (c .before .before .before .before .before .before .before .before .before .before), c .before .before .before .before .before .before .before .before .before .before .width .ensures))
     put-metric-requires
-    add-put-number
-    put-number-requires
+    (λ c. omega (arith, c .before .before .before .before .before .before .before .before .before .before .before .before .before .before .if1 .left))
+    (λ c κs. omega (arith, c .before .before .before .before .before .before .before .before .before .before .before .before .before .before .before .before .before .before .pre, c .before .before .before .before .before .before .before .before .before .before .before .before .before .before .if1 .left, c .before .before .before .before .before .before .before .before .before .put-groups-within .kept, c .before .before .before .put-metric .kept))
     (λ c. search needs)
     returns-3)

@@ -34,34 +34,16 @@ loop-holds c =
     let a = c .before .before .before .args in
     within-start (familyOf (a .ipv6)) Aggregated (now (a .e)) (a .from) (a .n) (now (a .d)) (a .start) (a .limit) (c .before .before .before .pre .0) (c .before .before .before .pre .1) (c .before .before .before .pre .2)
 
-sub-put-aggregated-within : tie.Need-sub-put-aggregated-within Inv-loop μ-loop
-sub-put-aggregated-within c = omega (arith, c .loop-test .taken)
-
 put-aggregated-within-requires : tie.Need-put-aggregated-within-requires Inv-loop μ-loop
 put-aggregated-within-requires c κs =
     let t = c .before .before .loop .inv in
     (omega (arith, c .before .loop-test .taken), t .there, t .fits, t .room)
-
-same-length : tie.Need-same-length Inv-loop μ-loop
-same-length c = omega (arith, c .before .before .before .put-aggregated-within .kept, c .before .before .before .before .before .before .loop .inv .same)
 
 returns : tie.Need-returns Inv-loop μ-loop
 returns c =
     let wrote = c .before .before .before .put-aggregated-within .ensures in
     let done = within-stop (c .before .before .before .before .before .before .loop .inv) (c .before .before .before .before .before .loop-test .taken) _ (c .if1 .taken) (wrote .0) _ (wrote .1 .1) in
     (done .most, (done .next, done .buffer))
-
-add-taken : tie.Need-add-taken Inv-loop μ-loop
-add-taken c = omega (arith, inside c)
-
-mul-at : tie.Need-mul-at Inv-loop μ-loop
-mul-at c = omega (arith, inside c)
-
-add-at : tie.Need-add-at Inv-loop μ-loop
-add-at c = omega (arith, inside c)
-
-loop-less : tie.Need-loop-less Inv-loop μ-loop
-loop-less c = omega (arith, inside c, some c)
 
 loop-again : tie.Need-loop-again Inv-loop μ-loop
 loop-again c =
@@ -86,14 +68,14 @@ put-within-spec =
     (λ c. search needs)
     (λ c. search needs)
     loop-holds
-    sub-put-aggregated-within
+    (λ c. omega (arith, c .loop-test .taken))
     put-aggregated-within-requires
-    same-length
+    (λ c. omega (arith, c .before .before .before .put-aggregated-within .kept, c .before .before .before .before .before .before .loop .inv .same))
     returns
-    add-taken
-    mul-at
-    add-at
-    loop-less
+    (λ c. omega (arith, inside c))
+    (λ c. omega (arith, inside c))
+    (λ c. omega (arith, inside c))
+    (λ c. omega (arith, inside c, some c))
     loop-again
     same-length-2
     returns-2)
