@@ -21,17 +21,25 @@ ghost use Rattle.format.specs.Record.{each, pairOctets};
 ghost use Rattle.entries.specs.Kinds.{entriesFor};
 ghost use Rattle.packing.specs.Kinds.{recordAt, recordOctets, recordSize};
 
+// The octets of an address, from a place to a place.
+fn put_octets(ipv6: bool, e: &[u8], at: usize, d: &mut [u8], out: usize)
+    requires { ⌜ (at + familyOf ipv6 .width ≤ length (now e)) × (out + familyOf ipv6 .width ≤ length (now d)) ⌝ }
+    ensures { λ r. ⌜ now (d .exit) ≡ put (now (d .entry)) out (be (familyOf ipv6 .width) (numberAt (familyOf ipv6 .width) (now (e .entry)) at)) ⌝ }
+{
+    let w = width(ipv6);
+    copy_address(ipv6, &e[at..at + w], &mut d[out..out + w]);
+}
+
 // A group: family, 0, flags 0, mask length, address.
 pub(crate) fn put_group(ipv6: bool, e: &[u8], at: usize, d: &mut [u8], out: usize)
     requires { ⌜ (at + familyOf ipv6 .width ≤ length (now e)) × (out + groupSize (familyOf ipv6 .width) ≤ length (now d)) ⌝ }
     ensures { λ r. ⌜ now (d .exit) ≡ put (now (d .entry)) out (groupOctets (familyOf ipv6) (numberAt (familyOf ipv6 .width) (now (e .entry)) at)) ⌝ }
 {
-    let w = width(ipv6);
     d[out] = family_number(ipv6);
     d[out + 1] = 0;
     d[out + 2] = 0;
     d[out + 3] = mask_length(ipv6);
-    copy_address(ipv6, &e[at..at + w], &mut d[out + 4..out + 4 + w]);
+    put_octets(ipv6, e, at, d, out + 4);
 }
 
 // A source: family, 0, address.
@@ -39,10 +47,9 @@ pub(crate) fn put_source(ipv6: bool, e: &[u8], at: usize, d: &mut [u8], out: usi
     requires { ⌜ (at + familyOf ipv6 .width ≤ length (now e)) × (out + sourceSize (familyOf ipv6 .width) ≤ length (now d)) ⌝ }
     ensures { λ r. ⌜ now (d .exit) ≡ put (now (d .entry)) out (sourceOctets (familyOf ipv6) (numberAt (familyOf ipv6 .width) (now (e .entry)) at)) ⌝ }
 {
-    let w = width(ipv6);
     d[out] = family_number(ipv6);
     d[out + 1] = 0;
-    copy_address(ipv6, &e[at..at + w], &mut d[out + 2..out + 2 + w]);
+    put_octets(ipv6, e, at, d, out + 2);
 }
 
 // What every record begins with: group, source.

@@ -1,67 +1,45 @@
 -- `packing::record::put_source` meets its contract: stores, and the address past them.
 -- Assumes nothing.
-use Prim.Native.Nat.{_+_}
 use native.Mathlib.Omega.{arith}
 use mathlib.Core.List.{[], _∷_}
 use mathlib.Core.Path.{refl, ap, _∙_}
-use lib.ListN.{length, length-set}
+use lib.ListN.{length-set}
 use denote.Ref.{now}
 use borrow.Author.Needs.{needs}
 use Rattle.octets.specs.Octets.{numberAt, be, put}
-use Rattle.octets.proofs.Laws.{stores-put, length-put}
+use Rattle.octets.proofs.Laws.{stores-put, put-next}
 use Rattle.format.specs.Family.{familyOf}
 use Rattle.format.specs.Address.{sourceOctets}
-use Rattle.format.proofs.Lengths.{length-source}
-use Rattle.packing.proofs.Writing.{copied-next}
 use Rattle.packing.proofs.record.put_source.Statement.{statement}
 use Rattle.packing.proofs.record.put_source.Tie as tie
 
 slice-write-d-2 : tie.Need-slice-write-d-2
 slice-write-d-2 c = simp length-set (omega arith)
 
-part-copy-address-end-2 : tie.Need-part-copy-address-end-2
-part-copy-address-end-2 c = simp length-set (omega (arith, c .before .before .before .before .before .pre, c .before .before .width .ensures))
+put-octets-requires : tie.Need-put-octets-requires
+put-octets-requires c κs = (c .before .before .before .before .pre .0, simp length-set (omega (arith, c .before .before .before .before .pre)))
+
+same-length : tie.Need-same-length
+same-length c = c .before .before .put-octets .kept .1 .1 .1 .0 ∙ simp length-set
 
 returns : tie.Need-returns
 unfolding sourceOctets
 returns c =
-    let s = c .before .before .before .before .before .before .before .before .before in
-    let a = s .args in
-    let o = now (a .e) in
-    let d = now (a .d) in
+    let a = c .before .before .before .before .before .before .before .args in
     let w = familyOf (a .ipv6) .width in
-    let r = c .before .before .before .before .before .before .width .result in
-    let same = c .before .before .before .before .before .before .width .ensures .0 in
-    let first = c .before .before .before .before .before .family-number .result ∷ 0 ∷ [] in
-    copied-next w o d (a .out) first (a .at) (a .at + r) (a .out + 2) (a .out + 2 + r) (λ i. c .before .before .before .before .before .before .before .before .shared-slice-known .given i .fits)
-    (stores-put d (a .out) first (omega (arith, s .pre))) (c .before .before .copy-address .ensures) (omega (arith, same)) refl (omega (arith, same)) (omega (arith, same, s .pre)) (omega (arith, same, s .pre))
-    ∙ ap (λ x. put d (a .out) (x ∷ 0 ∷ be w (numberAt w o (a .at)))) (c .before .before .before .before .before .family-number .ensures)
-
-same-length : tie.Need-same-length
-same-length c =
-    let a = c .before .before .before .before .before .before .before .before .before .args in
-    let n = numberAt (familyOf (a .ipv6) .width) (now (a .e)) (a .at) in
-    ap length (returns c) ∙ length-put (now (a .d)) (a .out) (sourceOctets (familyOf (a .ipv6)) n) (omega (arith, c .before .before .before .before .before .before .before .before .before .pre, length-source (familyOf (a .ipv6)) n))
+    let first = c .before .before .before .before .family-number .result ∷ 0 ∷ [] in
+    put-next (now (a .d)) (a .out) first _ (stores-put (now (a .d)) (a .out) first (omega (arith, c .before .before .before .before .before .before .before .pre))) (c .before .before .put-octets .ensures) refl
+    ∙ ap (λ x. put (now (a .d)) (a .out) (x ∷ 0 ∷ be w (numberAt w (now (a .e)) (a .at)))) (c .before .before .before .before .family-number .ensures)
 
 pub put-source-spec : {M : Type 1} → statement M
 put-source-spec =
     tie.close
     (tie.spec
     (λ c κs. search needs)
-    (λ c κs. search needs)
     (λ c. search needs)
     (λ c. search needs)
     slice-write-d-2
     (λ c. search needs)
-    (λ c. search needs)
-    (λ c. search needs)
-    (λ c. search needs)
-    (λ c. search needs)
-    (λ c. search needs)
-    (λ c. search needs)
-    (λ c. search needs)
-    (λ c. search needs)
-    part-copy-address-end-2
-    (λ c κs. search needs)
+    put-octets-requires
     same-length
     returns)
