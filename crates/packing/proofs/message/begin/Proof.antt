@@ -14,15 +14,6 @@ use Rattle.packing.proofs.Writing.{number-fits}
 use Rattle.packing.proofs.message.begin.Statement.{statement}
 use Rattle.packing.proofs.message.begin.Tie as tie
 
-slice-write-d-2 : tie.Need-slice-write-d-2
-slice-write-d-2 c = simp length-set (omega arith)
-
-slice-write-d-3 : tie.Need-slice-write-d-3
-slice-write-d-3 c = simp length-set (omega arith)
-
-slice-write-d-4 : tie.Need-slice-write-d-4
-slice-write-d-4 c = simp length-set (omega arith)
-
 same-length : tie.Need-same-length
 same-length c = c .before .before .write32 .kept .0 ∙ simp length-set
 
@@ -56,9 +47,9 @@ begin-spec =
     (tie.spec
     (λ c κs. search needs)
     (λ c. search needs)
-    slice-write-d-2
-    slice-write-d-3
-    slice-write-d-4
+    (λ c. simp length-set (omega arith))
+    (λ c. simp length-set (omega arith))
+    (λ c. simp length-set (omega arith))
     (λ c κs. search needs)
     same-length
     returns

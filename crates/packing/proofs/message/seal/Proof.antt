@@ -10,9 +10,6 @@ use borrow.Author.Needs.{needs}
 use Rattle.packing.proofs.message.seal.Statement.{statement}
 use Rattle.packing.proofs.message.seal.Tie as tie
 
-slice-aggregate-checksum : tie.Need-slice-aggregate-checksum
-slice-aggregate-checksum c = simp length-take (omega arith)
-
 returns : tie.Need-returns
 returns c =
     let d = now (c .before .before .before .before .before .before .before .args .d) in
@@ -23,7 +20,7 @@ seal-spec =
     tie.close
     (tie.spec
     (λ c. search needs)
-    slice-aggregate-checksum
+    (λ c. simp length-take (omega arith))
     (λ c κs. search needs)
     (λ c κs. search needs)
     (λ c. search needs)

@@ -13,15 +13,6 @@ use Rattle.format.specs.Address.{groupOctets}
 use Rattle.packing.proofs.record.put_group.Statement.{statement}
 use Rattle.packing.proofs.record.put_group.Tie as tie
 
-slice-write-d-2 : tie.Need-slice-write-d-2
-slice-write-d-2 c = simp length-set (omega arith)
-
-slice-write-d-3 : tie.Need-slice-write-d-3
-slice-write-d-3 c = simp length-set (omega arith)
-
-slice-write-d-4 : tie.Need-slice-write-d-4
-slice-write-d-4 c = simp length-set (omega arith)
-
 put-octets-requires : tie.Need-put-octets-requires
 put-octets-requires c κs = (c .before .before .before .before .before .pre .0, simp length-set (omega (arith, c .before .before .before .before .before .pre)))
 
@@ -44,12 +35,12 @@ put-group-spec =
     (λ c κs. search needs)
     (λ c. search needs)
     (λ c. search needs)
-    slice-write-d-2
+    (λ c. simp length-set (omega arith))
     (λ c. search needs)
-    slice-write-d-3
+    (λ c. simp length-set (omega arith))
     (λ c κs. search needs)
     (λ c. search needs)
-    slice-write-d-4
+    (λ c. simp length-set (omega arith))
     (λ c. search needs)
     put-octets-requires
     same-length

@@ -13,9 +13,6 @@ use Rattle.format.specs.Address.{sourceOctets}
 use Rattle.packing.proofs.record.put_source.Statement.{statement}
 use Rattle.packing.proofs.record.put_source.Tie as tie
 
-slice-write-d-2 : tie.Need-slice-write-d-2
-slice-write-d-2 c = simp length-set (omega arith)
-
 put-octets-requires : tie.Need-put-octets-requires
 put-octets-requires c κs = (c .before .before .before .before .pre .0, simp length-set (omega (arith, c .before .before .before .before .pre)))
 
@@ -38,7 +35,7 @@ put-source-spec =
     (λ c κs. search needs)
     (λ c. search needs)
     (λ c. search needs)
-    slice-write-d-2
+    (λ c. simp length-set (omega arith))
     (λ c. search needs)
     put-octets-requires
     same-length
