@@ -2,7 +2,7 @@
 --     sized, by-size, by-range         their size: group and source, and 8 octets more or none
 --     size-pair, size-range            the same by the kind
 --     family-is                  their family
---     group-at, source-at        group and source as code reads them
+--     group-at, address-cut      a group and an address as code reads them
 --     allowed-is                 an entry is allowed by its group and its source, which may be 0 or not
 --     zero-long, zero-short, some-source, no-source     whether its source may be 0, and the source by that
 -- Assumes nothing.
@@ -63,9 +63,9 @@ module _ (ipv6 : Bool) (o : List ℕ) (at : ℕ) where
       group-first ipv6 (take w (drop at o)) (octets-take w (drop at o) (octets-drop at o octet)) long
       ∙ ap (groupFirst ipv6) (getD-take w (drop at o) 0 0 (omega (arith, width-range ipv6)) ∙ rw (getD-drop, add-zero))
 
-  pub source-at : (end : ℕ) → end ≡ at + familyOf ipv6 .width → end ≤ length o
+  pub address-cut : (end : ℕ) → end ≡ at + familyOf ipv6 .width → end ≤ length o
       → addressAt (familyOf ipv6) (take (end - at) (drop at o)) 0 ≡ numberAt (familyOf ipv6 .width) o at
-  source-at end e there =
+  address-cut end e there =
       let w = familyOf ipv6 .width in
       let long : length (take (end - at) (drop at o)) ≡ end - at = length-take-le (end - at) (drop at o) (simp length-drop (omega arith)) in
       address-there (familyOf ipv6) (take (end - at) (drop at o)) 0 (omega arith) ∙ number-cut w o at end e there

@@ -10,7 +10,7 @@ use borrow.Author.Needs.{needs}
 use Rattle.octets.specs.Octets.{numberAt}
 use Rattle.format.specs.Family.{familyOf}
 use Rattle.entries.specs.Kinds.{zeroBy}
-use Rattle.entries.proofs.ByKind.{by-size, group-at, source-at, allowed-is, some-source, no-source}
+use Rattle.entries.proofs.ByKind.{by-size, group-at, address-cut, allowed-is, some-source, no-source}
 use Rattle.entries.proofs.allowed.Statement.{statement}
 use Rattle.entries.proofs.allowed.Tie as tie
 use Rattle.addresses.proofs.Laws.{width-range}
@@ -42,7 +42,7 @@ source-is c =
     let w = c .before .before .before .width .result in
     let same = c .before .before .before .width .ensures .0 in
     c .is-source .ensures
-    ∙ ap (familyOf (a .ipv6) .isSource) (c .before .address-at .ensures ∙ source-at (a .ipv6) (now (a .e)) (a .at + w) (a .at + 2 * w) (omega (arith, same)) (omega (arith, same, there (c .before .before .before .before .before .before .before .before))) ∙ rw same)
+    ∙ ap (familyOf (a .ipv6) .isSource) (c .before .address-at .ensures ∙ address-cut (a .ipv6) (now (a .e)) (a .at + w) (a .at + 2 * w) (omega (arith, same)) (omega (arith, same, there (c .before .before .before .before .before .before .before .before))) ∙ rw same)
 
 returns-2 : tie.Need-returns-2
 returns-2 c =
