@@ -156,23 +156,21 @@ fn put_groups_within(
     ensures number { λ r. ⌜ r .number ≡ numberOf (familyOf ipv6) Group (asserts (familyOf ipv6) (now (e .entry)) from (r .taken)) ⌝ }
     ensures buffer { λ r. ⌜ now (d .exit) ≡ put (now (d .entry)) start (allOf (familyOf ipv6) Group (asserts (familyOf ipv6) (now (e .entry)) from (r .taken))) ⌝ }
 {
-    let size = 2 * width(ipv6) + 8;
     let mut taken = 0;
     let mut at = from;
     let mut out = start;
     let mut number = 0;
     while taken < n {
         let group = put_group_within(ipv6, e, at, n - taken, d, out, limit);
-        let k = group.taken;
-        if k == 0 {
+        if group.taken == 0 {
             return FittedGroups {
                 taken,
                 next: out,
                 number,
             };
         }
-        taken += k;
-        at += size * k;
+        taken += group.taken;
+        at += (2 * width(ipv6) + 8) * group.taken;
         out = group.next;
         number += group.number;
     }
@@ -258,18 +256,16 @@ pub(crate) fn put_within(
     ensures next { λ r. ⌜ r .next ≡ start + length (allOf (familyOf ipv6) Aggregated (asserts (familyOf ipv6) (now (e .entry)) from (r .taken))) ⌝ }
     ensures buffer { λ r. ⌜ now (d .exit) ≡ put (now (d .entry)) start (allOf (familyOf ipv6) Aggregated (asserts (familyOf ipv6) (now (e .entry)) from (r .taken))) ⌝ }
 {
-    let size = 2 * width(ipv6) + 8;
     let mut taken = 0;
     let mut at = from;
     let mut out = start;
     while taken < n {
         let record = put_aggregated_within(ipv6, e, at, n - taken, d, out, limit);
-        let k = record.taken;
-        if k == 0 {
+        if record.taken == 0 {
             return Fitted { taken, next: out };
         }
-        taken += k;
-        at += size * k;
+        taken += record.taken;
+        at += (2 * width(ipv6) + 8) * record.taken;
         out = record.next;
     }
     Fitted { taken, next: out }
