@@ -3,11 +3,13 @@
 --     isAssert, isStop           the kinds with asserts, and the one whose source may always be 0
 --     entriesBy, zeroBy          entries by both: what they are, and whether the source of one may be 0
 --     entriesFor                 the entries of a kind
+--     numbered                   what the first bad one comes to, by its number
 --     listedBy                   01's number and values for each answer about a list
 -- A hello has no entries, and no call packs one. Assumes nothing: these are definitions.
 use Prim.Native.Nat.{ℕ, _+_, _*_}
-use mathlib.Core.Bool.{Bool, true, false}
+use mathlib.Core.Bool.{Bool, true, false, cond}
 use mathlib.Core.List.{List}
+use lib.Dec.{ltb}
 use Rattle.octets.specs.Octets.{numberAt}
 use Rattle.records.specs.Records.{rBit}
 use Rattle.format.specs.Outcome.{Outcome, gives, refuses}
@@ -44,6 +46,10 @@ entriesFor ipv6 k = entriesBy (familyOf ipv6) (isAssert k) (isStop k)
 unfoldable pub zeroBy : Family → Bool → Bool → List ℕ → ℕ → Bool
 zeroBy f true stop o at = rBit (numberAt 4 o (at + 2 * f .width))
 zeroBy f false stop o at = stop
+
+-- what is found by the number of the first of n entries that is not allowed, or n
+unfoldable pub numbered : ℕ → ℕ → Outcome (Unit {0})
+numbered n i = cond (ltb i n) (refuses 7 i) (gives tt)
 
 -- "7 with the number of the first bad entry"
 unfoldable pub listedBy : Listed → Outcome (Unit {0})

@@ -9,11 +9,11 @@ use format::r_bit;
 use octets::number32;
 ghost use mathlib.Core.Path.{_≡_};
 ghost use mathlib.Core.Bool.{Bool};
-ghost use Prim.Native.Nat.{_+_, _≤_};
+ghost use Prim.Native.Nat.{_+_, _/_, _≤_};
 ghost use lib.ListN.{length};
 ghost use Rattle.format.specs.Family.{familyOf};
 ghost use Rattle.format.specs.Packing.{firstBad};
-ghost use Rattle.entries.specs.Kinds.{isAssert, isStop, entriesBy, entriesFor, zeroBy, listedBy};
+ghost use Rattle.entries.specs.Kinds.{isAssert, isStop, entriesBy, entriesFor, zeroBy, numbered, listedBy};
 
 // Whether the entries of a list are allowed.
 pub enum Listed {
@@ -93,37 +93,49 @@ fn allowed(ipv6: bool, asserts: bool, stop: bool, e: &[u8], at: usize) -> bool
     zero_allowed(ipv6, asserts, stop, e, at)
 }
 
-// The first entry from a number on that is not allowed.
-fn first_bad_of(ipv6: bool, asserts: bool, stop: bool, e: &[u8], start: usize) -> Listed
-    ensures { λ r. ⌜ listedBy r ≡ firstBad (entriesBy (familyOf ipv6) asserts stop) (now (e .entry)) start ⌝ }
+// The number of the first entry from a number on that is not allowed, or how many there are.
+fn up_to_of(ipv6: bool, asserts: bool, stop: bool, e: &[u8], start: usize, count: usize) -> usize
+    requires { ⌜ (start ≤ count) × (count ≡ length (now e) / entriesBy (familyOf ipv6) asserts stop .size) ⌝ }
+    ensures { λ r. ⌜ numbered count r ≡ firstBad (entriesBy (familyOf ipv6) asserts stop) (now (e .entry)) start ⌝ }
 {
     let size = size_by(ipv6, asserts);
-    let count = e.len() / size;
-    if count < start {
-        return Listed::Allowed;
-    }
     let mut i = start;
     let mut at = size * start;
     while i < count {
         if !allowed(ipv6, asserts, stop, e, at) {
-            return Listed::Bad(i);
+            return i;
         }
         i += 1;
         at += size;
     }
-    Listed::Allowed
+    i
 }
 
-// The first entry from a number on that a message of a kind may not have. The loop is called with literals, so that the
-// compiler makes one for each sort of entry.
+// The same by the kind. The loop is called with literals, so that the compiler makes one for each sort of entry.
+fn up_to(ipv6: bool, kind: Kind, e: &[u8], start: usize, count: usize) -> usize
+    requires { ⌜ (start ≤ count) × (count ≡ length (now e) / entriesFor ipv6 kind .size) ⌝ }
+    ensures { λ r. ⌜ numbered count r ≡ firstBad (entriesFor ipv6 kind) (now (e .entry)) start ⌝ }
+{
+    if is_assert(kind) {
+        return up_to_of(ipv6, true, false, e, start, count);
+    }
+    if is_stop(kind) {
+        return up_to_of(ipv6, false, true, e, start, count);
+    }
+    up_to_of(ipv6, false, false, e, start, count)
+}
+
+// The first entry from a number on that a message of a kind may not have.
 pub fn first_bad(ipv6: bool, kind: Kind, e: &[u8], start: usize) -> Listed
     ensures { λ r. ⌜ listedBy r ≡ firstBad (entriesFor ipv6 kind) (now (e .entry)) start ⌝ }
 {
-    if is_assert(kind) {
-        return first_bad_of(ipv6, true, false, e, start);
+    let count = e.len() / entry_size(ipv6, kind);
+    if count < start {
+        return Listed::Allowed;
     }
-    if is_stop(kind) {
-        return first_bad_of(ipv6, false, true, e, start);
+    let i = up_to(ipv6, kind, e, start, count);
+    if i < count {
+        return Listed::Bad(i);
     }
-    first_bad_of(ipv6, false, false, e, start)
+    Listed::Allowed
 }

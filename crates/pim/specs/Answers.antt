@@ -8,10 +8,9 @@
 --     directionOf, refusalOf          counters
 -- Assumes nothing: these are definitions.
 use Prim.Native.Nat.{ℕ}
-use mathlib.Core.Bool.{Bool, true, false, cond}
+use mathlib.Core.Bool.{Bool, true, false}
 use mathlib.Core.List.{List}
 use mathlib.Core.Option.{Option, none, some}
-use lib.Dec.{eqb}
 use Rattle.format.specs.Outcome.{Outcome, gives, refuses}
 use Rattle.format.specs.Reader.{Read, got, bad}
 use Rattle.format.specs.Family.{ipv4}
@@ -20,7 +19,6 @@ use Rattle.format.specs.Values.{kindNumber}
 use Rattle.format.specs.Reading.{Found, found}
 use Rattle.format.specs.Packing.{Wrote, wrote, Chosen, chosen}
 use Rattle.format.specs.declared.Kind.{Kind}
-use Rattle.format.specs.declared.Kind.the-variants.{Hello as OfHello, Assert, Simple, Aggregated, NullRegister, RegisterStop}
 use Rattle.format.specs.declared.Refusal.{Refusal}
 use Rattle.hello.specs.Hello.{Hello as HelloSaid, hello}
 use Rattle.hello.specs.declared.Hello.{Hello}

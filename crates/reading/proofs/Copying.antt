@@ -6,7 +6,7 @@
 --     Walk                              where a loop over things stands: walk-start, walk-there, walk-step; over a series with one left, the octets are
 --                                       there and the entries fit (turn-there), and the next stands (turn-next); walk-end
 --     records-series, addresses-series, groups-series     the things of a message
---     length-entry, length-addresses, length-like     the length of an entry; the number of addresses, and of their entries
+--     length-entry, length-addresses    the length of an entry; the number of addresses
 --     entry-at, either-there, either-entry     the entry of a record by its numbers; of two addresses the one that is the group, and the one that is the source
 --     fit-inside, copied-inside         what a thing's function asks and promises, by that of what stands in it
 --     group-none, group-some, source-record-is, rp-record-is, size-least     a group record and an aggregated record, by what code tests
@@ -18,7 +18,7 @@ use native.Mathlib.Omega.{arith}
 use mathlib.Core.Path.{_≡_, refl, sym, ap, _∙_}
 use mathlib.Core.Bool.{Bool, true, false, cond}
 use mathlib.Core.List.{List, [], _∷_, _++_, map, append-nil}
-use lib.ListN.{length, take, drop, length-append, length-map}
+use lib.ListN.{length, take, drop, length-append}
 use borrow.Author.Tests.{le-leb, lt-leb}
 use borrow.Rule.Slice.PartMut.{putMid}
 use Rattle.octets.specs.Octets.{Octets, numberAt, be, put, copied}
@@ -180,10 +180,6 @@ pub length-addresses : (isGroup : Bool) (w : ℕ) (o : List ℕ) (at n : ℕ) �
 unfolding plainAddresses
 length-addresses isGroup w o at zero = refl
 length-addresses isGroup w o at (suc n) = ap suc (length-addresses isGroup w o (at + (w + skip isGroup)) n)
-
--- as many entries as addresses
-pub length-like : (isGroup : Bool) (w : ℕ) (o : List ℕ) (with : ℕ → AssertRecord) (at n : ℕ) → length (map with (plainAddresses isGroup w o at n)) ≡ n
-length-like isGroup w o with at n = rw (length-map, length-addresses)
 
 -- the address and the other one: which is the group, and which the source
 pub either-there : (isGroup : Bool) (address other w len : ℕ) {g s : ℕ} → address + w ≤ len → other + w ≤ len → g ≡ cond isGroup address other → s ≡ cond isGroup other address

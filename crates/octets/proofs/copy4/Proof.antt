@@ -2,7 +2,6 @@
 -- Assumes nothing.
 use native.Mathlib.Omega.{arith}
 use lib.ListN.{length-set}
-use denote.Ref.{now}
 use Rattle.octets.proofs.Laws.{copied-few, copied-none, copied-stores}
 use borrow.Author.Needs.{needs}
 use Rattle.octets.proofs.copy4.Statement.{statement}

@@ -1,7 +1,5 @@
 -- `addresses::address::is_group` meets its contract: by the first octet of an IPv6 address; an IPv4 address by its low half.
 -- Assumes nothing.
-use mathlib.Core.Path.{_≡_, refl, _∙_}
-use native.Mathlib.Omega.{arith}
 use borrow.Author.Needs.{needs}
 use Rattle.addresses.proofs.Laws.{group-high, group-none, group-under, group-low}
 use Rattle.addresses.proofs.address.is_group.Statement.{statement}

@@ -1,6 +1,5 @@
 -- `addresses::address::is_zero` meets its contract: both halves are 0.
 -- Assumes nothing.
-use native.Mathlib.Omega.{arith}
 use Rattle.addresses.proofs.Laws.{halves-some, halves-low}
 use Rattle.addresses.proofs.address.is_zero.Statement.{statement}
 use Rattle.addresses.proofs.address.is_zero.Tie as tie
