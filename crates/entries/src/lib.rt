@@ -72,7 +72,8 @@ fn zero_allowed(ipv6: bool, asserts: bool, stop: bool, e: &[u8], at: usize) -> b
     ensures { λ r. ⌜ r ≡ zeroBy (familyOf ipv6) asserts stop (now (e .entry)) at ⌝ }
 {
     if asserts {
-        return r_bit(number32(e, at + 2 * width(ipv6)));
+        let word = at + 2 * width(ipv6);
+        return r_bit(number32(&e[word..word + 4], 0));
     }
     stop
 }

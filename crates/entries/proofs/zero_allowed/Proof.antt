@@ -1,24 +1,31 @@
 -- `entries::zero_allowed` meets its contract: by the R bit past group and source, or by the kind.
 -- Assumes nothing.
+use Prim.Native.Nat.{_+_, _*_, _≤_}
 use native.Mathlib.Omega.{arith}
-use mathlib.Core.Path.{sym}
+use mathlib.Core.Path.{refl, sym, _∙_}
 use denote.Ref.{now}
+use lib.ListN.{length}
 use borrow.Author.Needs.{needs}
+use Rattle.octets.proofs.Laws.{number-cut}
 use Rattle.format.specs.Family.{familyOf}
-use Rattle.entries.proofs.ByKind.{by-size, zero-long, zero-short}
+use Rattle.entries.proofs.ByKind.{zero-long, zero-short}
 use Rattle.entries.proofs.zero_allowed.Statement.{statement}
 use Rattle.entries.proofs.zero_allowed.Tie as tie
 
-add-number32 : tie.Need-add-number32
-add-number32 c =
-    let a = c .before .before .before .args in
-    omega (arith, c .width .ensures, by-size (familyOf (a .ipv6)) (a .asserts) (a .stop))
+-- an assert's word is there
+there : (c : tie.After-width) → c .before .before .before .args .at + 2 * c .width .result + 4 ≤ length (now (c .before .before .before .args .e))
+there c =
+    let s = c .before .before .before in
+    let long = rw (c .before .if1 .taken) at (s .pre) in
+    omega (arith, c .width .ensures, long)
 
 returns : tie.Need-returns
 returns c =
-    let a = c .before .before .before .before .before .args in
-    rw (c .r-bit .ensures, c .before .number32 .ensures, c .before .before .width .ensures .0)
-    (sym (zero-long (familyOf (a .ipv6)) (now (a .e)) (a .at) (a .asserts) (a .stop) (c .before .before .before .if1 .taken)))
+    let w = c .before .before .before in
+    let a = w .before .before .before .args in
+    let word = a .at + 2 * w .width .result in
+    rw (c .r-bit .ensures, c .before .number32 .ensures ∙ number-cut 4 (now (a .e)) word (word + 4) refl (there w), w .width .ensures .0)
+    (sym (zero-long (familyOf (a .ipv6)) (now (a .e)) (a .at) (a .asserts) (a .stop) (w .before .if1 .taken)))
 
 returns-2 : tie.Need-returns-2
 returns-2 c =
@@ -31,7 +38,11 @@ zero-allowed-spec =
     (tie.spec
     (λ c κs. search needs)
     (λ c. search needs)
-    add-number32
+    (λ c. omega (arith, there c))
+    (λ c. omega (arith, there c))
+    (λ c. search needs)
+    (λ c. search needs)
+    (λ c. omega (arith, there c))
     (λ c κs. search needs)
     (λ c κs. search needs)
     returns
