@@ -4,6 +4,7 @@ pub mod Family
 pub mod Address
 pub mod Record
 pub mod Values
+pub mod Writing
 pub mod Header
 pub mod Body
 pub mod Unpacking

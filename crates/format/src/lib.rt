@@ -1,5 +1,5 @@
-// The vocabulary that the crates above share: the kinds of message with their numbers, a refusal, an address, the two
-// records and the R bit. What each means in octets is in specs/, and so are the theorems' statements; there is hardly any
+// The vocabulary that the crates above share: the kinds of message with their numbers, a refusal, what writing octets
+// did, an address, the two records and the R bit. What each means in octets is in specs/, and so are the theorems' statements; there is hardly any
 // code.
 ghost use mathlib.Core.Path.{_≡_};
 ghost use Rattle.records.specs.Records.{rBit};
@@ -61,6 +61,13 @@ pub const GREATEST_LIMIT: usize = 65515;
 pub struct Refusal {
     pub number: u8,
     pub place: usize,
+}
+
+// What a call that writes octets into a lent buffer did.
+pub enum Writing {
+    // So many octets stand at its front.
+    Wrote(usize),
+    Refused(Refusal),
 }
 
 // An address as a number, in two halves; an IPv4 address has 0 in the high one.

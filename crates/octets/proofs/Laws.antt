@@ -21,7 +21,7 @@
 --     field-got, field-short, skip-got, skip-short          what the code of a reader answers, by the test that it made
 --     write-next, write-full                                what the code of a writer answers
 --     read-got, read-cut                                    what a caller learns from a reader's answer
---     write-back, length-fitted                             and from a writer's
+--     write-back, number-fits, length-fitted                and from a writer's; where it knows that there is room
 -- Assumes nothing.
 use mathlib.Core.Path.{_≡_, refl, sym, ap, ap₂, _∙_}
 use mathlib.Core.Bool.{Bool, true, false, _&&_, cond}
@@ -498,6 +498,11 @@ write-back k d at n {m = m} e g = go (leb (at + k) (length d)) refl (ap writtenO
         → (at + k ≤ length d) × (m ≡ at + k) × (cond (leb (at + length (be k n)) (length d)) (put d at (be k n)) d ≡ put d at (be k n))
     go true t p = (leb-true _ _ t, cc, rw (length-be, t))
     go false t p = let z : _≡_ {A = ℕ} 0 1 = cc in absurd (omega arith)
+
+-- a number that fits is written
+pub number-fits : (k : ℕ) (d : List ℕ) (at n : ℕ) → at + k ≤ length d → fitted d at (be k n) ≡ put d at (be k n)
+unfolding fitted
+number-fits k d at n h = rw (length-be, le-leb (at + k) (length d) h)
 
 pub length-fitted : (d : List ℕ) (at : ℕ) (e : List ℕ) → length (fitted d at e) ≡ length d
 unfolding fitted
