@@ -18,7 +18,7 @@ use lib.ListN.{length}
 use Rattle.octets.specs.Octets.{value, numberAt}
 use Rattle.octets.proofs.Laws.{octets-back, number-split, number-back}
 use Rattle.format.specs.Reader.{got, bad, continue, _>>=_, _>>_, give, here, octets, number, refuse, placed, handUp, inRecord}
-use Rattle.hello.specs.Options.{Said, named, lengthOf, isSome, given, against, hear, optionValue, optionFields, option}
+use Rattle.hello.specs.Options.{Said, typeOf, among, named, lengthOf, isSome, given, against, hear, optionValue, optionFields, option}
 use Rattle.hello.specs.Answers.{ifGiven, stepped, fourAt, lengthFits}
 use Rattle.hello.specs.declared.table.Known.{Known}
 use Rattle.hello.specs.declared.table.Known.the-variants.{Holdtime, Priority, Packing, Other}
@@ -38,7 +38,7 @@ some-given false n = refl
 
 -- only type 40 is named so
 packing-type : (t : ℕ) → named t ≡ Packing → t ≡ 40
-unfolding named
+unfolding named among typeOf
 packing-type t e = go (eqb t 1) (eqb t 19) (eqb t 40) refl e
   where
     go : (a b c : Bool) → eqb t 40 ≡ c → cond a Holdtime (cond b Priority (cond c Packing Other)) ≡ Packing → t ≡ 40

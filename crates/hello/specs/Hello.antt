@@ -1,20 +1,24 @@
--- A Hello message, read (01, "Octets of a message" and "Neighbours and election"): the table of kinds has octet 0 "0x20", octet 1
--- "ignored", body "options".
+-- A Hello message, read and written (01, "Octets of a message" and "Neighbours and election"; 02, E1): the table of kinds has octet 0
+-- "0x20", octet 1 "ignored", body "options".
 --     Hello, helloOf             what a Hello says: "Holdtime is type 1, length 2 (absent: 105 s); DR priority type 19"
 --     helloOptions               the options from octet 4 to the end
 --     readHello                  the call: 1, 2, 3, 4 of the header, then the options in octet order
+--     saidIn, helloMessage       the message of a Hello: each option that it has
+--     writeHello                 the call: 8, or the message at the front of the buffer
 -- Assumes nothing: these are definitions.
 use Prim.Native.Nat.{ℕ}
 use mathlib.Core.Bool.{Bool}
 use mathlib.Core.List.{List}
 use mathlib.Core.Option.{Option, none, some}
 use lib.ListN.{length}
-use Rattle.format.specs.Outcome.{Outcome, gives, refuses, _>>=_}
+use lib.Dec.{ltb}
+use Rattle.format.specs.Outcome.{Outcome, gives, refuses, refuseIf, _>>=_, _>>_}
 use Rattle.format.specs.Reader.{from}
-use Rattle.format.specs.Header.{header}
+use Rattle.format.specs.Header.{header, message}
+use Rattle.format.specs.Writing.{WritingCall, intoBuffer}
 use Rattle.format.specs.declared.Kind.{Kind}
 use Rattle.format.specs.declared.Kind.the-variants.{Hello as ofHello, Assert, Simple, Aggregated, NullRegister, RegisterStop}
-use Rattle.hello.specs.Options.{Said, said, nothing, options}
+use Rattle.hello.specs.Options.{Said, said, nothing, options, optionsOctets}
 
 -- the holdtime, the DR priority if announced, and whether packing is
 pub data Hello : Type 0 where
@@ -46,3 +50,18 @@ unfoldable pub readHello : List ℕ → Outcome Hello
 readHello o = do
   k ← header o
   helloBody k o
+
+-- ---- written
+
+-- "from a router's holdtime, priority if it has one, and packing ability": holdtime is "always written"
+unfoldable pub saidIn : Hello → Said
+saidIn (hello h p c) = said (some h) p c
+
+unfoldable pub helloMessage : Hello → List ℕ
+helloMessage h = message ofHello (optionsOctets (saidIn h))
+
+-- "8 if the buffer is smaller than the message; there is no other"
+unfoldable pub writeHello : Hello → List ℕ → WritingCall
+writeHello h d = intoBuffer d do
+  refuseIf (ltb (length d) (length (helloMessage h))) 8 0
+  gives (helloMessage h)

@@ -1,7 +1,9 @@
 // Reading Hellos: holdtime, DR priority and the packing capability out of a Hello's options. First one
 // option, field by field; then the options up to the end; then the whole message, which is the public
-// call. It is total; what it answers is a definition of specs/. The known options are in table.rt.
+// call. It is total; what it answers is a definition of specs/. The known options are in table.rt, and
+// Hellos are written in write.rt.
 mod table;
+mod write;
 
 use format::Kind;
 use format::Refusal;
@@ -11,6 +13,7 @@ use table::Heard;
 use table::is_against;
 use table::option_named;
 use table::said_with;
+pub use write::write_hello;
 ghost use mathlib.Core.Path.{_≡_};
 ghost use mathlib.Core.Bool.{cond};
 ghost use lib.ListN.{length};

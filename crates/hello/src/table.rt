@@ -8,6 +8,9 @@ ghost use lib.ListN.{length, take, drop};
 ghost use Rattle.hello.specs.Options.{named, lengthOf, given, hear};
 ghost use Rattle.hello.specs.Answers.{saidBy, fourAt, lengthFits};
 
+// The packing capability, as it is compared and written: type 40, length 0.
+pub(crate) const CAPABILITY: [u8; 4] = *b"\x00\x28\x00\x00";
+
 // The options that are known, and any other.
 pub(crate) enum Known {
     Holdtime,
@@ -57,12 +60,13 @@ fn length_fits(m: &[u8], at: usize, k: Known, len: u32) -> bool
     match k {
         Known::Holdtime => len == 2,
         Known::Priority => len == 4,
-        Known::Packing => four_at(m, at, b"\x00\x28\x00\x00"),
+        Known::Packing => four_at(m, at, &CAPABILITY),
         Known::Other => true,
     }
 }
 
-fn was_given(h: Heard, k: Known) -> bool
+// Whether an option was given.
+pub(crate) fn was_given(h: Heard, k: Known) -> bool
     ensures { λ r. ⌜ r ≡ given (saidBy h) k ⌝ }
 {
     match k {

@@ -1,0 +1,124 @@
+-- Hellos written, from what the code promised: laws over the definitions of specs/Options.antt and specs/Hello.antt.
+--     option-given, option-absent      the octets of an option, by whether it is given
+--     option-long, option-small        how many they are: of one that is given, and at most
+--     value-long, number-given         the value of an option that holds a number
+--     put-string, put-value            an option's first four octets copied, and a number past them
+--     options-are, options-long        all options, one after another
+--     hello-long                       the message: four octets, and its options
+--     hello-refused, hello-written     the call: no room, or the message
+--     hello-sealed                     what the code leaves in the buffer is the message
+-- Assumes nothing.
+use Prim.Native.Nat.{ℕ, _+_, _-_, _≤_, _<_}
+use native.Mathlib.Omega.{arith}
+use mathlib.Core.Path.{_≡_, refl, ap, _∙_}
+use mathlib.Core.Bool.{Bool, true, false}
+use mathlib.Core.List.{List, [], _∷_, _++_, append-nil}
+use mathlib.Core.Option.{Option, none, some}
+use borrow.Author.Tests.{le-ltb, lt-ltb}
+use borrow.Rule.Slice.PartMut.{putMid}
+use lib.ListN.{length, take, drop, length-append}
+use Rattle.octets.specs.Octets.{be, put, copied}
+use Rattle.octets.specs.Field.{fitted}
+use Rattle.octets.proofs.Laws.{length-be, length-put, put-next, number-fits, copied-part}
+use Rattle.format.specs.Outcome.{gives, refuses, refuseIf, _>>_}
+use Rattle.format.specs.Header.{message}
+use Rattle.format.specs.Record.{each}
+use Rattle.format.specs.Writing.{intoBuffer}
+use Rattle.format.specs.declared.Kind.the-variants.{Hello as ofHello}
+use Rattle.format.proofs.Messages.{length-message}
+use Rattle.headers.specs.Sealing.{sealed}
+use Rattle.headers.proofs.Seals.{sealed-body}
+use Rattle.hello.specs.declared.table.Known.{Known}
+use Rattle.hello.specs.declared.table.Known.the-variants.{Holdtime, Priority, Packing, Other}
+use Rattle.hello.specs.Options.{Said, said, typeOf, lengthOf, isSome, given, numberOctets, valueOf, optionOctets, optionsOctets}
+use Rattle.hello.specs.Hello.{Hello, saidIn, helloMessage, writeHello}
+use Rattle.hello.specs.Answers.{ifGiven}
+
+-- ---- one option
+
+module _ (s : Said) (k : Known) where
+  pub option-given : given s k ≡ true → optionOctets s k ≡ be 2 (typeOf k) ++ (be 2 (lengthOf k 0) ++ valueOf s k)
+  unfolding optionOctets
+  option-given e = rw e
+
+  pub option-absent : given s k ≡ false → optionOctets s k ≡ []
+  unfolding optionOctets
+  option-absent e = rw e
+
+some-long : (k : ℕ) (o : Option ℕ) → isSome o ≡ true → length (numberOctets k o) ≡ k
+unfolding isSome numberOctets
+some-long k none e = absurd (let z : _≡_ {A = ℕ} 0 1 = cc in omega arith)
+some-long k (some n) e = length-be k n
+
+pub value-long : (s : Said) (k : Known) → given s k ≡ true → length (valueOf s k) ≡ lengthOf k 0
+unfolding given valueOf lengthOf
+value-long (said h p c) Holdtime e = some-long 2 h e
+value-long (said h p c) Priority e = some-long 4 p e
+value-long (said h p c) Packing e = refl
+value-long (said h p c) Other e = refl
+
+pub option-long : (s : Said) (k : Known) → given s k ≡ true → length (optionOctets s k) ≡ 4 + lengthOf k 0
+option-long s k e =
+    let v = value-long s k e in
+    rw (option-given s k e, length-append, length-append, length-be, length-be) (omega arith)
+
+length-small : (k : Known) → lengthOf k 0 ≤ 4
+unfolding lengthOf
+length-small Holdtime = omega arith
+length-small Priority = omega arith
+length-small Packing = omega arith
+length-small Other = omega arith
+
+pub option-small : (s : Said) (k : Known) → length (optionOctets s k) ≤ 8
+option-small s k = go (given s k) refl
+  where
+    go : (b : Bool) → given s k ≡ b → length (optionOctets s k) ≤ 8
+    go true e = omega (arith, option-long s k e, length-small k)
+    go false e = rw (option-absent s k e) (omega arith)
+
+pub number-given : (k n : ℕ) (b : Bool) → isSome (ifGiven b n) ≡ true → numberOctets k (ifGiven b n) ≡ be k n
+unfolding isSome ifGiven numberOctets
+number-given k n true e = refl
+number-given k n false e = absurd (let z : _≡_ {A = ℕ} 0 1 = cc in omega arith)
+
+-- four octets, copied into a part that was lent
+pub put-string : (a b c e : ℕ) (d : List ℕ) (at : ℕ) {x : List ℕ} → x ≡ copied 4 (a ∷ b ∷ c ∷ e ∷ []) (take (at + 4 - at) (drop at d)) → at + 4 ≤ length d
+    → putMid at (at + 4 - at) d x ≡ put d at (a ∷ b ∷ c ∷ e ∷ [])
+put-string a b c e d at q h =
+    ap (putMid at (at + 4 - at) d) q ∙ copied-part 4 (a ∷ b ∷ c ∷ e ∷ []) d 0 4 at (at + 4) refl refl (omega arith) h
+
+pub put-value : (k : ℕ) (d s : List ℕ) (at n : ℕ) {m m′ : List ℕ} → length s ≡ 4 → m ≡ put d at s → m′ ≡ fitted m (at + 4) (be k n) → at + 4 + k ≤ length d
+    → m′ ≡ put d at (s ++ be k n)
+put-value k d s at n {m} long p q h =
+    let same : length m ≡ length d = ap length p ∙ length-put d at s (omega arith) in
+    put-next d at s (be k n) p (q ∙ number-fits k m (at + 4) n (omega arith)) (omega arith)
+
+-- ---- all options
+
+pub options-are : (s : Said) → optionsOctets s ≡ optionOctets s Holdtime ++ (optionOctets s Priority ++ optionOctets s Packing)
+unfolding optionsOctets each
+options-are s = rw append-nil refl
+
+pub options-long : (s : Said) → length (optionsOctets s) ≡ length (optionOctets s Holdtime) + length (optionOctets s Priority) + length (optionOctets s Packing)
+options-long s = rw (options-are, length-append, length-append) (omega arith)
+
+-- ---- the call
+
+pub hello-long : (h : Hello) → length (helloMessage h) ≡ 4 + length (optionsOctets (saidIn h))
+unfolding helloMessage
+hello-long h = length-message ofHello (optionsOctets (saidIn h))
+
+module _ (h : Hello) (d : List ℕ) where
+  pub hello-refused : length d < 4 + length (optionsOctets (saidIn h)) → writeHello h d ≡ record { answer = refuses 8 0; buffer = d }
+  unfolding writeHello intoBuffer refuseIf _>>_
+  hello-refused e = rw (hello-long, lt-ltb _ _ e)
+
+  pub hello-written : 4 + length (optionsOctets (saidIn h)) ≤ length d → writeHello h d ≡ record { answer = gives (length (helloMessage h)); buffer = put d 0 (helloMessage h) }
+  unfolding writeHello intoBuffer refuseIf _>>_
+  hello-written e = rw (le-ltb (length d) (length (helloMessage h)) (omega (arith, hello-long h)))
+
+  -- the options, then the header
+  pub hello-sealed : 4 + length (optionsOctets (saidIn h)) ≤ length d
+      → sealed ofHello (4 + length (optionsOctets (saidIn h))) (put d 4 (optionsOctets (saidIn h))) ≡ put d 0 (helloMessage h)
+  unfolding helloMessage
+  hello-sealed e = sealed-body ofHello d (optionsOctets (saidIn h)) _ refl e

@@ -1,0 +1,56 @@
+-- `hello::write::write_hello` meets its contract: no room, or the options and then the header.
+-- Assumes nothing.
+use native.Mathlib.Omega.{arith}
+use mathlib.Core.Path.{_≡_, sym, ap, ap₂, _∙_}
+use borrow.Author.Needs.{needs}
+use denote.Ref.{now}
+use Prim.Native.Nat.{_+_, _≤_}
+use lib.ListN.{length}
+use Rattle.octets.specs.Octets.{put}
+use Rattle.format.specs.Outcome.{gives}
+use Rattle.format.specs.Writing.{lengthBy}
+use Rattle.format.specs.declared.Kind.the-variants.{Hello}
+use Rattle.headers.specs.Sealing.{sealed}
+use Rattle.hello.specs.Options.{optionsOctets}
+use Rattle.hello.specs.Hello.{saidIn}
+use Rattle.hello.specs.Answers.{helloBy}
+use Rattle.hello.proofs.Written.{hello-long, hello-refused, hello-written, hello-sealed}
+use Rattle.hello.proofs.write.write_hello.Statement.{statement}
+use Rattle.hello.proofs.write.write_hello.Tie as tie
+
+-- the size as the definition has it
+size : (c : tie.After-size-of) → c .size-of .result ≡ 4 + length (optionsOctets (saidIn (helloBy (c .before .before .before .args .said))))
+size c = c .size-of .ensures ∙ ap (λ s. 4 + length (optionsOctets s)) (c .before .to-say .ensures)
+
+returns : tie.Need-returns
+unfolding lengthBy
+returns c =
+    let a = c .before .before .before .before .args in
+    let e = hello-refused (helloBy (a .said)) (now (a .d)) (omega (arith, size (c .before), c .if1 .taken)) in
+    (rw e, rw e)
+
+returns-2 : tie.Need-returns-2
+unfolding lengthBy
+returns-2 c =
+    let l = c .before .before in
+    let p = l .before .before .before .before in
+    let z = p .before .before .before in
+    let a = z .before .before .before .args in
+    let h = helloBy (a .said) in
+    let d = now (a .d) in
+    let room : 4 + length (optionsOctets (saidIn (helloBy (a .said)))) ≤ length (now (a .d)) = omega (arith, size z, p .before .before .if1 .left) in
+    let e = hello-written h d room in
+    let body = p .put-options .ensures ∙ ap (λ s. put d 4 (optionsOctets s)) (z .before .to-say .ensures) in
+    (rw e (ap gives (size z ∙ sym (hello-long h))), rw e (l .seal .ensures ∙ ap₂ (sealed Hello) (size z) body ∙ hello-sealed h d room))
+
+pub write-hello-spec : {M : Type 1} → statement M
+write-hello-spec =
+    tie.close
+    (tie.spec
+    (λ c κs. search needs)
+    (λ c κs. search needs)
+    returns
+    (λ c κs. search needs)
+    (λ c κs. search needs)
+    (λ c. search needs)
+    returns-2)
