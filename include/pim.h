@@ -29,8 +29,8 @@
  * and `place` is then 0 too. Else it is one of the fourteen numbers, and `place` says where. The other fields of a
  * refused answer are 0, but for a table, which comes back as it was passed (pim_read_sheet: without neighbours).
  *
- * Contents, in order: version; sizes and limits; kinds and numbers; messages read; messages packed; neighbours and
- * election; counters; Pop-Count attributes; the stored sheet; the checksum.
+ * Contents, in order: version; sizes and limits; kinds, numbers and lengths; messages read; messages written;
+ * neighbours and election; counters; Pop-Count attributes; the stored sheet; the checksum.
  */
 #ifndef PIM_H
 #define PIM_H
@@ -47,8 +47,8 @@ extern "C" {
 
 /* Each change of this file that a caller can notice raises it: a name, a layout, a number, a size, or what a call does.
  * It is no version of the protocol. 2: counters and rows are lent, names of Pop-Count begin pim_popcount_, the sheet's
- * counts are pim_sheet_counts. */
-#define PIM_VERSION 2
+ * counts are pim_sheet_counts. 3: pim_write_hello, and PIM_LONGEST_HELLO. */
+#define PIM_VERSION 3
 
 /* ---- sizes and limits, in octets where nothing else is said */
 
@@ -61,6 +61,7 @@ extern "C" {
 #define PIM_GREATEST_LIMIT 65515  /* the longest message */
 #define PIM_USUAL_LIMIT 1480      /* what limit 0 is read as */
 #define PIM_USUAL_HOLDTIME 105    /* seconds, of a Hello that has none */
+#define PIM_LONGEST_HELLO 22      /* the longest that is written */
 #define PIM_ROWS 16               /* rows of a neighbour table, and neighbours of a sheet at most */
 #define PIM_POPCOUNT_SHORTEST 8   /* a Pop-Count attribute without options */
 #define PIM_POPCOUNT_LONGEST 257  /* the longest that can be read */
@@ -82,7 +83,7 @@ extern "C" {
     ((n) < 26 ? 0 : (n) < 42 ? 1 : (n) < 44 ? 2 : (((n) < PIM_LONGEST_MESSAGE ? (n) : PIM_LONGEST_MESSAGE) - 32) / 6)
 #define PIM_MOST_PAIRS(n) ((n) < 18 ? 0 : (((n) < PIM_LONGEST_MESSAGE ? (n) : PIM_LONGEST_MESSAGE) - 4) / 14)
 
-/* ---- kinds and numbers */
+/* ---- kinds, numbers and lengths */
 
 enum pim_kind {
     PIM_HELLO = 0,
@@ -117,6 +118,12 @@ typedef struct {
     uint8_t number; /* enum pim_number */
     size_t place;   /* the octet, or the entry, at fault; 0 where nothing is refused */
 } pim_refusal;
+
+/* 24 octets */
+typedef struct {
+    pim_refusal refusal;
+    size_t length; /* octets written */
+} pim_length_answer;
 
 /* ---- messages read */
 
@@ -185,7 +192,13 @@ typedef struct {
 /* Reads a Hello. Refuses 1, 2, 3, 4 at 0, then 6 and 13 at the option's first octet. */
 pim_hello_answer pim_read_hello(const uint8_t *m, size_t n);
 
-/* ---- messages packed */
+/* ---- messages written */
+
+/* Writes the Hello that says what `said` does: holdtime always, 0 and PIM_USUAL_HOLDTIME too; priority where
+ * has_priority is true, else it is not looked at; the packed assert capability where packing is true. pim_read_hello
+ * gives back the same. It needs 10 octets, 8 more with a priority and 4 more with packing, PIM_LONGEST_HELLO at most;
+ * octets past the length stay. Refuses 8 at 0, exactly if the message takes more than the room, and nothing else. */
+pim_length_answer pim_write_hello(pim_hello said, uint8_t *buffer, size_t room);
 
 /* 32 octets */
 typedef struct {
@@ -379,12 +392,6 @@ typedef struct {
     uint32_t transit, stub;
     uint16_t minimum_speed, maximum_speed;
 } pim_popcount_own;
-
-/* 24 octets */
-typedef struct {
-    pim_refusal refusal;
-    size_t length; /* octets written */
-} pim_length_answer;
 
 /* Merges our own values with the attributes that stand one after another in `contributors`, possibly none, into one
  * attribute at `buffer`. It needs PIM_POPCOUNT_MERGED octets at most; octets past the length stay.
