@@ -1,5 +1,6 @@
-//! Reading of Hello messages.
+//! Reading and writing of Hello messages.
 
+use crate::pack::{put_header, seal};
 use crate::read::header;
 use crate::{refuse, Answer, Kind};
 
@@ -17,6 +18,12 @@ pub const DEFAULT_HOLDTIME: u16 = 105;
 const HOLDTIME: u16 = 1;
 const PRIORITY: u16 = 19;
 const PACKED_ASSERT: u16 = 40;
+
+// Octets of the header, and of each option with its type and length.
+const HEADER: usize = 4;
+const HOLDTIME_OPTION: usize = 6;
+const PRIORITY_OPTION: usize = 8;
+const PACKED_ASSERT_OPTION: usize = 4;
 
 /// The known options seen so far.
 #[derive(Default)]
@@ -71,4 +78,40 @@ fn allowed(option_type: u16, length: u16, seen: &Seen) -> bool {
         PACKED_ASSERT => length == 0 && !seen.packing,
         _ => true,
     }
+}
+
+/// Writes a Hello; its length. The holdtime is written also where it is the
+/// default, so that nothing depends on what a reader takes for none.
+pub fn write_hello(said: Hello, buffer: &mut [u8]) -> Answer<usize> {
+    let length = length(&said);
+    let Some(message) = buffer.get_mut(..length) else {
+        return refuse(8, 0);
+    };
+    put_header(message, 0x20, 0);
+    let mut rest = &mut message[HEADER..];
+    rest = put_option(rest, HOLDTIME, said.holdtime.to_be_bytes());
+    if let Some(priority) = said.priority {
+        rest = put_option(rest, PRIORITY, priority.to_be_bytes());
+    }
+    if said.packing {
+        put_option(rest, PACKED_ASSERT, []);
+    }
+    seal(message);
+    Ok(length)
+}
+
+/// The octets of the message, which are known before any is written.
+fn length(said: &Hello) -> usize {
+    let priority = if said.priority.is_some() { PRIORITY_OPTION } else { 0 };
+    let packing = if said.packing { PACKED_ASSERT_OPTION } else { 0 };
+    HEADER + HOLDTIME_OPTION + priority + packing
+}
+
+/// Type, length and value of an option; what is left of the room.
+fn put_option<const N: usize>(room: &mut [u8], option_type: u16, value: [u8; N]) -> &mut [u8] {
+    let (option, rest) = room.split_at_mut(4 + N);
+    option[..2].copy_from_slice(&option_type.to_be_bytes());
+    option[2..4].copy_from_slice(&(N as u16).to_be_bytes());
+    option[4..].copy_from_slice(&value);
+    rest
 }

@@ -122,12 +122,12 @@ fn prepare<const N: usize>(
 }
 
 /// Header with a checksum of 0.
-fn put_header(buffer: &mut [u8], first: u8, second: u8) {
+pub(crate) fn put_header(buffer: &mut [u8], first: u8, second: u8) {
     buffer[..4].copy_from_slice(&[first, second, 0, 0]);
 }
 
 /// The checksum of a whole message whose field is 0.
-fn seal(message: &mut [u8]) {
+pub(crate) fn seal(message: &mut [u8]) {
     let sum = checksum(message);
     message[2..4].copy_from_slice(&sum.to_be_bytes());
 }

@@ -1,7 +1,9 @@
 //! The one byte form of an aggregated message, against a plain construction:
-//! the message of the first k entries, for the greatest k that fits.
+//! the message of the first k entries, for the greatest k that fits. That of a
+//! Hello, worked out by hand and against one put together.
 mod common;
 use common::*;
+use second::hello::{write_hello, Hello};
 use second::pack::{pack_aggregated, pack_simple};
 use second::rng::Rng;
 
@@ -85,5 +87,58 @@ fn greatest_number_that_fits() {
             assert_eq!(pack_simple(&octets, start, limit, &mut buffer), Ok((m.len(), k)));
             assert_eq!(buffer[..m.len()], m);
         }
+    }
+}
+
+/// The Hello is exactly these octets.
+fn hello_is(holdtime: u16, priority: Option<u32>, packing: bool, octets: &[u8]) {
+    let mut buffer = [0x99; 30];
+    let length = write_hello(Hello { holdtime, priority, packing }, &mut buffer).unwrap();
+    assert_eq!(buffer[..length], *octets);
+}
+
+/// The checksum of each is reached in the comment before it: the sum of the
+/// 16-bit words, its own as 0000, each carry added back, taken from FFFF.
+#[test]
+fn hellos_by_hand() {
+    // 2000 + 0000 + 0001 + 0002 + 0069 = 206C; FFFF - 206C = DF93
+    hello_is(105, None, false, &hex("2000 DF93 0001 0002 0069"));
+    // 206C + 0028 + 0000 = 2094; FFFF - 2094 = DF6B
+    hello_is(105, None, true, &hex("2000 DF6B 0001 0002 0069 0028 0000"));
+    // 206C + 0013 + 0004 + 0000 + 0005 = 2088; FFFF - 2088 = DF77
+    hello_is(105, Some(5), false, &hex("2000 DF77 0001 0002 0069 0013 0004 0000 0005"));
+    // 2088 + 0028 + 0000 = 20B0; FFFF - 20B0 = DF4F
+    hello_is(105, Some(5), true, &hex("2000 DF4F 0001 0002 0069 0013 0004 0000 0005 0028 0000"));
+    // 2000 + 0001 + 0002 + 0000 = 2003; FFFF - 2003 = DFFC
+    hello_is(0, None, false, &hex("2000 DFFC 0001 0002 0000"));
+    // 2003 + DFFC = FFFF; FFFF - FFFF = 0000
+    hello_is(0xDFFC, None, false, &hex("2000 0000 0001 0002 DFFC"));
+    // 2003 + F000 = 1_1003, so 1004; + 0013 + 0004 = 101B; + F123 = 1_013E, so 013F;
+    // + FFC0 = 1_00FF, so 0100; FFFF - 0100 = FEFF
+    hello_is(0xF000, Some(0xF123_FFC0), false, &hex("2000 FEFF 0001 0002 F000 0013 0004 F123 FFC0"));
+    // 2003 + FFFF = 1_2002, so 2003; + 0013 + 0004 = 201A; + 0000 + DFE6 = 1_0000, so 0001;
+    // FFFF - 0001 = FFFE
+    hello_is(0xFFFF, Some(0xDFE6), false, &hex("2000 FFFE 0001 0002 FFFF 0013 0004 0000 DFE6"));
+    // FFFF takes 1 and carries 1, so it leaves a sum as it is: 2003 + 0013 + 0004 + 0028 = 2042;
+    // FFFF - 2042 = DFBD
+    let all_ones = hex("2000 DFBD 0001 0002 FFFF 0013 0004 FFFF FFFF 0028 0000");
+    hello_is(0xFFFF, Some(0xFFFF_FFFF), true, &all_ones);
+}
+
+/// Type, length and value.
+fn option(head: &str, value: &[u8]) -> Vec<u8> {
+    [&hex(head), value].concat()
+}
+
+#[test]
+fn hellos_put_together() {
+    let mut rng = Rng::new(40);
+    let mut list = edge_hellos();
+    list.extend((0..20_000).map(|_| random_hello(&mut rng)));
+    for Hello { holdtime, priority, packing } in list {
+        let mut body = option("0001 0002", &holdtime.to_be_bytes());
+        body.extend(priority.map_or(vec![], |priority| option("0013 0004", &priority.to_be_bytes())));
+        body.extend(if packing { hex("0028 0000") } else { vec![] });
+        hello_is(holdtime, priority, packing, &message(0x20, 0, &body));
     }
 }

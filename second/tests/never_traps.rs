@@ -130,6 +130,22 @@ fn packing_any_octets() {
 }
 
 #[test]
+fn hellos_into_any_room() {
+    let mut rng = Rng::new(81);
+    let mut entries = vec![0; 100];
+    for _ in 0..50_000 {
+        let mut buffer = vec![0; rng.below(40)];
+        rng.fill(&mut buffer);
+        let before = buffer.clone();
+        let length = write_hello(random_hello(&mut rng), &mut buffer).unwrap_or(0);
+        assert_eq!(buffer[length..], before[length..]);
+        // What was written, whole and cut.
+        read_all(&buffer[..length], &mut entries);
+        read_all(&buffer[..rng.below(length + 1)], &mut entries);
+    }
+}
+
+#[test]
 fn changed_sheets() {
     let mut rng = Rng::new(79);
     let mut table = Table::empty();

@@ -275,6 +275,34 @@ fn number_8_buffers() {
     assert_eq!((small, large), ([0x77; 37], [0x77; 38]));
 }
 
+/// A Hello of so many octets in a room: refused in less, with nothing written,
+/// else written, and the octets past it stay.
+fn hello_in_room(said: Hello, length: usize, room: usize) {
+    let mut buffer = [0x77; 31];
+    let answer = write_hello(said, &mut buffer[..room]);
+    if room < length {
+        assert_eq!(answer, refusal(8, 0), "{said:?} in {room}");
+        assert_eq!(buffer, [0x77; 31]);
+    } else {
+        assert_eq!(answer, Ok(length), "{said:?} in {room}");
+        assert_eq!(read_hello(&buffer[..length]), Ok(said));
+        assert!(buffer[length..].iter().all(|octet| *octet == 0x77));
+    }
+}
+
+#[test]
+fn number_8_hellos() {
+    for said in edge_hellos() {
+        let length = match (said.priority, said.packing) {
+            (None, false) => 10,
+            (None, true) => 14,
+            (Some(_), false) => 18,
+            (Some(_), true) => 22,
+        };
+        (0..=30).for_each(|room| hello_in_room(said, length, room));
+    }
+}
+
 #[test]
 fn number_9_limits() {
     let mut buffer = vec![0x77; 70_000];

@@ -1,10 +1,13 @@
-//! Trains of random lists read back as the list, and nothing else is written.
+//! Trains of random lists read back as the list, Hellos as what was said, and
+//! nothing else is written.
 mod common;
 use common::*;
+use second::hello::*;
 use second::pack::*;
 use second::read::*;
 use second::rng::Rng;
 use second::{Answer, Kind};
+use std::collections::HashSet;
 
 type Pack = fn(&[u8], usize, usize, &mut [u8]) -> Answer<(usize, usize)>;
 type Read = fn(&[u8], &mut [u8]) -> Answer<(Kind, usize)>;
@@ -132,4 +135,58 @@ fn choice_of_two() {
     assert_eq!(choose(&tie, 100), (false, 74, 3));
     assert_eq!((a[1], b[1]), (1, 3));
     assert_eq!(b[8..12], [0x80, 0, 0, 0]);
+}
+
+/// Writes a Hello and reads it back; the message.
+fn hello(said: Hello) -> Vec<u8> {
+    let mut buffer = [0xC3; 30];
+    let length = write_hello(said, &mut buffer).unwrap();
+    assert_eq!(header(&buffer[..length]), Ok(Kind::Hello));
+    assert_eq!(read_hello(&buffer[..length]), Ok(said));
+    assert!(buffer[length..].iter().all(|octet| *octet == 0xC3));
+    buffer[..length].to_vec()
+}
+
+#[test]
+fn hellos() {
+    let mut rng = Rng::new(7761);
+    let random: Vec<Hello> = (0..100_000).map(|_| random_hello(&mut rng)).collect();
+    for said in [edge_hellos(), random].concat() {
+        hello(said);
+    }
+}
+
+#[test]
+fn every_holdtime() {
+    for holdtime in 0..=u16::MAX {
+        hello(Hello { holdtime, priority: None, packing: true });
+        hello(Hello { holdtime, priority: Some(u32::MAX), packing: false });
+    }
+}
+
+/// All Hellos that differ from one in a single bit of a number, in packing or
+/// in having a priority.
+fn near(said: Hello) -> Vec<Hello> {
+    let mut list = vec![Hello { packing: !said.packing, ..said }];
+    list.extend((0..16).map(|bit| Hello { holdtime: said.holdtime ^ 1 << bit, ..said }));
+    let Some(priority) = said.priority else {
+        list.push(Hello { priority: Some(0), ..said });
+        return list;
+    };
+    list.extend((0..32).map(|bit| Hello { priority: Some(priority ^ 1 << bit), ..said }));
+    list.push(Hello { priority: None, ..said });
+    list
+}
+
+#[test]
+fn other_hello_other_message() {
+    let edges = edge_hellos();
+    let messages: HashSet<Vec<u8>> = edges.iter().map(|said| hello(*said)).collect();
+    assert_eq!(messages.len(), edges.len());
+    let mut rng = Rng::new(19);
+    let random: Vec<Hello> = (0..3_000).map(|_| random_hello(&mut rng)).collect();
+    for said in [edges, random].concat() {
+        let message = hello(said);
+        assert!(near(said).into_iter().all(|other| hello(other) != message), "{said:?}");
+    }
 }

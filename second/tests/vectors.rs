@@ -176,6 +176,20 @@ fn hellos() {
     }
 }
 
+/// pimd's Hellos begin with holdtime and priority, as ours do; then they have
+/// an option that is not written here, so the checksum is another.
+#[test]
+fn hellos_written() {
+    let pimd: Vec<_> = HELLOS.iter().filter(|(text, ..)| text[20..24] == *"0013").collect();
+    assert_eq!(pimd.len(), 8);
+    for (text, holdtime, priority) in pimd {
+        let said = Hello { holdtime: *holdtime, priority: Some(*priority), packing: false };
+        let mut buffer = [0; 18];
+        assert_eq!(write_hello(said, &mut buffer), Ok(18));
+        assert_eq!((&buffer[..2], &buffer[4..]), (&hex(text)[..2], &hex(text)[4..18]));
+    }
+}
+
 #[test]
 fn asserts() {
     for (text, group, source, r_preference, metric) in ASSERTS {

@@ -2,6 +2,7 @@
 #![allow(dead_code)]
 
 use second::checksum::checksum;
+use second::hello::Hello;
 use second::rng::Rng;
 use second::{Answer, Refusal};
 
@@ -89,4 +90,19 @@ pub fn random_pairs(rng: &mut Rng, count: usize, least_source: u32) -> Vec<u8> {
     (0..count)
         .flat_map(|_| pair(0xE000_0000 | rng.next_u32() >> 4, least_source + rng.below(9) as u32))
         .collect()
+}
+
+/// Hellos of all four shapes, their numbers at the edges of the fields; the
+/// default holdtime too.
+pub fn edge_hellos() -> Vec<Hello> {
+    let priorities = [None, Some(0), Some(1), Some(u32::MAX)];
+    let shapes = priorities.map(|priority| [(priority, false), (priority, true)]).concat();
+    let of = |holdtime| shapes.iter().map(move |&(priority, packing)| Hello { holdtime, priority, packing });
+    [0, 1, 105, 65_535].into_iter().flat_map(of).collect()
+}
+
+pub fn random_hello(rng: &mut Rng) -> Hello {
+    let holdtime = rng.next_u32() as u16;
+    let priority = rng.one_in(2).then(|| rng.next_u32());
+    Hello { holdtime, priority, packing: rng.one_in(2) }
 }
