@@ -29,6 +29,10 @@ pub fn read_hello(m: &Lent) -> HelloAnswer {
     unsafe { pim_read_hello(m.pointer(), m.length()) }
 }
 
+pub fn write_hello(said: Hello, buffer: &mut Lent) -> LengthAnswer {
+    unsafe { pim_write_hello(said, buffer.pointer_mut(), buffer.length()) }
+}
+
 fn pack(call: Pack, list: &Lent, start: usize, limit: usize, buffer: &mut Lent) -> PackAnswer {
     unsafe { call(list.pointer(), list.length(), start, limit, buffer.pointer_mut(), buffer.length()) }
 }

@@ -20,6 +20,11 @@ records! {
         place: usize,
     }
 
+    LengthAnswer: 24 {
+        refusal: Refusal,
+        length: usize,
+    }
+
     HeaderAnswer: 24 {
         refusal: Refusal,
         kind: u8,
@@ -148,11 +153,6 @@ records! {
         maximum_speed: u16,
     }
 
-    LengthAnswer: 24 {
-        refusal: Refusal,
-        length: usize,
-    }
-
     SheetCounts: 24 {
         asserts: usize,
         pairs: usize,
@@ -183,6 +183,7 @@ extern "C" {
     pub fn pim_read_pairs(m: *const u8, n: usize, entries: *mut u8, room: usize) -> ReadAnswer;
     pub fn pim_read_hello(m: *const u8, n: usize) -> HelloAnswer;
 
+    pub fn pim_write_hello(said: Hello, buffer: *mut u8, room: usize) -> LengthAnswer;
     pub fn pim_pack_assert(
         entries: *const u8,
         size: usize,

@@ -45,5 +45,5 @@ fn least(run: &mut Run, list: &[u8], limit: usize) {
     let messages = train(run, AGGREGATED, &list, limit);
     let least = least_messages(list.second(), limit);
     let numbers = format_args!("limit {limit}: {messages} messages, least {least:?}");
-    run.tally.train(LEAST, numbers, &list, least == Some(messages));
+    run.tally.claim(LEAST, numbers, &list, least == Some(messages));
 }

@@ -5,6 +5,7 @@ mod checksum;
 mod counters;
 mod expect;
 mod ffi;
+mod hello;
 mod least;
 mod lent;
 mod make;
@@ -50,6 +51,7 @@ pub fn all(options: Options) -> ExitCode {
     for subject in [
         checksum::compare,
         read::compare,
+        hello::compare,
         pack::compare,
         trains::compare,
         least::compare,

@@ -1,5 +1,6 @@
 //! Messages, their records and Hellos read.
 
+use super::ffi::HelloAnswer;
 use super::{calls, checksum, expect, make, Run};
 use second::hello::read_hello;
 use second::read;
@@ -150,10 +151,12 @@ fn header(run: &mut Run, m: &[u8]) {
     run.tally.call("pim_body", format_args!("a message"), &[&lent], &first, &second);
 }
 
-fn hello(run: &mut Run, m: &[u8]) {
+/// What both answer.
+pub fn hello(run: &mut Run, m: &[u8]) -> HelloAnswer {
     let lent = run.input("message", m);
     let (first, second) = (calls::read_hello(&lent), expect::hello(read_hello(m)));
     run.tally.call("pim_read_hello", format_args!("a message"), &[&lent], &first, &second);
+    first
 }
 
 fn record(run: &mut Run, kind: u8, octets: &[u8], at: usize) {

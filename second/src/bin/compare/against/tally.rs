@@ -7,13 +7,14 @@ use std::fmt::{Arguments, Debug};
 use std::process::{exit, ExitCode};
 
 /// The calls of `pim.h`, in its order.
-const CALLS: [&str; 28] = [
+const CALLS: [&str; 29] = [
     "pim_header",
     "pim_body",
     "pim_read_record",
     "pim_read_asserts",
     "pim_read_pairs",
     "pim_read_hello",
+    "pim_write_hello",
     "pim_pack_assert",
     "pim_pack_simple",
     "pim_pack_aggregated",
@@ -38,12 +39,14 @@ const CALLS: [&str; 28] = [
     "pim_checksum_holds",
 ];
 
-/// Whole trains of the first implementation, beside the single calls.
+// What is claimed of the first implementation beside the single calls: of its
+// whole trains, and of its Hellos.
 pub const UNPACKED: &str = "train unpacks to its list";
 pub const LEAST: &str = "train is the least (brute force)";
 pub const LARGER_LIMIT: &str = "larger limit, no longer train";
+pub const READ_BACK: &str = "Hello reads back as what was said";
 
-const TRAINS: [&str; 3] = [UNPACKED, LEAST, LARGER_LIMIT];
+const CLAIMS: [&str; 4] = [UNPACKED, LEAST, LARGER_LIMIT, READ_BACK];
 
 const NUMBERS: usize = 14;
 const COMPARISONS_LEAST: u64 = 200_000;
@@ -51,7 +54,7 @@ const COMPARISONS_LEAST: u64 = 200_000;
 pub struct Tally {
     options: Options,
     calls: [u64; CALLS.len()],
-    trains: [u64; TRAINS.len()],
+    claims: [u64; CLAIMS.len()],
     /// Accepted at 0, then by number of refusal.
     numbers: [u64; NUMBERS + 1],
     /// Calls that were lent NULL, with length 0.
@@ -60,8 +63,8 @@ pub struct Tally {
 
 impl Tally {
     pub fn new(options: Options) -> Tally {
-        let (calls, trains) = ([0; CALLS.len()], [0; TRAINS.len()]);
-        Tally { options, calls, trains, numbers: [0; NUMBERS + 1], nulls: 0 }
+        let (calls, claims) = ([0; CALLS.len()], [0; CLAIMS.len()]);
+        Tally { options, calls, claims, numbers: [0; NUMBERS + 1], nulls: 0 }
     }
 
     /// One call: both answers, and all memory lent to it.
@@ -83,12 +86,12 @@ impl Tally {
         }
     }
 
-    /// One claim about a whole train.
-    pub fn train(&mut self, claim: &'static str, numbers: Arguments, list: &Lent, holds: bool) {
+    /// One claim about the train of a list, or about a Hello.
+    pub fn claim(&mut self, claim: &'static str, numbers: Arguments, lent: &Lent, holds: bool) {
         if !holds {
-            self.differ(claim, numbers, &[list], &"does not hold", &"holds");
+            self.differ(claim, numbers, &[lent], &"does not hold", &"holds");
         }
-        *slot(&TRAINS, &mut self.trains, claim) += 1;
+        *slot(&CLAIMS, &mut self.claims, claim) += 1;
     }
 
     /// Says what differs and ends the program.
@@ -113,13 +116,13 @@ impl Tally {
     }
 
     fn comparisons(&self) -> u64 {
-        self.calls.iter().chain(&self.trains).sum()
+        self.calls.iter().chain(&self.claims).sum()
     }
 
     /// Prints the tables; a failure if something was not compared.
     pub fn report(&self) -> ExitCode {
         print_rows(&CALLS, &self.calls);
-        print_rows(&TRAINS, &self.trains);
+        print_rows(&CLAIMS, &self.claims);
         println!("{:<34}{:>10}", "accepted", self.numbers[0]);
         for number in 1..=NUMBERS {
             println!("{:<34}{:>10}", format!("refusal {number}"), self.numbers[number]);
@@ -139,7 +142,7 @@ impl Tally {
 
     /// What should have been compared and was not.
     fn gaps(&self) -> Vec<String> {
-        let calls = CALLS.iter().zip(&self.calls).chain(TRAINS.iter().zip(&self.trains));
+        let calls = CALLS.iter().zip(&self.calls).chain(CLAIMS.iter().zip(&self.claims));
         let mut gaps: Vec<String> = calls
             .filter(|(_, count)| **count == 0)
             .map(|(call, _)| format!("{call} was never compared"))

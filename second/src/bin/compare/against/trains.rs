@@ -52,7 +52,7 @@ fn larger_limits(run: &mut Run) {
     let mut before = usize::MAX;
     for limit in (38..=200).step_by(1 + run.below(9)) {
         let messages = train(run, AGGREGATED, &list, limit);
-        run.tally.train(LARGER_LIMIT, format_args!("limit {limit}"), &list, messages <= before);
+        run.tally.claim(LARGER_LIMIT, format_args!("limit {limit}"), &list, messages <= before);
         before = messages;
     }
 }
@@ -75,7 +75,7 @@ pub fn train(run: &mut Run, form: Form, list: &Lent, limit: usize) -> usize {
         entries.extend((form.read)(run, &message, form.size * answer.taken));
     }
     let holds = whole && entries == list.second();
-    run.tally.train(UNPACKED, format_args!("limit {limit}"), list, holds);
+    run.tally.claim(UNPACKED, format_args!("limit {limit}"), list, holds);
     messages
 }
 
@@ -102,5 +102,5 @@ fn train_of_choices(run: &mut Run, list: &Lent, limit: usize) {
         entries.extend(read::asserts(run, &message, 16 * taken));
     }
     let holds = whole && entries == list.second();
-    run.tally.train(UNPACKED, format_args!("limit {limit}, of both forms"), list, holds);
+    run.tally.claim(UNPACKED, format_args!("limit {limit}, of both forms"), list, holds);
 }
