@@ -1,4 +1,4 @@
-/* One small lab on the bench: neighbours heard, a router elected, asserts packed and read back, counted,
+/* One small lab on the bench: Hellos written and heard, a router elected, asserts packed and read back, counted,
  * Pop-Count attributes merged, the sheet kept, and one damaged message refused.
  *
  * Build and run it from the top of the repository:
@@ -81,17 +81,17 @@ static void count(pim_counters *counters, bool received, uint8_t kind, size_t re
 
 /* ---- neighbours */
 
-/* Holdtime 105, priority 5, packed assert capability. */
-static const uint8_t first_hello[] = {0x20, 0x00, 0xdf, 0x4f, 0x00, 0x01, 0x00, 0x02, 0x00, 0x69, 0x00,
-                                      0x13, 0x00, 0x04, 0x00, 0x00, 0x00, 0x05, 0x00, 0x28, 0x00, 0x00};
+/* Priority 5, packed assert capability. */
+static const pim_hello first_hello = {PIM_USUAL_HOLDTIME, true, 5, true};
 
-/* Holdtime 210, a generation identifier (which is skipped), priority 9, packed assert capability. */
+/* From a router of another maker: holdtime 210, a generation identifier (which is skipped, and never written),
+ * priority 9, packed assert capability. */
 static const uint8_t second_hello[] = {0x20, 0x00, 0x76, 0x1e, 0x00, 0x01, 0x00, 0x02, 0x00, 0xd2,
                                        0x00, 0x14, 0x00, 0x04, 0x12, 0x34, 0x56, 0x78, 0x00, 0x13,
                                        0x00, 0x04, 0x00, 0x00, 0x00, 0x09, 0x00, 0x28, 0x00, 0x00};
 
-/* Packed assert capability alone: no priority, and the holdtime that no option stands for. */
-static const uint8_t third_hello[] = {0x20, 0x00, 0xdf, 0xd7, 0x00, 0x28, 0x00, 0x00};
+/* Packed assert capability, no priority. */
+static const pim_hello third_hello = {PIM_USUAL_HOLDTIME, false, 0, true};
 
 /* Hears one Hello: printed, counted, put into the table. */
 static void hear(pim_table *table, pim_counters *counters, uint32_t address, const uint8_t *message, size_t size)
@@ -110,6 +110,17 @@ static void hear(pim_table *table, pim_counters *counters, uint32_t address, con
     must("pim_hear", heard.refusal);
     *table = heard.table;
     count(counters, true, PIM_HELLO, 0);
+}
+
+/* Writes the Hello of a router that the bench plays, counts it as sent, and hears it. */
+static void say_hello(pim_table *table, pim_counters *counters, uint32_t address, pim_hello said)
+{
+    uint8_t message[PIM_LONGEST_HELLO];
+    pim_length_answer written = pim_write_hello(said, message, sizeof message);
+
+    must("pim_write_hello", written.refusal);
+    count(counters, false, PIM_HELLO, 0);
+    hear(table, counters, address, message, written.length);
 }
 
 static void print_table(const pim_table *table)
@@ -143,10 +154,10 @@ static void elect(pim_table table)
 static void hear_all(pim_table *table, pim_counters *counters)
 {
     *table = pim_table_empty();
-    hear(table, counters, 0x0a000002, first_hello, sizeof first_hello);
+    say_hello(table, counters, 0x0a000002, first_hello);
     hear(table, counters, 0x0a000003, second_hello, sizeof second_hello);
     elect(*table);
-    hear(table, counters, 0x0a000009, third_hello, sizeof third_hello);
+    say_hello(table, counters, 0x0a000009, third_hello);
     elect(*table);
     print_table(table);
 }

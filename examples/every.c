@@ -2,7 +2,7 @@
  * octets and numbers are worked out by hand, none is copied from an output. Sizes, offsets and constants are asserted
  * when this file is compiled.
  *
- * In order: layout; constants; the most entries of a message; messages read; messages packed; neighbours and election;
+ * In order: layout; constants; the most entries of a message; messages read; messages written; neighbours and election;
  * counters; Pop-Count attributes; the stored sheet; the checksum; lent memory (NULL, the same memory twice, any
  * alignment).
  *
@@ -28,7 +28,7 @@
 #define FIELD(type, field, at, size) HOLDS(offsetof(type, field) == (at) && sizeof(((type *)0)->field) == (size))
 
 /* Whoever changes a size, an offset or a constant that is asserted here raises the version. */
-HOLDS(PIM_VERSION == 2);
+HOLDS(PIM_VERSION == 3);
 
 HOLDS(sizeof(size_t) == 8);
 HOLDS(sizeof(bool) == 1);
@@ -36,6 +36,10 @@ HOLDS(sizeof(bool) == 1);
 HOLDS(sizeof(pim_refusal) == 16);
 FIELD(pim_refusal, number, 0, 1);
 FIELD(pim_refusal, place, 8, 8);
+
+HOLDS(sizeof(pim_length_answer) == 24);
+FIELD(pim_length_answer, refusal, 0, 16);
+FIELD(pim_length_answer, length, 16, 8);
 
 HOLDS(sizeof(pim_header_answer) == 24);
 FIELD(pim_header_answer, refusal, 0, 16);
@@ -146,10 +150,6 @@ FIELD(pim_popcount_own, stub, 8, 4);
 FIELD(pim_popcount_own, minimum_speed, 12, 2);
 FIELD(pim_popcount_own, maximum_speed, 14, 2);
 
-HOLDS(sizeof(pim_length_answer) == 24);
-FIELD(pim_length_answer, refusal, 0, 16);
-FIELD(pim_length_answer, length, 16, 8);
-
 HOLDS(sizeof(pim_sheet_counts) == 24);
 FIELD(pim_sheet_counts, asserts, 0, 8);
 FIELD(pim_sheet_counts, pairs, 8, 8);
@@ -176,6 +176,7 @@ HOLDS(PIM_GREATEST_LIMIT == 65515);
 HOLDS(PIM_USUAL_LIMIT == 1480);
 HOLDS(PIM_R_BIT == 0xffffffffu - 0x7fffffffu);
 HOLDS(PIM_USUAL_HOLDTIME == 105);
+HOLDS(PIM_LONGEST_HELLO == 4 + (2 + 2 + 2) + (2 + 2 + 4) + (2 + 2));
 HOLDS(PIM_ROWS == 16);
 HOLDS(PIM_POPCOUNT_SHORTEST == 2 + 6);
 HOLDS(PIM_POPCOUNT_LONGEST == 2 + 255);
@@ -537,7 +538,69 @@ static void hellos(void)
     EXPECT(refused(h.refusal, PIM_BAD_OPTION, 10) && h.hello.holdtime == 0 && !h.hello.packing);
 }
 
-/* ---- messages packed */
+/* ---- messages written */
+
+/* What a Hello says, and its octets. */
+typedef struct {
+    pim_hello said;
+    size_t length;
+    uint8_t octets[PIM_LONGEST_HELLO];
+} written_hello;
+
+/* Each shape, then numbers at the edges of their fields. The checksum is the sum of the words, its own as 0, each carry
+ * added back, taken from ffff; the comments have the sum. */
+static const written_hello written_hellos[] = {
+    /* 2000 + 1 + 2 + 69 = 206c */
+    {{105, false, 0, false}, 10, {0x20, 0, 0xdf, 0x93, 0, 1, 0, 2, 0, 105}},
+    /* 206c + 28 = 2094 */
+    {{105, false, 0, true}, 14, {0x20, 0, 0xdf, 0x6b, 0, 1, 0, 2, 0, 105, 0, 40, 0, 0}},
+    /* 206c + 13 + 4 + 5 = 2088 */
+    {{105, true, 5, false}, 18, {0x20, 0, 0xdf, 0x77, 0, 1, 0, 2, 0, 105, 0, 19, 0, 4, 0, 0, 0, 5}},
+    /* 2088 + 28 = 20b0 */
+    {{105, true, 5, true}, 22, {0x20, 0, 0xdf, 0x4f, 0, 1, 0, 2, 0, 105, 0, 19, 0, 4, 0, 0, 0, 5, 0, 40, 0, 0}},
+    /* a priority that the router does not have is not looked at: 2000 + 1 + 2 = 2003 */
+    {{0, false, 7, false}, 10, {0x20, 0, 0xdf, 0xfc, 0, 1, 0, 2, 0, 0}},
+    /* priority 0 is one: 2003 + 13 + 4 + 28 = 2042 */
+    {{0, true, 0, true}, 22, {0x20, 0, 0xdf, 0xbd, 0, 1, 0, 2, 0, 0, 0, 19, 0, 4, 0, 0, 0, 0, 0, 40, 0, 0}},
+    /* each ffff takes 1 and carries 1: 2042 again */
+    {{0xffff, true, 0xffffffff, true}, 22, {0x20, 0, 0xdf, 0xbd, 0,    1,    0,    2, 0xff, 0xff, 0,
+                                            19,   0, 4,    0xff, 0xff, 0xff, 0xff, 0, 40,   0,    0}},
+    /* 2003 + dffc = ffff */
+    {{0xdffc, false, 0, false}, 10, {0x20, 0, 0, 0, 0, 1, 0, 2, 0xdf, 0xfc}},
+    /* all at once 1ffff, of which adding the carry makes another carry: 1 */
+    {{0xffff, true, 0xdfe6, false}, 18, {0x20, 0, 0xff, 0xfe, 0, 1, 0, 2, 0xff, 0xff, 0, 19, 0, 4, 0, 0, 0xdf, 0xe6}},
+};
+
+static bool reads_as(const uint8_t *m, size_t n, pim_hello said)
+{
+    pim_hello_answer h = CALLED(pim_read_hello(m, n));
+
+    return accepted(h.refusal) && h.hello.holdtime == said.holdtime && h.hello.has_priority == said.has_priority &&
+           h.hello.priority == (said.has_priority ? said.priority : 0) && h.hello.packing == said.packing;
+}
+
+/* One octet too few, exactly enough, and more than enough. */
+static void hellos_written(void)
+{
+    uint8_t buffer[PIM_LONGEST_HELLO + 8];
+    size_t i;
+
+    for (i = 0; i < sizeof written_hellos / sizeof written_hellos[0]; i++) {
+        const written_hello *w = &written_hellos[i];
+        pim_length_answer l;
+
+        memset(buffer, UNTOUCHED, sizeof buffer);
+        l = CALLED(pim_write_hello(w->said, buffer, w->length - 1));
+        EXPECT(refused(l.refusal, PIM_NO_ROOM, 0) && l.length == 0 && untouched(buffer, 0, sizeof buffer));
+        l = CALLED(pim_write_hello(w->said, buffer, w->length));
+        EXPECT(accepted(l.refusal) && l.length == w->length && memcmp(buffer, w->octets, l.length) == 0);
+        EXPECT(untouched(buffer, l.length, sizeof buffer) && reads_as(buffer, l.length, w->said));
+        memset(buffer, UNTOUCHED, sizeof buffer);
+        l = CALLED(pim_write_hello(w->said, buffer, sizeof buffer));
+        EXPECT(accepted(l.refusal) && l.length == w->length && memcmp(buffer, w->octets, l.length) == 0);
+        EXPECT(untouched(buffer, l.length, sizeof buffer));
+    }
+}
 
 /* Entries for the packing calls: the example's, with other groups. */
 static void make_entries(uint8_t *entries, size_t count)
@@ -1085,6 +1148,7 @@ static void nothing_to_write(void)
     seal(pairs, sizeof pairs);
     EXPECT(refused(CALLED(pim_read_asserts(example, sizeof example, NULL, 0)).refusal, PIM_NO_ROOM, 0));
     EXPECT(refused(CALLED(pim_read_pairs(pairs, sizeof pairs, NULL, 0)).refusal, PIM_NO_ROOM, 0));
+    EXPECT(refused(CALLED(pim_write_hello(five, NULL, 0)).refusal, PIM_NO_ROOM, 0));
     EXPECT(refused(CALLED(pim_pack_assert(e, 16, 0, 38, NULL, 0)).refusal, PIM_NO_ROOM, 0));
     EXPECT(refused(CALLED(pim_pack_simple(e, 16, 0, 38, NULL, 0)).refusal, PIM_NO_ROOM, 0));
     EXPECT(refused(CALLED(pim_pack_aggregated(e, 16, 0, 38, NULL, 0)).refusal, PIM_NO_ROOM, 0));
@@ -1136,6 +1200,7 @@ int main(void)
     asserts_read();
     pairs_read();
     hellos();
+    hellos_written();
     plain_and_simple();
     source_aggregated();
     rp_aggregated();

@@ -8,6 +8,12 @@ pub struct Refusal {
 }
 
 #[repr(C)]
+pub struct LengthAnswer {
+    pub refusal: Refusal,
+    pub length: usize,
+}
+
+#[repr(C)]
 pub struct ReadAnswer {
     pub refusal: Refusal,
     pub count: usize,
@@ -67,12 +73,6 @@ pub struct PopcountOwn {
 }
 
 #[repr(C)]
-pub struct LengthAnswer {
-    pub refusal: Refusal,
-    pub length: usize,
-}
-
-#[repr(C)]
 #[derive(Clone, Copy, Debug, PartialEq, Eq)]
 pub struct SheetCounts {
     pub asserts: usize,
@@ -99,6 +99,7 @@ extern "C" {
     fn pim_read_asserts(m: *const u8, n: usize, entries: *mut u8, room: usize) -> ReadAnswer;
     fn pim_read_pairs(m: *const u8, n: usize, entries: *mut u8, room: usize) -> ReadAnswer;
     fn pim_read_hello(m: *const u8, n: usize) -> HelloAnswer;
+    fn pim_write_hello(said: Hello, b: *mut u8, room: usize) -> LengthAnswer;
     fn pim_pack_simple(
         e: *const u8,
         size: usize,
@@ -176,6 +177,11 @@ pub fn read_pairs(m: &[u8], entries: &mut [u8]) -> ReadAnswer {
 #[inline(always)]
 pub fn read_hello(m: &[u8]) -> HelloAnswer {
     unsafe { pim_read_hello(m.as_ptr(), m.len()) }
+}
+
+#[inline(always)]
+pub fn write_hello(said: Hello, buffer: &mut [u8]) -> LengthAnswer {
+    unsafe { pim_write_hello(said, buffer.as_mut_ptr(), buffer.len()) }
 }
 
 #[inline(always)]

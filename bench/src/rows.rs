@@ -68,6 +68,7 @@ pub fn measure() -> Measured {
     sheets(&mut measured.rows);
     measured.rows.push(merge());
     measured.rows.push(read_hello());
+    measured.rows.push(write_hello());
     measured
 }
 
@@ -475,15 +476,22 @@ fn own_values() -> (archive::PopcountOwn, popcount::Own) {
     )
 }
 
+/// The same Hello in the archive's form.
+fn archive_hello(said: &hello::Hello) -> archive::Hello {
+    archive::Hello {
+        holdtime: said.holdtime,
+        has_priority: said.priority.is_some(),
+        priority: said.priority.unwrap_or(0),
+        packing: said.packing,
+    }
+}
+
 fn read_hello() -> Row {
     let message = input::HELLO;
     let answer = archive::read_hello(&message);
     let said = hello::read_hello(&message).expect("the Hello is good");
     assert_eq!(answer.refusal.number, 0, "the archive refuses the Hello");
-    assert_eq!(
-        (answer.hello.holdtime, answer.hello.has_priority, answer.hello.priority, answer.hello.packing),
-        (said.holdtime, said.priority.is_some(), said.priority.unwrap_or(0), said.packing)
-    );
+    assert_eq!(answer.hello, archive_hello(&said), "read Hello");
     let times = compare(
         &mut side(|| {
             black_box(archive::read_hello(black_box(&message)));
@@ -493,4 +501,24 @@ fn read_hello() -> Row {
         }),
     );
     octets_row("read Hello", message.len(), times)
+}
+
+/// All options that can be written: 22 octets.
+fn write_hello() -> Row {
+    let theirs = input::SAID;
+    let ours = archive_hello(&theirs);
+    let mut a = [0; 22];
+    let mut s = [0; 22];
+    let answer = archive::write_hello(ours, &mut a);
+    let length = hello::write_hello(theirs, &mut s).expect("the buffer is long enough");
+    assert_eq!((answer.refusal.number, answer.length, a), (0, length, s), "write Hello");
+    let times = compare(
+        &mut side(|| {
+            black_box(archive::write_hello(black_box(ours), black_box(&mut a)));
+        }),
+        &mut side(|| {
+            black_box(hello::write_hello(black_box(theirs), black_box(&mut s))).ok();
+        }),
+    );
+    octets_row("write Hello", length, times)
 }
