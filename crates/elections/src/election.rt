@@ -1,10 +1,14 @@
-// The election among the routers of a scenario, one of them our own or none. A router stands in 12 octets, as a sheet has a
-// neighbour: address, priority, 1 if it has a priority, a zero octet, holdtime.
+// The election among the routers of a scenario, one of them our own or none, by the Hello that each sends. A router stands
+// in 12 octets, as a sheet has a neighbour: address, priority, 1 if it has a priority, a zero octet, holdtime.
+use format::Writing;
 use hello::Hello;
+use hello::HelloRead;
 use neighbours::Change;
+use neighbours::Changed;
 use neighbours::Elected;
 use neighbours::Table;
 use octets::Field;
+use printing::front;
 ghost use Prim.Native.Nat.{_<_};
 ghost use lib.ListN.{length};
 
@@ -45,6 +49,31 @@ fn said(m: &[u8], at: usize) -> Hello
     }
 }
 
+// The Hello of the router at a place, written, read again and heard; or the first refusal.
+fn heard(table: Table, m: &[u8], at: usize) -> Changed
+    requires { ⌜ at < length (now m) ⌝ }
+{
+    let mut d = [0; 22];
+    let w = hello::write_hello(said(m, at), &mut d);
+    let n = match w {
+        Writing::Wrote(n) => n,
+        Writing::Refused(r) => {
+            return Changed {
+                table,
+                change: Change::Refused(r),
+            };
+        }
+    };
+    let h = hello::read_hello(front(&d, n));
+    match h {
+        HelloRead::Is(said) => table.hear(address(m, at), said),
+        HelloRead::Refused(r) => Changed {
+            table,
+            change: Change::Refused(r),
+        },
+    }
+}
+
 // Every other router is heard, then the router at a place elects; or the first refusal.
 pub(crate) fn elected(m: &[u8], own: usize) -> Elected
     requires { ⌜ own < length (now m) ⌝ }
@@ -53,7 +82,7 @@ pub(crate) fn elected(m: &[u8], own: usize) -> Elected
     let mut at = 0;
     while at < m.len() {
         if at != own {
-            let heard = table.hear(address(m, at), said(m, at));
+            let heard = heard(table, m, at);
             let change = heard.change;
             match change {
                 Change::Refused(r) => return Elected::Refused(r),
@@ -71,7 +100,7 @@ pub(crate) fn elected_among(m: &[u8]) -> Elected {
     let mut table = Table::empty();
     let mut at = 0;
     while at < m.len() {
-        let heard = table.hear(address(m, at), said(m, at));
+        let heard = heard(table, m, at);
         let change = heard.change;
         match change {
             Change::Refused(r) => return Elected::Refused(r),

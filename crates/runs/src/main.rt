@@ -4,11 +4,13 @@
 // kinds.rt         each kind of message
 // refusals.rt      damaged messages
 // hellos.rt        Hellos, also damaged
+// written.rt       Hellos written, and listed
 // packs.rt         entries packed, and the messages written
 mod hellos;
 mod kinds;
 mod packs;
 mod refusals;
+mod written;
 
 use printing::case_at;
 use printing::front;
@@ -66,5 +68,6 @@ fn main() {
     refusals::run();
     too_long();
     hellos::run();
+    written::run();
     packs::run();
 }
