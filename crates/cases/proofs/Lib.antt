@@ -3,3 +3,4 @@ pub mod Messages
 pub mod Faults
 pub mod Given
 pub mod Calls
+pub mod Hellos

@@ -3,3 +3,4 @@ pub mod Marked
 pub mod Messages
 pub mod Faults
 pub mod Calls
+pub mod Hellos
