@@ -1,6 +1,5 @@
 -- Octets written into a lent buffer, from entries that stand one after another.
 --     copied-next                octets of a number copied past others
---     number-fits                what a total writer writes
 --     put-counted                a number of 16 bits stored octet by octet, and two reserved octets
 --     Rows                       where a loop over entries stands: rows-start, rows-there, rows-next, rows-end, rows-out
 --     sealed                     a message whose checksum was 0, with its checksum
@@ -10,12 +9,10 @@ use native.Mathlib.Nat.{mul-suc, mul-zero}
 use native.Mathlib.Omega.{arith}
 use mathlib.Core.Path.{_≡_, refl, sym, ap, _∙_}
 use mathlib.Core.List.{List, [], _∷_, _++_}
-use borrow.Author.Tests.{le-leb}
 use lib.ListN.{length, take, drop}
 use borrow.Rule.Slice.PartMut.{putMid}
 use Rattle.octets.specs.Octets.{Octets, numberAt, be, put, copied}
-use Rattle.octets.specs.Field.{fitted}
-use Rattle.octets.proofs.Laws.{stores, stores-put, put-nil, put-put, put-next, copied-number, length-be, length-put, take-put, lows-be}
+use Rattle.octets.proofs.Laws.{stores, stores-put, put-nil, put-put, put-next, copied-number, length-put, take-put, lows-be}
 use Rattle.checksum.specs.Sum.{checksum}
 use Rattle.format.specs.Header.{octet0, octet1, message}
 use Rattle.format.specs.Record.{each}
@@ -31,11 +28,6 @@ pub copied-next : (k : ℕ) (s d : List ℕ) (out : ℕ) (e : List ℕ) (at end 
 copied-next k s d out e at end p past {m} {x} octet before copy to from next there room =
     let long : length m ≡ length d = ap length before ∙ length-put d out e (omega arith) in
     put-next d out e (be k (numberAt k s at)) before (ap (putMid p (past - p) m) copy ∙ copied-number k s m at end p past octet to next there (omega arith)) from
-
--- a number that fits is written
-pub number-fits : (k : ℕ) (d : List ℕ) (at n : ℕ) → at + k ≤ length d → fitted d at (be k n) ≡ put d at (be k n)
-unfolding fitted
-number-fits k d at n h = rw (length-be, le-leb (at + k) (length d) h)
 
 -- a 16-bit number and two reserved octets
 pub put-counted : (d : List ℕ) (at n : ℕ) → at + 4 ≤ length d → stores d at 0 ((n / 256 % 256) ∷ (n % 256) ∷ 0 ∷ 0 ∷ []) ≡ put d at (be 2 n ++ (0 ∷ 0 ∷ []))

@@ -8,9 +8,8 @@ use lib.ListN.{length, length-set}
 use denote.Ref.{now}
 use borrow.Author.Needs.{needs}
 use Rattle.octets.specs.Octets.{be}
-use Rattle.octets.proofs.Laws.{stores-put, put-next}
+use Rattle.octets.proofs.Laws.{stores-put, put-next, number-fits}
 use Rattle.packing.proofs.ByKind.{front-long, front-short}
-use Rattle.packing.proofs.Writing.{number-fits}
 use Rattle.packing.proofs.message.begin.Statement.{statement}
 use Rattle.packing.proofs.message.begin.Tie as tie
 

@@ -5,7 +5,7 @@ use mathlib.Core.Path.{ap, _∙_}
 use denote.Ref.{now}
 use lib.ListN.{length-take}
 use Rattle.octets.specs.Octets.{put, be}
-use Rattle.packing.proofs.Writing.{number-fits}
+use Rattle.octets.proofs.Laws.{number-fits}
 use borrow.Author.Needs.{needs}
 use Rattle.packing.proofs.message.seal.Statement.{statement}
 use Rattle.packing.proofs.message.seal.Tie as tie
