@@ -2,7 +2,7 @@
 --     record-long, record-short, record-is     the record of an assert entry, and of a pair, as code writes it
 --     by-sized, record-sized         a record is 6 octets longer than its entry
 --     kind-is, most-is               a form is of its kind, and takes no more than there is
---     front-long, front-short, head-range, limit-head     the beginning of a message, with Zero and Reserved or without
+--     front-long, front-short, head-range, limit-head     what comes before the records, with Zero and Reserved or without
 --     packed-is, hello-never         the five kinds that are packed, and the one that is not
 --     most-one, most-all             how many of some entries a kind that is packed may take
 --     aggregated-is, each-record     the one kind with records of runs; the others have one for each entry

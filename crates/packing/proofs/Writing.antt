@@ -2,7 +2,6 @@
 --     copied-next                octets of a number copied past others
 --     put-counted                a number of 16 bits stored octet by octet, and two reserved octets
 --     Rows                       where a loop over entries stands: rows-start, rows-there, rows-next, rows-end, rows-out
---     sealed                     a message whose checksum was 0, with its checksum
 -- Assumes nothing.
 use Prim.Native.Nat.{ℕ, zero, suc, _+_, _-_, _*_, _/_, _%_, _≤_, _<_}
 use native.Mathlib.Nat.{mul-suc, mul-zero}
@@ -12,12 +11,9 @@ use mathlib.Core.List.{List, [], _∷_, _++_}
 use lib.ListN.{length, take, drop}
 use borrow.Rule.Slice.PartMut.{putMid}
 use Rattle.octets.specs.Octets.{Octets, numberAt, be, put, copied}
-use Rattle.octets.proofs.Laws.{stores, stores-put, put-nil, put-put, put-next, copied-number, length-put, take-put, lows-be}
-use Rattle.checksum.specs.Sum.{checksum}
-use Rattle.format.specs.Header.{octet0, octet1, message}
+use Rattle.octets.proofs.Laws.{stores, stores-put, put-nil, put-put, put-next, copied-number, length-put, lows-be}
 use Rattle.format.specs.Record.{each}
 use Rattle.format.specs.Entry.{Entries, entriesAt}
-use Rattle.format.specs.declared.Kind.{Kind}
 
 -- ---- a number
 
@@ -93,23 +89,3 @@ module _ {E : Entries} {enc : E .Entry → List ℕ} {r : ℕ} {o : List ℕ} {f
       go : (left : ℕ) → i + left ≡ n → out + r * left ≡ start + r * n → out ≡ start + r * n
       go zero e l = omega (arith, mul-zero r)
       go (suc left) e l = absurd (omega arith)
-
--- ---- the checksum
-
--- a message as it stands before its checksum is known
-unfoldable pub unsealed : Kind → List ℕ → List ℕ
-unsealed k rest = octet0 k ∷ octet1 k ∷ 0 ∷ 0 ∷ rest
-
--- the two octets of the field, written into what stands
-placed : (k : Kind) (rest d : List ℕ) (c : ℕ) → put (put d 0 (unsealed k rest)) 2 (be 2 c) ≡ put d 0 ((octet0 k ∷ octet1 k ∷ []) ++ (be 2 c ++ rest))
-unfolding put be unsealed
-placed k rest d c = refl
-
-is-message : (k : Kind) (rest : List ℕ) → (octet0 k ∷ octet1 k ∷ []) ++ (be 2 (checksum (unsealed k rest)) ++ rest) ≡ message k rest
-unfolding message unsealed
-is-message k rest = refl
-
-pub sealed : (k : Kind) (rest d : List ℕ) (n : ℕ) → n ≡ length (unsealed k rest)
-    → put (put d 0 (unsealed k rest)) 2 (be 2 (checksum (take n (put d 0 (unsealed k rest))))) ≡ put d 0 (message k rest)
-sealed k rest d n e =
-    rw (e, take-put d (unsealed k rest)) (placed k rest d (checksum (unsealed k rest)) ∙ ap (put d 0) (is-message k rest))

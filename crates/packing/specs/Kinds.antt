@@ -3,21 +3,20 @@
 --     recordSize, recordBy, recordOctets, recordAt     the record of an entry, where records have one length
 --     isAggregated, recordsFor     the kind whose records have not, and the records of entries
 --     takesOne                     the kind whose message takes no more than one entry
---     frontOf, headSize, beginning what comes before the records: of the body, in octets, and with the checksum as 0
+--     frontOf, headSize            what comes before the records: of the body, and in octets with the header
 --     isPacked, Packs              a kind that is packed: its body is that and the records
 --     fitting                      how many entries fit where records have one length
 -- A hello has no entries, and no call packs one. Assumes nothing: these are definitions.
 use Prim.Native.Nat.{ℕ, _+_, _-_, _/_, min}
 use mathlib.Core.Path.{_≡_}
 use mathlib.Core.Bool.{Bool, true, false}
-use mathlib.Core.List.{List, [], _∷_}
+use mathlib.Core.List.{List, []}
 use lib.ListN.{length}
 use lib.Dec.{eqb, ltb}
 use Rattle.octets.specs.Octets.{_&_}
 use Rattle.records.specs.Joining.{joined}
 use Rattle.format.specs.Family.{Family, familyOf}
 use Rattle.format.specs.Entry.{assertAt, pairAt}
-use Rattle.format.specs.Header.{octet0, octet1}
 use Rattle.format.specs.Record.{each, assertOctets, pairOctets, aggregatedOctets}
 use Rattle.format.specs.Body.{zeros}
 use Rattle.format.specs.Packing.{Form, plain, simple, aggregated, nullRegister, registerStop}
@@ -66,9 +65,6 @@ frontOf = byKind [] [] zeros zeros [] []
 
 abbrev pub headSize : Kind → ℕ
 headSize k = 4 + length (frontOf k)
-
-abbrev pub beginning : Kind → List ℕ
-beginning k = octet0 k ∷ octet1 k ∷ 0 ∷ 0 ∷ frontOf k
 
 -- how many entries a kind takes is the same in both families
 unfoldable pub takesOne : Kind → Bool

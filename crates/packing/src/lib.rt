@@ -6,7 +6,7 @@
 // record.rt      records of one length
 // aggregate.rt   aggregated records, each of one run
 // within.rt      the most aggregated records within a limit
-// message.rt     what begins a message, and its checksum
+// message.rt     how messages are laid out by their kind, and what stands before their records
 // most.rt        the most entries that fit, and their message
 // limit.rt       what a call refuses, in the order 9, 8, 10, 7
 // calls.rt       the five calls

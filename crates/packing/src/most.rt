@@ -1,7 +1,6 @@
 // The most of some entries that fit into one message, and that message.
-use crate::message::begin;
 use crate::message::layout_of;
-use crate::message::seal;
+use crate::message::put_front;
 use crate::record::put_records;
 use crate::within::Fitted;
 use crate::within::put_within;
@@ -31,7 +30,7 @@ fn how_many_fixed(ipv6: bool, kind: Kind, limit: usize, n: usize) -> usize
     smaller(fit, n)
 }
 
-// The records of the most of n entries that fit, past the beginning of their message.
+// The records of the most of n entries that fit, past the head of their message.
 fn put_most(
     ipv6: bool,
     kind: Kind,
@@ -71,9 +70,9 @@ fn write_message(
     ensures size { λ r. ⌜ r .next ≡ length (canonical (formFor ipv6 kind) (entriesAt (entriesFor ipv6 kind) (now (e .entry)) from (r .taken))) ⌝ }
     ensures buffer { λ r. ⌜ now (d .exit) ≡ put (now (d .entry)) 0 (canonical (formFor ipv6 kind) (entriesAt (entriesFor ipv6 kind) (now (e .entry)) from (r .taken))) ⌝ }
 {
-    let head = begin(kind, d);
+    let head = put_front(kind, d);
     let records = put_most(ipv6, kind, e, from, n, limit, d, head);
-    seal(d, records.next);
+    headers::seal(kind, d, records.next);
     records
 }
 

@@ -10,7 +10,7 @@ use Rattle.packing.proofs.most.how_many_fixed.Statement.{statement}
 use Rattle.packing.proofs.most.how_many_fixed.Tie as tie
 
 sub-fit : tie.Need-sub-fit
-sub-fit c = omega (arith, c .before .layout-of .ensures .2, c .before .before .pre .2)
+sub-fit c = omega (arith, c .before .layout-of .ensures .0, c .before .before .pre .2)
 
 add-fit : tie.Need-add-fit
 add-fit c = omega (arith, size-range (c .before .before .before .args .ipv6) (c .before .before .before .args .kind))
@@ -21,7 +21,7 @@ returns c =
     let size = c .before .before in
     let l = size .before .before .layout-of in
     let s = size .before .before .before in
-    rw (most-one (s .args .ipv6) (s .args .n) (s .args .kind) (s .pre .1) (sym (l .ensures .4) ∙ c .before .if1 .taken), ← size .entry-size .ensures, ← l .ensures .2) (c .smaller .ensures)
+    rw (most-one (s .args .ipv6) (s .args .n) (s .args .kind) (s .pre .1) (sym (l .ensures .2) ∙ c .before .if1 .taken), ← size .entry-size .ensures, ← l .ensures .0) (c .smaller .ensures)
 
 returns-2 : tie.Need-returns-2
 unfolding fitting
@@ -29,7 +29,7 @@ returns-2 c =
     let size = c .before .before in
     let l = size .before .before .layout-of in
     let s = size .before .before .before in
-    rw (most-all (s .args .ipv6) (s .args .n) (s .args .kind) (s .pre .0) (sym (l .ensures .4) ∙ c .before .if1 .left), ← size .entry-size .ensures, ← l .ensures .2) (c .smaller2 .ensures)
+    rw (most-all (s .args .ipv6) (s .args .n) (s .args .kind) (s .pre .0) (sym (l .ensures .2) ∙ c .before .if1 .left), ← size .entry-size .ensures, ← l .ensures .0) (c .smaller2 .ensures)
 
 pub how-many-fixed-spec : {M : Type 1} → statement M
 how-many-fixed-spec =

@@ -25,7 +25,7 @@ head : (c : tie.Start) → headSize (c .args .kind) ≤ c .args .limit
 head c = omega (arith, head-range (c .args .kind), limit-head (familyOf (c .args .ipv6)) (c .args .limit) (c .pre .3))
 
 fixed : (c : tie.Else1) → isAggregated (c .before .before .before .before .args .kind) ≡ false
-fixed c = sym (c .before .layout-of .ensures .3) ∙ c .if1 .left
+fixed c = sym (c .before .layout-of .ensures .1) ∙ c .if1 .left
 
 -- how many records of one length there are
 counted : (c : tie.After-how-many-fixed)
@@ -39,14 +39,14 @@ counted c =
 
 put-within-requires : tie.Need-put-within-requires
 put-within-requires c κs =
-    let there = rw (aggregated-is (c .before .before .before .before .before .args .kind) (sym (c .before .before .layout-of .ensures .3) ∙ c .before .if1 .taken)) at (c .before .before .before .before .before .pre .2) in
+    let there = rw (aggregated-is (c .before .before .before .before .before .args .kind) (sym (c .before .before .layout-of .ensures .1) ∙ c .before .if1 .taken)) at (c .before .before .before .before .before .pre .2) in
     (there, omega (arith, head (c .before .before .before .before .before), c .before .before .before .before .before .pre .5), c .before .before .before .before .before .pre .4)
 
 returns : tie.Need-returns
 unfolding recordsFor octetsOf recordsOf allOf
 returns c =
     let a = c .before .before .before .before .before .before .before .before .args in
-    let kind = aggregated-is (a .kind) (sym (c .before .before .before .before .before .layout-of .ensures .3) ∙ c .before .before .before .before .if1 .taken) in
+    let kind = aggregated-is (a .kind) (sym (c .before .before .before .before .before .layout-of .ensures .1) ∙ c .before .before .before .before .if1 .taken) in
     let past : a .out ≡ 8 = rw kind at (c .before .before .before .before .before .before .before .before .pre .5) in
     let wrote = c .before .before .put-within .ensures in
     rw kind (taken-within (familyOf (a .ipv6)) (now (a .e)) (a .from) (a .n) (a .limit) _ (limit-head (familyOf (a .ipv6)) (a .limit) (c .before .before .before .before .before .before .before .before .pre .3)) (rw past at (wrote .0)), wrote .1)
