@@ -1,7 +1,7 @@
 // Attributes merged, and what was written read back. Our own values are an MTU of 1,500, flags S and P, 3 transit and 2 stub links,
 // 100 Gbit/s as 1 times 10 to the 8 and 500 kbit/s as 500. Other contributors have equal speeds in other encodings.
 use crate::output::read;
-use popcount::Merged;
+use format::Writing;
 use popcount::Own;
 use printing::case_at;
 use printing::front;
@@ -26,12 +26,12 @@ fn own() -> Own {
 fn line(e: bool, contributors: &[u8], d: &mut [u8]) {
     let m = popcount::merge(own(), e, contributors, d);
     match m {
-        Merged::Wrote(n) => {
+        Writing::Wrote(n) => {
             number(b"length ", n as u64);
             text(b": ");
             read(d, 0);
         }
-        Merged::Refused(r) => {
+        Writing::Refused(r) => {
             refused(r, b"\n");
         }
     }

@@ -1,17 +1,18 @@
 // Pop-Count attributes.
 use crate::messages::accepted;
 use format::Refusal;
+use format::Writing;
 use popcount::Attribute;
 use popcount::AttributeRead;
-use popcount::Merged;
 use popcount::Order;
 use popcount::Own;
 use popcount::Values;
 ghost use mathlib.Core.Path.{_≡_};
+ghost use Rattle.format.specs.Writing.{lengthBy};
 ghost use Rattle.attributes.specs.Speed.{compared};
 ghost use Rattle.attributes.specs.Attribute.{attribute};
 ghost use Rattle.attributes.specs.Answers.{readBy};
-ghost use Rattle.popcount.specs.Merging.{merging, lengthBy};
+ghost use Rattle.popcount.specs.Merging.{merging};
 ghost use Rattle.pim.specs.Stored.{noAttribute, attributeAnswer, orderNumber, lengthAnswer};
 
 #[repr(C)]
@@ -92,15 +93,15 @@ pub extern "C" fn pim_popcount_compare_speeds(a: u16, b: u16) -> u8
     order_number(popcount::compare_speeds(a, b))
 }
 
-fn merge_answer(m: Merged) -> LengthAnswer
+fn merge_answer(m: Writing) -> LengthAnswer
     ensures { λ r. ⌜ r ≡ lengthAnswer (lengthBy m) ⌝ }
 {
     match m {
-        Merged::Wrote(length) => LengthAnswer {
+        Writing::Wrote(length) => LengthAnswer {
             refusal: accepted(),
             length,
         },
-        Merged::Refused(refusal) => LengthAnswer { refusal, length: 0 },
+        Writing::Refused(refusal) => LengthAnswer { refusal, length: 0 },
     }
 }
 

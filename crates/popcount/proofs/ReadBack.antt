@@ -19,6 +19,7 @@ use Rattle.octets.proofs.Laws.{octets-take, octets-drop, value-lt, take-put, le
 use Rattle.records.specs.Every.{Every}
 use Rattle.format.specs.Outcome.{Outcome, gives, refuses, refuseIf, _>>=_, _>>_}
 use Rattle.format.specs.Reader.{Read, got, bad, continue, _>>=_ as _>>>=_, _>>_ as _>>>_, give, octets, number, must, handUp, inRecord, toEnd, outcome, from}
+use Rattle.format.specs.Writing.{intoBuffer}
 use Rattle.format.proofs.Outcomes.{no-refusal, gives-same}
 use Rattle.format.proofs.Readers.{At, Reads}
 use Rattle.attributes.specs.Speed.{size}
@@ -29,7 +30,7 @@ use Rattle.attributes.specs.declared.read.Attribute.{Attribute}
 use Rattle.attributes.specs.declared.options.Values.{Values}
 use Rattle.attributes.proofs.RoundTrip.{round-trip}
 use Rattle.popcount.specs.Rules.{mergedMtu, mergedFlags, atMost, total, mergedTransit, mergedStub, mergedNode, mergedDiameter, slower, faster, mergedMinimum, mergedMaximum, everyHas, ifGiven, mergedOptions}
-use Rattle.popcount.specs.Merging.{contributors, mergedValues, merged, written, merging}
+use Rattle.popcount.specs.Merging.{contributors, mergedValues, merged, merging}
 use Rattle.popcount.specs.declared.tally.Own.{Own}
 use Rattle.popcount.proofs.Bits.{flags-fit}
 use Rattle.popcount.proofs.Tallies.{present-merged, mergeable-merged}
@@ -230,12 +231,12 @@ ReadsBack own sayE o buffer n = (l : List Attribute) × (contributors o ≡ give
 -- them and ends where the answer says.
 pub read-back : (own : Own) (sayE : Bool) (o d : List ℕ) (n : ℕ) → OwnFits own → Octets o → merging own sayE o d .answer ≡ gives n
     → ReadsBack own sayE o (merging own sayE o d .buffer) n
-unfolding merging written _>>=_ _>>_ refuseIf
+unfolding merging intoBuffer _>>=_ _>>_ refuseIf
 read-back own sayE o d n fit are e = go (contributors o) refl e
   where
     last : (l : List Attribute) → contributors o ≡ gives l → (b : Bool) → ltb (length d) (length (attributeOctets (merged own sayE l))) ≡ b
-        → written d (refuseIf b 8 0 >> gives (attributeOctets (merged own sayE l))) .answer ≡ gives n
-        → ReadsBack own sayE o (written d (refuseIf b 8 0 >> gives (attributeOctets (merged own sayE l))) .buffer) n
+        → intoBuffer d (refuseIf b 8 0 >> gives (attributeOctets (merged own sayE l))) .answer ≡ gives n
+        → ReadsBack own sayE o (intoBuffer d (refuseIf b 8 0 >> gives (attributeOctets (merged own sayE l))) .buffer) n
     last l p true t e = absurd (no-refusal e)
     last l p false t e =
         let x : List ℕ = attributeOctets (merged own sayE l) in
@@ -246,6 +247,6 @@ read-back own sayE o d n fit are e = go (contributors o) refl e
     next : List Attribute → Outcome (List ℕ)
     next l = refuseIf (ltb (length d) (length (attributeOctets (merged own sayE l)))) 8 0 >> gives (attributeOctets (merged own sayE l))
 
-    go : (x : Outcome (List Attribute)) → contributors o ≡ x → written d (x >>= next) .answer ≡ gives n → ReadsBack own sayE o (written d (x >>= next) .buffer) n
+    go : (x : Outcome (List Attribute)) → contributors o ≡ x → intoBuffer d (x >>= next) .answer ≡ gives n → ReadsBack own sayE o (intoBuffer d (x >>= next) .buffer) n
     go (gives l) p e = last l p (ltb (length d) (length (attributeOctets (merged own sayE l)))) refl e
     go (refuses k q) p e = absurd (no-refusal e)

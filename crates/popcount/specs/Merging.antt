@@ -2,25 +2,22 @@
 -- downstream, lent one after another, possibly none."
 --     contributors                 the attributes lent, or the first fault
 --     mergedValues, merged         the merged attribute, from the contributors alone
---     MergingCall, merging         answer, and buffer as the call returns: 8 last, and a refusal leaves it as it was
---     lengthBy                     01's number and values for each case of an answer
+--     merging                      the call: 8 last
 -- Assumes nothing: these are definitions.
 use Prim.Native.Nat.{ℕ}
 use mathlib.Core.Bool.{Bool}
 use mathlib.Core.List.{List}
 use lib.ListN.{length}
 use lib.Dec.{ltb}
-use Rattle.octets.specs.Octets.{put}
-use Rattle.format.specs.Outcome.{Outcome, gives, refuses, refuseIf, _>>=_, _>>_}
+use Rattle.format.specs.Outcome.{Outcome, gives, refuseIf, _>>=_, _>>_}
 use Rattle.format.specs.Reader.{from, toEnd}
+use Rattle.format.specs.Writing.{WritingCall, intoBuffer}
 use Rattle.attributes.specs.Options.{transit, stub, minimumSpeed, maximumSpeed, node, diameter}
 use Rattle.attributes.specs.Attribute.{attribute, attributeOctets}
 use Rattle.attributes.specs.declared.read.Attribute.{Attribute}
 use Rattle.attributes.specs.declared.options.Values.{Values}
 use Rattle.popcount.specs.Rules.{mergedMtu, mergedFlags, mergedTransit, mergedStub, mergedNode, mergedDiameter, mergedMinimum, mergedMaximum, ifGiven, mergedOptions}
 use Rattle.popcount.specs.declared.tally.Own.{Own}
-use Rattle.popcount.specs.declared.merging.Merged.{Merged}
-use Rattle.popcount.specs.declared.merging.Merged.the-variants.{Wrote, Refused}
 
 unfoldable pub contributors : List ℕ → Outcome (List Attribute)
 contributors o = from 0 (toEnd (length o) attribute) o
@@ -41,23 +38,9 @@ mergedValues own l = record {
 unfoldable pub merged : Own → Bool → List Attribute → Attribute
 merged own sayE l = record { e = sayE; mtu = mergedMtu own l; flags = mergedFlags own l; options = mergedOptions l; values = mergedValues own l }
 
-pub record MergingCall : Type 0 where
-  -- the length written
-  pub answer : Outcome ℕ
-  -- the lent buffer as the call returns
-  pub buffer : List ℕ
-
-unfoldable pub written : List ℕ → Outcome (List ℕ) → MergingCall
-written d (gives e) = record { answer = gives (length e); buffer = put d 0 e }
-written d (refuses n p) = record { answer = refuses n p; buffer = d }
-
 -- 8: "else less than is written"
-unfoldable pub merging : Own → Bool → List ℕ → List ℕ → MergingCall
-merging own sayE o d = written d do
+unfoldable pub merging : Own → Bool → List ℕ → List ℕ → WritingCall
+merging own sayE o d = intoBuffer d do
   l ← contributors o
   refuseIf (ltb (length d) (length (attributeOctets (merged own sayE l)))) 8 0
   gives (attributeOctets (merged own sayE l))
-
-unfoldable pub lengthBy : Merged → Outcome ℕ
-lengthBy (Wrote n) = gives n
-lengthBy (Refused r) = refuses (r .number) (r .place)

@@ -11,10 +11,11 @@ use lib.ListN.{length}
 use lib.Bits.{bitAnd, bitOr}
 use lib.Dec.{ltb}
 use Rattle.format.specs.Outcome.{Outcome, gives, refuses, refuseIf, _>>=_, _>>_}
+use Rattle.format.specs.Writing.{WritingCall, intoBuffer}
 use Rattle.attributes.specs.Attribute.{attributeOctets}
 use Rattle.attributes.specs.declared.read.Attribute.{Attribute}
 use Rattle.popcount.specs.Rules.{pFlag, otherFlags, atMost, slower, faster}
-use Rattle.popcount.specs.Merging.{MergingCall, contributors, written}
+use Rattle.popcount.specs.Merging.{contributors}
 use Rattle.popcount.specs.declared.tally.Own.{Own}
 use Rattle.popcount.specs.declared.tally.Tally.{Tally}
 use Rattle.popcount.specs.declared.tally.Tallied.{Tallied}
@@ -78,7 +79,7 @@ tallyOf own o = do
   gives (foldl counted (begun own) l)
 
 -- 8, or the octets written
-unfoldable pub finishing : List ℕ → Attribute → MergingCall
-finishing d a = written d do
+unfoldable pub finishing : List ℕ → Attribute → WritingCall
+finishing d a = intoBuffer d do
   refuseIf (ltb (length d) (length (attributeOctets a))) 8 0
   gives (attributeOctets a)

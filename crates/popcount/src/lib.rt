@@ -24,6 +24,5 @@ pub use attributes::TRANSIT;
 pub use attributes::Values;
 pub use attributes::compare_speeds;
 pub use attributes::read_attribute;
-pub use merging::Merged;
 pub use merging::merge;
 pub use tally::Own;

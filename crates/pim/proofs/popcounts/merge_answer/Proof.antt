@@ -1,7 +1,7 @@
 -- `pim::popcounts::merge_answer` meets its contract, by the case of the answer.
 -- Assumes nothing.
 use borrow.Author.Needs.{needs}
-use Rattle.popcount.specs.Merging.{lengthBy}
+use Rattle.format.specs.Writing.{lengthBy}
 use Rattle.pim.specs.Stored.{lengthAnswer}
 use Rattle.pim.proofs.popcounts.merge_answer.Statement.{statement}
 use Rattle.pim.proofs.popcounts.merge_answer.Tie as tie

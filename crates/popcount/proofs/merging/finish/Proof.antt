@@ -8,9 +8,9 @@ use lib.ListN.{length}
 use borrow.Author.Needs.{needs}
 use borrow.Author.Tests.{lt-ltb, le-ltb}
 use Rattle.format.specs.Outcome.{gives, refuseIf, _>>_}
+use Rattle.format.specs.Writing.{intoBuffer, lengthBy}
 use Rattle.attributes.specs.Attribute.{attributeOctets}
 use Rattle.attributes.proofs.Lengths.{length-attribute}
-use Rattle.popcount.specs.Merging.{written, lengthBy}
 use Rattle.popcount.specs.Tally.{finishing}
 use Rattle.popcount.proofs.merging.finish.Statement.{statement}
 use Rattle.popcount.proofs.merging.finish.Tie as tie
@@ -19,7 +19,7 @@ long : (c : tie.After-sizes-of) → length (attributeOctets (c .before .before .
 long c = length-attribute (c .before .before .args .a) ∙ ap (λ n. 8 + n) (sym (c .sizes-of .ensures .0))
 
 returns : tie.Need-returns
-unfolding finishing written lengthBy refuseIf _>>_
+unfolding finishing intoBuffer lengthBy refuseIf _>>_
 returns c =
     let a = c .before .before .before .args in
     let short = lt-ltb (length (now (a .d))) (length (attributeOctets (a .a))) (omega (arith, c .if1 .taken, long (c .before))) in
@@ -31,7 +31,7 @@ put-attribute-requires c κs =
     (c .before .if1 .left, s .sizes-of .ensures .0, s .sizes-of .ensures .1)
 
 returns-2 : tie.Need-returns-2
-unfolding finishing written lengthBy refuseIf _>>_
+unfolding finishing intoBuffer lengthBy refuseIf _>>_
 returns-2 c =
     let p = c .before .before in
     let s = p .before .before .before in

@@ -4,7 +4,7 @@ use mathlib.Core.Path.{sym, ap, _∙_}
 use native.Mathlib.Omega.{arith}
 use denote.Ref.{now}
 use borrow.Author.Needs.{needs}
-use Rattle.popcount.specs.Merging.{lengthBy}
+use Rattle.format.specs.Writing.{lengthBy}
 use Rattle.popcount.specs.Tally.{tallied, finishing}
 use Rattle.popcount.proofs.Tallies.{CountsFit}
 use Rattle.popcount.proofs.Merges.{merging-refused, merging-gives}
