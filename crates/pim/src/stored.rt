@@ -2,17 +2,18 @@
 use crate::messages::accepted;
 use crate::popcounts::LengthAnswer;
 use format::Refusal;
+use format::Writing;
 use neighbours::Table;
 use sheet::Counts;
 use sheet::Found;
 use sheet::SheetRead;
-use sheet::Stored;
 use sheet::Verdict;
 ghost use mathlib.Core.Path.{_≡_};
 ghost use Rattle.format.specs.Family.{ipv4};
+ghost use Rattle.format.specs.Writing.{lengthBy};
 ghost use Rattle.sections.specs.Layout.{base};
 ghost use Rattle.sections.specs.Checking.{checking, checkedBy};
-ghost use Rattle.sheet.specs.Calls.{reading, writing, foundBy, storedBy};
+ghost use Rattle.sheet.specs.Calls.{reading, writing, foundBy};
 ghost use Rattle.pim.specs.Stored.{noCounts, checkAnswer, sheetAnswer, lengthAnswer};
 
 #[repr(C)]
@@ -90,15 +91,15 @@ pub extern "C" fn pim_read_sheet(o: &[u8], asserts: &mut [u8], pairs: &mut [u8])
     sheet_answer(sheet::read_sheet(o, asserts, pairs))
 }
 
-fn store_answer(s: Stored) -> LengthAnswer
-    ensures { λ r. ⌜ r ≡ lengthAnswer (storedBy s) ⌝ }
+fn store_answer(w: Writing) -> LengthAnswer
+    ensures { λ r. ⌜ r ≡ lengthAnswer (lengthBy w) ⌝ }
 {
-    match s {
-        Stored::Wrote(length) => LengthAnswer {
+    match w {
+        Writing::Wrote(length) => LengthAnswer {
             refusal: accepted(),
             length,
         },
-        Stored::Refused(refusal) => LengthAnswer { refusal, length: 0 },
+        Writing::Refused(refusal) => LengthAnswer { refusal, length: 0 },
     }
 }
 

@@ -5,7 +5,7 @@
 --     listed-fine, listed-bad, seven-not, seven-fine     7: every entry of a list is allowed
 --     due-10, due-14, due-8, due-7, due-7-pairs, due-fine     what writing asks, test by test
 --     due-gives                             an answer of a length says that the octets are those of the sheet
---     stored-answer, stored-buffer, stored-nothing     the answer and the buffer are those of the call
+--     writing-answer, writing-buffer, writing-nothing     the answer and the buffer are those of the call
 --     Filling, filling                      what filling a buffer asks
 --     filled                                a sheet written part by part
 -- Assumes nothing.
@@ -26,7 +26,10 @@ use Rattle.format.specs.Family.{Family, ipv4}
 use Rattle.format.specs.Entry.{Entries, count, whole}
 use Rattle.format.specs.Packing.{firstBad}
 use Rattle.format.specs.Record.{each}
+use Rattle.format.specs.Writing.{intoBuffer, lengthOf, lengthBy}
 use Rattle.format.specs.declared.Refusal.{Refusal}
+use Rattle.format.specs.declared.Writing.{Writing}
+use Rattle.format.specs.declared.Writing.the-variants.{Wrote, Refused}
 use Rattle.format.proofs.Outcomes.{no-refusal}
 use Rattle.format.proofs.Faithful.{whole-long}
 use Rattle.entries.specs.Kinds.{listedBy}
@@ -43,9 +46,7 @@ use Rattle.sections.specs.Sections.{placesOf}
 use Rattle.sections.specs.declared.Counts.{Counts}
 use Rattle.sections.specs.declared.layout.Places.{Places}
 use Rattle.sections.proofs.Header.{end-place}
-use Rattle.sheet.specs.Calls.{contentsOf, counted, atZero, asked, lengthOf, stored, storedBy, writing}
-use Rattle.sheet.specs.declared.Stored.{Stored}
-use Rattle.sheet.specs.declared.Stored.the-variants.{Wrote, Refused}
+use Rattle.sheet.specs.Calls.{contentsOf, counted, atZero, asked, writing}
 use Rattle.sheet.proofs.Rows.{length-rows}
 use Rattle.sheet.proofs.Written.{accepted, asked-is, length-header}
 
@@ -159,35 +160,35 @@ module _ (f : Family) (ea ep : List ℕ) (t : Table) (room : ℕ) where
           unfolding asked lengthOf refuseIf Outcome._>>_
           due-fine e = rw (w, s, long, le-ltb room n enough, fine, e) (ap gives long)
 
-module _ (ea ep : List ℕ) (t : Table) (d : List ℕ) (x : Stored) (said : storedBy x ≡ lengthOf (asked base ipv4 ea ep t (length d))) where
+module _ (ea ep : List ℕ) (t : Table) (d : List ℕ) (x : Writing) (said : lengthBy x ≡ lengthOf (asked base ipv4 ea ep t (length d))) where
   -- what the answer says
   pub due-gives : {n : ℕ} → x ≡ Wrote n → asked base ipv4 ea ep t (length d) ≡ gives (sheetOctets base ipv4 (contentsOf ea ep t))
-  unfolding storedBy lengthOf
-  due-gives {n} q = go (asked base ipv4 ea ep t (length d)) refl (sym said ∙ ap storedBy q)
+  unfolding lengthBy lengthOf
+  due-gives {n} q = go (asked base ipv4 ea ep t (length d)) refl (sym said ∙ ap lengthBy q)
     where
       go : (a : Outcome (List ℕ)) → asked base ipv4 ea ep t (length d) ≡ a → lengthOf a ≡ gives n
           → asked base ipv4 ea ep t (length d) ≡ gives (sheetOctets base ipv4 (contentsOf ea ep t))
       go (gives o) e g = asked-is base ipv4 ea ep t (length d) o e .0
       go (refuses m p) e g = absurd (no-refusal g)
 
-  pub stored-answer : storedBy x ≡ writing base ipv4 ea ep t d .answer
-  unfolding writing stored lengthOf
-  stored-answer = said ∙ go (asked base ipv4 ea ep t (length d))
+  pub writing-answer : lengthBy x ≡ writing base ipv4 ea ep t d .answer
+  unfolding writing intoBuffer lengthOf
+  writing-answer = said ∙ go (asked base ipv4 ea ep t (length d))
     where
-      go : (a : Outcome (List ℕ)) → lengthOf a ≡ stored d a .answer
+      go : (a : Outcome (List ℕ)) → lengthOf a ≡ intoBuffer d a .answer
       go (gives o) = refl
       go (refuses m p) = refl
 
-  pub stored-buffer : {n : ℕ} {d′ : List ℕ} → x ≡ Wrote n
+  pub writing-buffer : {n : ℕ} {d′ : List ℕ} → x ≡ Wrote n
       → d′ ≡ put d 0 (sheetOctets base ipv4 (contentsOf ea ep t)) → d′ ≡ writing base ipv4 ea ep t d .buffer
-  unfolding writing stored
-  stored-buffer q p = p ∙ rw (due-gives q)
+  unfolding writing intoBuffer
+  writing-buffer q p = p ∙ rw (due-gives q)
 
-  pub stored-nothing : {r : Refusal} → x ≡ Refused r → d ≡ writing base ipv4 ea ep t d .buffer
-  unfolding writing stored storedBy lengthOf
-  stored-nothing {r} q = go (asked base ipv4 ea ep t (length d)) (sym said ∙ ap storedBy q)
+  pub writing-nothing : {r : Refusal} → x ≡ Refused r → d ≡ writing base ipv4 ea ep t d .buffer
+  unfolding writing intoBuffer lengthBy lengthOf
+  writing-nothing {r} q = go (asked base ipv4 ea ep t (length d)) (sym said ∙ ap lengthBy q)
     where
-      go : (a : Outcome (List ℕ)) → lengthOf a ≡ refuses (r .number) (r .place) → d ≡ stored d a .buffer
+      go : (a : Outcome (List ℕ)) → lengthOf a ≡ refuses (r .number) (r .place) → d ≡ intoBuffer d a .buffer
       go (gives o) g = absurd (no-refusal (sym g))
       go (refuses m p) g = refl
 

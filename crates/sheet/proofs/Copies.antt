@@ -1,19 +1,18 @@
 -- Octets copied and numbers stored, as the code does it.
 --     Copying                           where a loop that copies stands: copying-start, copying-there, copying-next, copying-end
---     written-fits, written-next        a number written where it fits, and what is written past it
+--     written-next                      a number written where it fits, and what is written past it
 --     Rowing                            where a loop that writes rows stands: rowing-start, rowing-there, rowing-next, rowing-end
 -- Assumes nothing.
 use Prim.Native.Nat.{ℕ, suc, _+_, _*_, _≤_, _<_}
 use native.Mathlib.Nat.{mul-suc, mul-le-mul-left}
 use native.Mathlib.Omega.{arith}
 use mathlib.Core.Path.{_≡_, refl, sym, ap, _∙_}
-use borrow.Author.Tests.{le-leb}
 use mathlib.Core.List.{List, [], _∷_, _++_, append-nil}
 use lib.ListN.{length, getD, set, take, drop, length-drop}
 use lib.Seq.{take-add, take-all, take-suc, drop-drop, drop-cons, getD-take, length-take-le}
 use Rattle.octets.specs.Octets.{put, be}
 use Rattle.octets.specs.Field.{fitted}
-use Rattle.octets.proofs.Laws.{stores-put, put-nil, put-next, put-number-next, length-put, length-be, length-fitted}
+use Rattle.octets.proofs.Laws.{stores-put, put-nil, put-next, put-number-next, length-put, number-fits, length-fitted}
 use Rattle.format.specs.Family.{Family}
 use Rattle.format.specs.Record.{each}
 use Rattle.format.proofs.Lengths.{each-append}
@@ -65,17 +64,12 @@ module _ {s : List ℕ} {from n : ℕ} {d₀ : List ℕ} {at : ℕ} {d : List �
 
 -- ---- numbers written
 
--- a number written where it fits
-pub written-fits : (k : ℕ) (d : List ℕ) (at n : ℕ) {d′ : List ℕ} → d′ ≡ fitted d at (be k n) → at + k ≤ length d → d′ ≡ put d at (be k n)
-unfolding fitted
-written-fits k d at n p h = p ∙ (rw (le-leb (at + length (be k n)) (length d) (rw length-be h)))
-
 -- with m octets more to come
 pub written-next : (k : ℕ) (d : List ℕ) (at n : ℕ) (f : List ℕ) {d′ d″ : List ℕ} {at′ : ℕ} (m : ℕ) → d′ ≡ fitted d at (be k n)
     → at + (k + m) ≤ length d → at′ ≡ at + k → (at′ + m ≤ length d′ → d″ ≡ put d′ at′ f) → d″ ≡ put d at (be k n ++ f)
 written-next k d at n f {d′} m p h r q =
     let same : length d′ ≡ length d = ap length p ∙ length-fitted d at (be k n) in
-    put-number-next k d at n f (written-fits k d at n p (omega arith)) (q (omega arith)) r
+    put-number-next k d at n f (p ∙ number-fits k d at n (omega arith)) (q (omega arith)) r
 
 -- ---- rows one after another
 

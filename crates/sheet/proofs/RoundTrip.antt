@@ -25,6 +25,7 @@ use Rattle.format.specs.Family.{Family, ipv4, mayBeSource}
 use Rattle.format.specs.Entry.{count, whole, assertAt, pairAt, allowedAssert, allowedPair}
 use Rattle.format.specs.Packing.{firstBadAt, firstBad}
 use Rattle.format.specs.Record.{each}
+use Rattle.format.specs.Writing.{WritingCall, intoBuffer}
 use Rattle.format.proofs.Outcomes.{no-refusal, gives-same, bind-gives, then-gives}
 use Rattle.format.proofs.Lengths.{AreOctets, number, no-octets, _then_}
 use Rattle.neighbours.specs.Rows.{most, noRow, isZero, allZero, allowed, has, sheetRows, valid, tableOf}
@@ -35,7 +36,7 @@ use Rattle.sections.specs.Contents.{Contents, rowOctets, countsOf, contentsAt, 
 use Rattle.sections.specs.Checking.{countsAllowed, checking}
 use Rattle.sections.specs.declared.Counts.{Counts}
 use Rattle.sections.proofs.Header.{counts-within}
-use Rattle.sheet.specs.Calls.{contentsOf, atZero, asked, roomFor, delivered, reading, stored, WritingCall, writing}
+use Rattle.sheet.specs.Calls.{contentsOf, atZero, asked, roomFor, delivered, reading, writing}
 use Rattle.sheet.specs.Valid.{Roomy, Held}
 use Rattle.sheet.specs.RoundTrip.{ReadsBack, again, WritesBack, RoundTrip}
 use Rattle.sheet.proofs.Written.{Accepted, accepted, asked-is, written-checks, written-reads-back, written-short, sheets-differ}
@@ -56,10 +57,10 @@ record WrittenBy (L : Layout) (f : Family) (ea ep : List ℕ) (t : Table) (d : L
 
 written-by : (L : Layout) (f : Family) (ea ep : List ℕ) (t : Table) (d : List ℕ) (n : ℕ) → writing L f ea ep t d .answer ≡ gives n
     → WrittenBy L f ea ep t d n
-unfolding writing stored
+unfolding writing intoBuffer
 written-by L f ea ep t d n e = go (asked L f ea ep t (length d)) refl e
   where
-    go : (x : Outcome (List ℕ)) → asked L f ea ep t (length d) ≡ x → stored d x .answer ≡ gives n → WrittenBy L f ea ep t d n
+    go : (x : Outcome (List ℕ)) → asked L f ea ep t (length d) ≡ x → intoBuffer d x .answer ≡ gives n → WrittenBy L f ea ep t d n
     go (gives o) q g =
         let is : o ≡ sheetOctets L f (contentsOf ea ep t) = gives-same (sym q ∙ asked-is L f ea ep t (length d) o q .0) in
         let long : length o ≡ n = gives-same g in
@@ -102,7 +103,7 @@ module _ (L : Layout) (f : Family) (some : 0 < f .width) (few : L .rowLimit ≤ 
       rw (read-by L f o da dp c e .1) (λ i. writing L f (a i) (p i) (tableOf (these .rows)) d)
 
   writes-back : WritesBack L f o da dp c
-  unfolding writing stored
+  unfolding writing intoBuffer
   writes-back = record {
     writes = λ d h. again-is d ∙ rw (writes-again L f some few o octets c checks (length d) h) (λ i. record { answer = gives (length o); buffer = put-start d o i });
     less = λ d h. again-is d ∙ rw (short-again L f some few o octets c checks (length d) h);
@@ -180,7 +181,7 @@ some-sheet =
 
 -- buffers of 48 octets or more
 pub some-written : (d : List ℕ) → 48 ≤ length d → some-writing d .answer ≡ gives 48
-unfolding writing stored asked whole count countsAllowed countsOf contentsOf sheetOctets headerOctets pairsFrom rowsFrom rowOctets each be valid sheetRows allowed has allZero isZero noRow tableOf firstBadAt firstBad assertAt pairAt numberAt value allowedAssert allowedPair mayBeSource atZero refuseIf Outcome._>>_
+unfolding writing intoBuffer asked whole count countsAllowed countsOf contentsOf sheetOctets headerOctets pairsFrom rowsFrom rowOctets each be valid sheetRows allowed has allZero isZero noRow tableOf firstBadAt firstBad assertAt pairAt numberAt value allowedAssert allowedPair mayBeSource atZero refuseIf Outcome._>>_
 some-written d room = rw (le-ltb (length d) 48 room)
 
 module _ (d : List ℕ) (room : 48 ≤ length d) where

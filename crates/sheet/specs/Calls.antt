@@ -3,9 +3,7 @@
 --     roomFor                              whether lent room is enough for both lists
 --     foundBy                              01's number and values for each case of a reading's answer
 --     atZero, contentsOf, counted, asked   what writing refuses: "by 10, 14 .. , 8, 7, at place 0"
---     WritingCall, stored, writing         answer, and buffer as the call returns
---     lengthOf                             what writing asks, with the octets left out
---     storedBy                             01's number and values for each case of a writing's answer
+--     writing                              the call
 -- Checking is in `sections`. Assumes nothing: these are definitions.
 use Prim.Native.Nat.{ℕ}
 use mathlib.Core.Bool.{not, _&&_, _||_}
@@ -17,6 +15,7 @@ use Rattle.format.specs.Outcome.{Outcome, gives, refuses, refuseIf, _>>=_, _>>_
 use Rattle.format.specs.Family.{Family}
 use Rattle.format.specs.Entry.{count, whole}
 use Rattle.format.specs.Packing.{firstBad}
+use Rattle.format.specs.Writing.{WritingCall, intoBuffer}
 use Rattle.neighbours.specs.Rows.{used, valid, tableOf}
 use Rattle.neighbours.specs.declared.Table.{Table}
 use Rattle.sections.specs.Layout.{Layout, assertsIn, pairsIn}
@@ -25,8 +24,6 @@ use Rattle.sections.specs.Checking.{countsAllowed, checking}
 use Rattle.sections.specs.declared.Counts.{Counts}
 use Rattle.sheet.specs.declared.Found.{Found}
 use Rattle.sheet.specs.declared.Found.the-variants.{Entries as Copied, Refused as NotFound}
-use Rattle.sheet.specs.declared.Stored.{Stored}
-use Rattle.sheet.specs.declared.Stored.the-variants.{Wrote, Refused as NotStored}
 
 -- ---- reading
 
@@ -80,24 +77,5 @@ asked L f ea ep t room = do
   atZero (firstBad (pairsIn f) ep 0)
   gives (sheetOctets L f (contentsOf ea ep t))
 
-pub record WritingCall : Type 0 where
-  -- the length of the sheet
-  pub answer : Outcome ℕ
-  -- the lent buffer as the call returns
-  pub buffer : List ℕ
-
-unfoldable pub stored : List ℕ → Outcome (List ℕ) → WritingCall
-stored d (gives e) = record { answer = gives (length e); buffer = put d 0 e }
-stored d (refuses n p) = record { answer = refuses n p; buffer = d }
-
 unfoldable pub writing : Layout → Family → List ℕ → List ℕ → Table → List ℕ → WritingCall
-writing L f ea ep t d = stored d (asked L f ea ep t (length d))
-
--- what writing asks, with the octets left out
-unfoldable pub lengthOf : Outcome (List ℕ) → Outcome ℕ
-lengthOf (gives e) = gives (length e)
-lengthOf (refuses n p) = refuses n p
-
-unfoldable pub storedBy : Stored → Outcome ℕ
-storedBy (Wrote n) = gives n
-storedBy (NotStored r) = refuses (r .number) (r .place)
+writing L f ea ep t d = intoBuffer d (asked L f ea ep t (length d))

@@ -11,13 +11,14 @@ use lib.ListN.{length, take, drop}
 use Rattle.octets.specs.Octets.{Octets}
 use Rattle.format.specs.Outcome.{gives, refuses}
 use Rattle.format.specs.Family.{Family}
+use Rattle.format.specs.Writing.{WritingCall}
 use Rattle.neighbours.specs.Rows.{tableOf}
 use Rattle.neighbours.specs.declared.Table.{Table}
 use Rattle.sections.specs.Layout.{Layout, assertsIn, pairsIn}
 use Rattle.sections.specs.Contents.{countsOf}
 use Rattle.sections.specs.Checking.{checking}
 use Rattle.sections.specs.declared.Counts.{Counts}
-use Rattle.sheet.specs.Calls.{reading, contentsOf, WritingCall, writing}
+use Rattle.sheet.specs.Calls.{reading, contentsOf, writing}
 use Rattle.sheet.specs.Valid.{Held}
 
 pub record ReadsBack (L : Layout) (f : Family) (ea ep : List ℕ) (t : Table) (o : List ℕ) : Type 0 where

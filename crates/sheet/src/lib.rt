@@ -28,10 +28,3 @@ pub struct SheetRead {
     pub table: Table,
     pub found: Found,
 }
-
-// What writing a sheet did.
-pub enum Stored {
-    // How many octets were written.
-    Wrote(usize),
-    Refused(Refusal),
-}

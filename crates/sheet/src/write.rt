@@ -1,5 +1,4 @@
 // Writing a sheet: what is asked first, in the order 10, 14, 8, 7, then the octets.
-use crate::Stored;
 use crate::copy::copy;
 use crate::put::put_header;
 use crate::put::put_rows;
@@ -8,6 +7,7 @@ use entries::entry_size;
 use entries::first_bad;
 use format::Kind;
 use format::Refusal;
+use format::Writing;
 use neighbours::Table;
 use neighbours::is_valid;
 use sections::Counts;
@@ -22,18 +22,19 @@ ghost use Rattle.format.specs.Outcome.{gives, refuses};
 ghost use Rattle.format.specs.Family.{ipv4, familyOf};
 ghost use Rattle.format.specs.Entry.{whole};
 ghost use Rattle.format.specs.Packing.{firstBad};
+ghost use Rattle.format.specs.Writing.{lengthOf, lengthBy};
 ghost use Rattle.entries.specs.Kinds.{entriesFor};
 ghost use Rattle.neighbours.specs.Rows.{valid};
 ghost use Rattle.sections.specs.Layout.{base, assertsIn, pairsIn};
 ghost use Rattle.sections.specs.Contents.{sheetOctets};
 ghost use Rattle.sections.specs.Checking.{countsAllowed};
-ghost use Rattle.sheet.specs.Calls.{contentsOf, counted, atZero, asked, lengthOf, writing, storedBy};
+ghost use Rattle.sheet.specs.Calls.{contentsOf, counted, atZero, asked, writing};
 
 // Refused, at place 0.
-fn refused(number: u8) -> Stored
-    ensures { λ r. ⌜ storedBy r ≡ refuses number 0 ⌝ }
+fn refused(number: u8) -> Writing
+    ensures { λ r. ⌜ lengthBy r ≡ refuses number 0 ⌝ }
 {
-    Stored::Refused(Refusal { number, place: 0 })
+    Writing::Refused(Refusal { number, place: 0 })
 }
 
 // Whether both lists are whole.
@@ -78,8 +79,8 @@ fn all_allowed(ipv6: bool, kind: Kind, e: &[u8]) -> bool
 }
 
 // The length of the sheet that is due, or a refusal.
-fn due(ipv6: bool, asserts: &[u8], pairs: &[u8], table: Table, room: usize) -> Stored
-    ensures { λ r. ⌜ storedBy r ≡ lengthOf (asked base (familyOf ipv6) (now (asserts .entry)) (now (pairs .entry)) table room) ⌝ }
+fn due(ipv6: bool, asserts: &[u8], pairs: &[u8], table: Table, room: usize) -> Writing
+    ensures { λ r. ⌜ lengthBy r ≡ lengthOf (asked base (familyOf ipv6) (now (asserts .entry)) (now (pairs .entry)) table room) ⌝ }
 {
     if !are_whole(ipv6, asserts, pairs) {
         return refused(10);
@@ -98,7 +99,7 @@ fn due(ipv6: bool, asserts: &[u8], pairs: &[u8], table: Table, room: usize) -> S
     if !all_allowed(ipv6, Kind::RegisterStop, pairs) {
         return refused(7);
     }
-    Stored::Wrote(n)
+    Writing::Wrote(n)
 }
 
 // The octets of a sheet that is due.
@@ -115,12 +116,12 @@ fn fill(asserts: &[u8], pairs: &[u8], table: Table, d: &mut [u8])
 }
 
 // Writes the one sheet of two entry lists and a table.
-pub fn write_sheet(asserts: &[u8], pairs: &[u8], table: Table, d: &mut [u8]) -> Stored
-    ensures answer { λ r. ⌜ storedBy r ≡ writing base ipv4 (now (asserts .entry)) (now (pairs .entry)) table (now (d .entry)) .answer ⌝ }
+pub fn write_sheet(asserts: &[u8], pairs: &[u8], table: Table, d: &mut [u8]) -> Writing
+    ensures answer { λ r. ⌜ lengthBy r ≡ writing base ipv4 (now (asserts .entry)) (now (pairs .entry)) table (now (d .entry)) .answer ⌝ }
     ensures buffer { λ _. ⌜ now (d .exit) ≡ writing base ipv4 (now (asserts .entry)) (now (pairs .entry)) table (now (d .entry)) .buffer ⌝ }
 {
     let answer = due(false, asserts, pairs, table, d.len());
-    let Stored::Wrote(_) = answer else {
+    let Writing::Wrote(_) = answer else {
         return answer;
     };
     fill(asserts, pairs, table, d);

@@ -1,10 +1,10 @@
 // What the calls of a sheet answered, a line each.
+use format::Writing;
 use printing::named;
 use printing::number;
 use printing::refused;
 use sheet::Counts;
 use sheet::Found;
-use sheet::Stored;
 use sheet::Verdict;
 
 fn counts(c: Counts) -> bool {
@@ -27,9 +27,9 @@ pub(crate) fn found(f: Found) -> bool {
     }
 }
 
-pub(crate) fn stored(s: Stored) -> bool {
-    match s {
-        Stored::Wrote(n) => named(b"octets ", n as u64),
-        Stored::Refused(r) => refused(r, b"\n"),
+pub(crate) fn stored(w: Writing) -> bool {
+    match w {
+        Writing::Wrote(n) => named(b"octets ", n as u64),
+        Writing::Refused(r) => refused(r, b"\n"),
     }
 }

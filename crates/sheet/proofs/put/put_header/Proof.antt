@@ -1,13 +1,14 @@
 -- `sheet::put::put_header` meets its contract: six numbers, each written past the one before.
 -- Assumes nothing.
 use Prim.Native.Nat.{_+_, _*_, _≤_}
-use mathlib.Core.Path.{_≡_, refl}
+use mathlib.Core.Path.{_≡_, refl, _∙_}
 use denote.Ref.{now}
+use Rattle.octets.proofs.Laws.{number-fits}
 use Rattle.format.specs.Family.{ipv4}
 use Rattle.neighbours.specs.Rows.{most}
 use Rattle.sections.specs.Layout.{base, headerOctets}
 use Rattle.sections.proofs.Header.{counts-within, pairs-place, rows-place, base-places}
-use Rattle.sheet.proofs.Copies.{written-fits, written-next}
+use Rattle.sheet.proofs.Copies.{written-next}
 use borrow.Author.Needs.{needs}
 use Rattle.sheet.proofs.put.put_header.Statement.{statement}
 use Rattle.sheet.proofs.put.put_header.Tie as tie
@@ -62,7 +63,7 @@ returns c =
     written-next 2 _ 4 _ _ 6 (c .before .before .before .before .before .before .before .before .before .before .before .before .before .before .before .before .before .write163 .ensures .1) h refl (λ h.
     written-next 2 _ 6 _ _ 4 (c .before .before .before .before .before .before .before .before .before .before .before .before .write164 .ensures .1) h refl (λ h.
     written-next 2 _ 8 _ _ 2 (c .before .before .before .before .before .before .before .write165 .ensures .1) h refl (λ h.
-    written-fits 2 _ 10 _ (c .before .before .write166 .ensures .1) h))))))
+    c .before .before .write166 .ensures .1 ∙ number-fits 2 _ 10 _ h))))))
 
 pub put-header-spec : {M : Type 1} → statement M
 put-header-spec = tie.close (tie.spec (λ c κs. search needs) cast-write16 (λ c κs. search needs) (λ c. search needs) (λ c κs. search needs) cast-write16-3 (λ c κs. search needs) cast-write16-4 (λ c κs. search needs) cast-write16-5 (λ c κs. search needs) cast-write16-6 (λ c κs. search needs) (λ c. search needs) returns)

@@ -10,13 +10,14 @@ use lib.ListN.{length}
 use denote.Ref.{now}
 use Rattle.format.specs.Family.{Family, familyOf}
 use Rattle.format.specs.Entry.{whole}
+use Rattle.format.specs.Writing.{lengthBy}
 use Rattle.neighbours.specs.Rows.{most, valid}
 use Rattle.neighbours.specs.declared.Table.{Table}
 use Rattle.neighbours.proofs.Rows.{all-rows}
 use Rattle.sections.specs.Layout.{base, assertsIn, pairsIn}
 use Rattle.sections.specs.Contents.{countsOf, sheetOctets}
 use Rattle.sections.specs.Checking.{countsAllowed}
-use Rattle.sheet.specs.Calls.{storedBy, contentsOf}
+use Rattle.sheet.specs.Calls.{contentsOf}
 use Rattle.sheet.proofs.Asks.{storable-is, due-long, seven-not, seven-fine, due-10, due-14, due-8, due-7, due-7-pairs, due-fine}
 use Rattle.sheet.proofs.write.due.Statement.{statement}
 use Rattle.sheet.proofs.write.due.Tie as tie
@@ -101,7 +102,7 @@ returns-5 c =
     (seven-fine (a .all-allowed .result) (a .all-allowed .ensures) (c .before .before .before .if4 .left)) (seven-not (z .result) (z .ensures) (c .before .if5 .taken)))
 
 returns-6 : tie.Need-returns-6
-unfolding storedBy
+unfolding lengthBy
 returns-6 c =
     let a = c .before .before .before in
     let e = a .before in

@@ -1,7 +1,7 @@
 -- `sheet::write::write_sheet` meets its contract: what `due` answered says which way the call goes.
 -- Assumes nothing.
 use denote.Ref.{now}
-use Rattle.sheet.proofs.Asks.{due-gives, stored-answer, stored-buffer, stored-nothing}
+use Rattle.sheet.proofs.Asks.{due-gives, writing-answer, writing-buffer, writing-nothing}
 use borrow.Author.Needs.{needs}
 use Rattle.sheet.proofs.write.write_sheet.Statement.{statement}
 use Rattle.sheet.proofs.write.write_sheet.Tie as tie
@@ -11,8 +11,8 @@ returns c =
     let s = c .before .before .before .before .before .before in
     let a = s .args in
     let x = c .before .before .due in (
-      stored-answer (now (a .asserts)) (now (a .pairs)) (a .table) (now (a .d)) (x .result) (x .ensures),
-      stored-nothing (now (a .asserts)) (now (a .pairs)) (a .table) (now (a .d)) (x .result) (x .ensures) (c .enum-told2 .given .1),
+      writing-answer (now (a .asserts)) (now (a .pairs)) (a .table) (now (a .d)) (x .result) (x .ensures),
+      writing-nothing (now (a .asserts)) (now (a .pairs)) (a .table) (now (a .d)) (x .result) (x .ensures) (c .enum-told2 .given .1),
     )
 
 fill-requires : tie.Need-fill-requires
@@ -28,8 +28,8 @@ returns-2 c =
     let a = s .args in
     let x = c .before .before .before .before .before .before .due in
     let y = c .before .before .fill in (
-      stored-answer (now (a .asserts)) (now (a .pairs)) (a .table) (now (a .d)) (x .result) (x .ensures),
-      stored-buffer (now (a .asserts)) (now (a .pairs)) (a .table) (now (a .d)) (x .result) (x .ensures) (c .before .before .before .before .enum-told .given .1) (y .ensures),
+      writing-answer (now (a .asserts)) (now (a .pairs)) (a .table) (now (a .d)) (x .result) (x .ensures),
+      writing-buffer (now (a .asserts)) (now (a .pairs)) (a .table) (now (a .d)) (x .result) (x .ensures) (c .before .before .before .before .enum-told .given .1) (y .ensures),
     )
 
 pub write-sheet-spec : {M : Type 1} → statement M
