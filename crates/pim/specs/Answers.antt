@@ -1,6 +1,7 @@
 -- What the library's functions hand to C: each answer is one record, made of what the call comes to. Its `refusal` has 01's number and
 -- the place, and number 0 where nothing is refused; the other numbers are 0 where the call refuses.
 --     accepted, refusal               not refused; refused
+--     lengthAnswer                    how many octets were written
 --     headerAnswer, readAnswer, helloAnswer     reading
 --     recordOf, recordAnswer          a record read singly, of a kind that a number names
 --     packAnswer, choiceAnswer        packing
@@ -26,6 +27,7 @@ use Rattle.neighbours.specs.Hearing.{Done, replaced, appended, forgotten}
 use Rattle.neighbours.specs.declared.Table.{Table}
 use Rattle.counters.specs.declared.Direction.{Direction}
 use Rattle.counters.specs.declared.Direction.the-variants.{Sent, Received}
+use Rattle.pim.specs.declared.answers.LengthAnswer.{LengthAnswer}
 use Rattle.pim.specs.declared.messages.HeaderAnswer.{HeaderAnswer}
 use Rattle.pim.specs.declared.messages.RecordAnswer.{RecordAnswer}
 use Rattle.pim.specs.declared.messages.ReadAnswer.{ReadAnswer}
@@ -41,6 +43,10 @@ accepted = record { number = 0; place = 0 }
 
 abbrev pub refusal : ℕ → ℕ → Refusal
 refusal n p = record { number = n; place = p }
+
+unfoldable pub lengthAnswer : Outcome ℕ → LengthAnswer
+lengthAnswer (gives l) = record { refusal = accepted; length = l }
+lengthAnswer (refuses n p) = record { refusal = refusal n p; length = 0 }
 
 -- ---- reading
 

@@ -1,7 +1,6 @@
 -- What the functions on Pop-Count attributes and on sheets hand to C, as in Answers.antt.
 --     noAttribute, attributeAnswer     an attribute read; all 0 where there is none
 --     orderNumber                      0 less, 1 equal, 2 greater
---     lengthAnswer                     how many octets were written
 --     noCounts, checkAnswer, sheetAnswer     a sheet checked, and read
 -- Assumes nothing: these are definitions.
 use Prim.Native.Nat.{ℕ}
@@ -15,7 +14,6 @@ use Rattle.neighbours.specs.declared.Table.{Table}
 use Rattle.sections.specs.declared.Counts.{Counts}
 use Rattle.pim.specs.Answers.{accepted, refusal}
 use Rattle.pim.specs.declared.popcounts.AttributeAnswer.{AttributeAnswer}
-use Rattle.pim.specs.declared.popcounts.LengthAnswer.{LengthAnswer}
 use Rattle.pim.specs.declared.stored.CheckAnswer.{CheckAnswer}
 use Rattle.pim.specs.declared.stored.SheetAnswer.{SheetAnswer}
 
@@ -36,10 +34,6 @@ unfoldable pub orderNumber : Order → ℕ
 orderNumber Less = 0
 orderNumber Equal = 1
 orderNumber Greater = 2
-
-unfoldable pub lengthAnswer : Outcome ℕ → LengthAnswer
-lengthAnswer (gives l) = record { refusal = accepted; length = l }
-lengthAnswer (refuses n p) = record { refusal = refusal n p; length = 0 }
 
 abbrev pub noCounts : Counts
 noCounts = record { asserts = 0; pairs = 0; neighbours = 0 }

@@ -2,6 +2,7 @@
 // of which counters and a list of rows are lent and the others passed. There is no logic here: each function hands its arguments on and
 // puts the answer into a record that C can hold. include/pim.h describes each of them.
 //
+// answers.rt      what several calls answer with
 // messages.rt     header, body, a record read singly, the reading calls
 // packs.rt        the packing calls
 // tables.rt       the neighbour table and the election
@@ -9,6 +10,7 @@
 // popcounts.rt    Pop-Count attributes
 // stored.rt       the stored sheet
 // sums.rt         the checksum
+mod answers;
 mod messages;
 mod packs;
 mod popcounts;

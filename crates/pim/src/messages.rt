@@ -1,4 +1,5 @@
 // Reading messages.
+use crate::answers::accepted;
 use format::Named;
 use format::Record;
 use format::Refusal;
@@ -20,7 +21,7 @@ ghost use Rattle.fields.specs.Answers.{single};
 ghost use Rattle.reading.specs.Calls.{answered};
 ghost use Rattle.hello.specs.Hello.{readHello};
 ghost use Rattle.hello.specs.Answers.{told, unannounced};
-ghost use Rattle.pim.specs.Answers.{accepted, headerAnswer, recordOf, recordAnswer, readAnswer, helloAnswer};
+ghost use Rattle.pim.specs.Answers.{headerAnswer, recordOf, recordAnswer, readAnswer, helloAnswer};
 
 #[repr(C)]
 pub struct HeaderAnswer {
@@ -50,16 +51,6 @@ pub struct ReadAnswer {
 pub struct HelloAnswer {
     pub refusal: Refusal,
     pub hello: Hello,
-}
-
-// Nothing is refused.
-pub(crate) fn accepted() -> Refusal
-    ensures { λ r. ⌜ r ≡ accepted ⌝ }
-{
-    Refusal {
-        number: 0,
-        place: 0,
-    }
 }
 
 fn header_answer(h: Headed) -> HeaderAnswer

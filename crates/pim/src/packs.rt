@@ -1,5 +1,5 @@
 // Packing messages.
-use crate::messages::accepted;
+use crate::answers::accepted;
 use format::Refusal;
 use packing::Choice;
 use packing::Packing;

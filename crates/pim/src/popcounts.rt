@@ -1,31 +1,26 @@
 // Pop-Count attributes.
-use crate::messages::accepted;
+use crate::answers::LengthAnswer;
+use crate::answers::accepted;
+use crate::answers::length_answer;
 use format::Refusal;
-use format::Writing;
 use popcount::Attribute;
 use popcount::AttributeRead;
 use popcount::Order;
 use popcount::Own;
 use popcount::Values;
 ghost use mathlib.Core.Path.{_≡_};
-ghost use Rattle.format.specs.Writing.{lengthBy};
 ghost use Rattle.attributes.specs.Speed.{compared};
 ghost use Rattle.attributes.specs.Attribute.{attribute};
 ghost use Rattle.attributes.specs.Answers.{readBy};
 ghost use Rattle.popcount.specs.Merging.{merging};
-ghost use Rattle.pim.specs.Stored.{noAttribute, attributeAnswer, orderNumber, lengthAnswer};
+ghost use Rattle.pim.specs.Answers.{lengthAnswer};
+ghost use Rattle.pim.specs.Stored.{noAttribute, attributeAnswer, orderNumber};
 
 #[repr(C)]
 pub struct AttributeAnswer {
     pub refusal: Refusal,
     pub next: usize,
     pub attribute: Attribute,
-}
-
-#[repr(C)]
-pub struct LengthAnswer {
-    pub refusal: Refusal,
-    pub length: usize,
 }
 
 // What stands for an attribute where there is none.
@@ -93,18 +88,6 @@ pub extern "C" fn pim_popcount_compare_speeds(a: u16, b: u16) -> u8
     order_number(popcount::compare_speeds(a, b))
 }
 
-fn merge_answer(m: Writing) -> LengthAnswer
-    ensures { λ r. ⌜ r ≡ lengthAnswer (lengthBy m) ⌝ }
-{
-    match m {
-        Writing::Wrote(length) => LengthAnswer {
-            refusal: accepted(),
-            length,
-        },
-        Writing::Refused(refusal) => LengthAnswer { refusal, length: 0 },
-    }
-}
-
 // The attributes from downstream and our own values, merged.
 #[no_mangle]
 pub extern "C" fn pim_popcount_merge(
@@ -116,5 +99,5 @@ pub extern "C" fn pim_popcount_merge(
     ensures answer { λ r. ⌜ r ≡ lengthAnswer (merging own e (now (contributors .entry)) (now (d .entry)) .answer) ⌝ }
     ensures buffer { λ _. ⌜ now (d .exit) ≡ merging own e (now (contributors .entry)) (now (d .entry)) .buffer ⌝ }
 {
-    merge_answer(popcount::merge(own, e, contributors, d))
+    length_answer(popcount::merge(own, e, contributors, d))
 }

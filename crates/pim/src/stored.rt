@@ -1,8 +1,8 @@
 // The stored sheet.
-use crate::messages::accepted;
-use crate::popcounts::LengthAnswer;
+use crate::answers::LengthAnswer;
+use crate::answers::accepted;
+use crate::answers::length_answer;
 use format::Refusal;
-use format::Writing;
 use neighbours::Table;
 use sheet::Counts;
 use sheet::Found;
@@ -10,11 +10,11 @@ use sheet::SheetRead;
 use sheet::Verdict;
 ghost use mathlib.Core.Path.{_≡_};
 ghost use Rattle.format.specs.Family.{ipv4};
-ghost use Rattle.format.specs.Writing.{lengthBy};
 ghost use Rattle.sections.specs.Layout.{base};
 ghost use Rattle.sections.specs.Checking.{checking, checkedBy};
 ghost use Rattle.sheet.specs.Calls.{reading, writing, foundBy};
-ghost use Rattle.pim.specs.Stored.{noCounts, checkAnswer, sheetAnswer, lengthAnswer};
+ghost use Rattle.pim.specs.Answers.{lengthAnswer};
+ghost use Rattle.pim.specs.Stored.{noCounts, checkAnswer, sheetAnswer};
 
 #[repr(C)]
 pub struct CheckAnswer {
@@ -91,18 +91,6 @@ pub extern "C" fn pim_read_sheet(o: &[u8], asserts: &mut [u8], pairs: &mut [u8])
     sheet_answer(sheet::read_sheet(o, asserts, pairs))
 }
 
-fn store_answer(w: Writing) -> LengthAnswer
-    ensures { λ r. ⌜ r ≡ lengthAnswer (lengthBy w) ⌝ }
-{
-    match w {
-        Writing::Wrote(length) => LengthAnswer {
-            refusal: accepted(),
-            length,
-        },
-        Writing::Refused(refusal) => LengthAnswer { refusal, length: 0 },
-    }
-}
-
 // The sheet of two entry lists and a table.
 #[no_mangle]
 pub extern "C" fn pim_write_sheet(
@@ -114,5 +102,5 @@ pub extern "C" fn pim_write_sheet(
     ensures answer { λ r. ⌜ r ≡ lengthAnswer (writing base ipv4 (now (asserts .entry)) (now (pairs .entry)) table (now (d .entry)) .answer) ⌝ }
     ensures buffer { λ _. ⌜ now (d .exit) ≡ writing base ipv4 (now (asserts .entry)) (now (pairs .entry)) table (now (d .entry)) .buffer ⌝ }
 {
-    store_answer(sheet::write_sheet(asserts, pairs, table, d))
+    length_answer(sheet::write_sheet(asserts, pairs, table, d))
 }

@@ -1,5 +1,5 @@
 // The neighbour table and the election.
-use crate::messages::accepted;
+use crate::answers::accepted;
 use format::Refusal;
 use hello::Hello;
 use neighbours::Allowance;

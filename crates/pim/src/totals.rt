@@ -1,5 +1,5 @@
 // The counters of messages and records.
-use crate::messages::accepted;
+use crate::answers::accepted;
 use counters::Answer;
 use counters::Counters;
 use counters::Direction;

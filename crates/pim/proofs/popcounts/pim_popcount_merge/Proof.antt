@@ -8,7 +8,7 @@ use Rattle.pim.proofs.popcounts.pim_popcount_merge.Tie as tie
 returns : tie.Need-returns
 returns c =
     let k = c .before .before .before in
-    (c .merge-answer .ensures ∙ (rw (k .merge .ensures .0)), k .merge .ensures .1)
+    (c .length-answer .ensures ∙ (rw (k .merge .ensures .0)), k .merge .ensures .1)
 
 pub pim-popcount-merge-spec : {M : Type 1} → statement M
 pim-popcount-merge-spec =

@@ -8,7 +8,7 @@ use Rattle.pim.proofs.stored.pim_write_sheet.Tie as tie
 returns : tie.Need-returns
 returns c =
     let k = c .before .before .before in
-    (c .store-answer .ensures ∙ (rw (k .write-sheet .ensures .0)), k .write-sheet .ensures .1)
+    (c .length-answer .ensures ∙ (rw (k .write-sheet .ensures .0)), k .write-sheet .ensures .1)
 
 pub pim-write-sheet-spec : {M : Type 1} → statement M
 pim-write-sheet-spec =

@@ -1,10 +1,10 @@
--- `pim::stored::store_answer` meets its contract, by the case of the answer.
+-- `pim::answers::length_answer` meets its contract, by the case of the answer.
 -- Assumes nothing.
 use borrow.Author.Needs.{needs}
 use Rattle.format.specs.Writing.{lengthBy}
-use Rattle.pim.specs.Stored.{lengthAnswer}
-use Rattle.pim.proofs.stored.store_answer.Statement.{statement}
-use Rattle.pim.proofs.stored.store_answer.Tie as tie
+use Rattle.pim.specs.Answers.{lengthAnswer}
+use Rattle.pim.proofs.answers.length_answer.Statement.{statement}
+use Rattle.pim.proofs.answers.length_answer.Tie as tie
 
 returns : tie.Need-returns
 unfolding lengthAnswer lengthBy
@@ -14,6 +14,6 @@ returns-2 : tie.Need-returns-2
 unfolding lengthAnswer lengthBy
 returns-2 c = rw (c .before .w2 .given .1)
 
-pub store-answer-spec : {M : Type 1} → statement M
-store-answer-spec =
+pub length-answer-spec : {M : Type 1} → statement M
+length-answer-spec =
     tie.close (tie.spec (λ c. search needs) (λ c κs. search needs) (λ c. search needs) returns returns-2)
