@@ -3,7 +3,7 @@
 // puts the answer into a record that C can hold. include/pim.h describes each of them.
 //
 // answers.rt      what several calls answer with
-// messages.rt     header, body, a record read singly, the reading calls
+// messages.rt     header, body, a record read singly, the reading calls; a Hello written
 // packs.rt        the packing calls
 // tables.rt       the neighbour table and the election
 // totals.rt       the counters

@@ -1,5 +1,7 @@
-// Reading messages.
+// Reading messages, and writing Hellos.
+use crate::answers::LengthAnswer;
 use crate::answers::accepted;
+use crate::answers::length_answer;
 use format::Named;
 use format::Record;
 use format::Refusal;
@@ -19,9 +21,9 @@ ghost use Rattle.format.specs.Values.{kindNamed};
 ghost use Rattle.headers.specs.Answers.{headed};
 ghost use Rattle.fields.specs.Answers.{single};
 ghost use Rattle.reading.specs.Calls.{answered};
-ghost use Rattle.hello.specs.Hello.{readHello};
-ghost use Rattle.hello.specs.Answers.{told, unannounced};
-ghost use Rattle.pim.specs.Answers.{headerAnswer, recordOf, recordAnswer, readAnswer, helloAnswer};
+ghost use Rattle.hello.specs.Hello.{readHello, writeHello};
+ghost use Rattle.hello.specs.Answers.{helloBy, told, unannounced};
+ghost use Rattle.pim.specs.Answers.{headerAnswer, recordOf, recordAnswer, readAnswer, helloAnswer, lengthAnswer};
 
 #[repr(C)]
 pub struct HeaderAnswer {
@@ -169,6 +171,15 @@ pub extern "C" fn pim_read_hello(m: &[u8]) -> HelloAnswer
     ensures { λ r. ⌜ r ≡ helloAnswer (readHello (now (m .entry))) ⌝ }
 {
     hello_answer(hello::read_hello(m))
+}
+
+// The Hello that says this.
+#[no_mangle]
+pub extern "C" fn pim_write_hello(said: Hello, d: &mut [u8]) -> LengthAnswer
+    ensures answer { λ r. ⌜ r ≡ lengthAnswer (writeHello (helloBy said) (now (d .entry)) .answer) ⌝ }
+    ensures buffer { λ _. ⌜ now (d .exit) ≡ writeHello (helloBy said) (now (d .entry)) .buffer ⌝ }
+{
+    length_answer(hello::write_hello(said, d))
 }
 
 fn no_record(refusal: Refusal) -> RecordAnswer
