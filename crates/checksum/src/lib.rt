@@ -13,8 +13,8 @@ fn word(high: u8, low: u8) -> u16
     (high as u16) * 256 + (low as u16)
 }
 
-// Where a + b is above 65535, its carry is added back: a + b - 65536 + 1 is a - (65535 - b).
-fn add(a: u16, b: u16) -> u16
+// One word onto a sum. Where a + b is above 65535, its carry is added back: a + b - 65536 + 1 is a - (65535 - b).
+pub fn add(a: u16, b: u16) -> u16
     ensures { λ r. ⌜ r ≡ addOf a b ⌝ }
 {
     if a <= 65535 - b {

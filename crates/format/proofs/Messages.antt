@@ -1,4 +1,5 @@
 -- A message unpacks to the records of its body.
+--     kind-row                           the table of kinds: octets of version 2, read as they are written
 --     message-octets, length-message     a message is octets, four more than its body
 --     message-holds                      its checksum holds
 --     header-message                     its header says its kind
@@ -42,7 +43,7 @@ header-of o k least most version sum kind =
     rw (le-ltb (length o) 4 least, le-ltb longest (length o) most, eq-eqb (getD o 0 0 / 16) 2 version, sum) kind
 
 -- the table of kinds: octets of version 2, read as they are written
-kind-row : (k : Kind) → (octet0 k < 256) × (octet1 k < 256) × (octet0 k / 16 ≡ 2) × (kindOf (octet0 k % 16) (octet1 k) ≡ gives k)
+pub kind-row : (k : Kind) → (octet0 k < 256) × (octet1 k < 256) × (octet0 k / 16 ≡ 2) × (kindOf (octet0 k % 16) (octet1 k) ≡ gives k)
 unfolding octet0 octet1 kindOf assertKind registerKind
 kind-row Hello = (lit< tt, lit< tt, refl, refl)
 kind-row Assert = (lit< tt, lit< tt, refl, refl)

@@ -1,14 +1,22 @@
--- What `seal` leaves in a buffer.
---     sealed     the message of a kind, of n octets, whose body stands from octet 4 on; nothing changes where there are not so many octets
+-- What is left in a buffer by the calls that write a header.
+--     firstWord      the word that a message's sum begins with
+--     withHeader     the header over a body of which the sum is known; nothing changes where there is no room for it
+--     sealed         the message of a kind, of n octets, whose body stands from octet 4 on; nothing changes where there are not so many octets
 -- Assumes nothing: these are definitions.
-use Prim.Native.Nat.{ℕ, _-_}
+use Prim.Native.Nat.{ℕ, _+_, _-_, _*_}
 use mathlib.Core.Bool.{_&&_, cond}
-use mathlib.Core.List.{List}
+use mathlib.Core.List.{List, [], _∷_}
 use lib.Dec.{leb}
 use lib.ListN.{length, take, drop}
-use Rattle.octets.specs.Octets.{put}
-use Rattle.format.specs.Header.{message}
+use Rattle.octets.specs.Octets.{be, put, _&_}
+use Rattle.format.specs.Header.{octet0, octet1, message}
 use Rattle.format.specs.declared.Kind.{Kind}
+
+unfoldable pub firstWord : Kind → ℕ
+firstWord k = octet0 k * 256 + octet1 k
+
+unfoldable pub withHeader : Kind → ℕ → List ℕ → List ℕ
+withHeader k s d = cond (leb 4 (length d)) (put d 0 ((octet0 k ∷ octet1 k ∷ []) & be 2 (0xffff - s))) d
 
 unfoldable pub sealed : Kind → ℕ → List ℕ → List ℕ
 sealed k n d = cond (leb 4 n && leb n (length d)) (put d 0 (message k (take (n - 4) (drop 4 d)))) d

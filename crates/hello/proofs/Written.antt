@@ -3,12 +3,14 @@
 --     option-long, option-small        how many they are: of one that is given, and at most
 --     value-long, number-given         the value of an option that holds a number
 --     put-string, put-value            an option's first four octets copied, and a number past them
+--     holdtime-summed, priority-summed the words of an option, as the code sums them
 --     options-are, options-long        all options, one after another
+--     options-summed                   and their words
 --     hello-long                       the message: four octets, and its options
 --     hello-refused, hello-written     the call: no room, or the message
---     hello-sealed                     what the code leaves in the buffer is the message
+--     hello-headed                     what the code leaves in the buffer is the message
 -- Assumes nothing.
-use Prim.Native.Nat.{ℕ, _+_, _-_, _≤_, _<_}
+use Prim.Native.Nat.{ℕ, _+_, _-_, _*_, _/_, _%_, _≤_, _<_}
 use native.Mathlib.Omega.{arith}
 use mathlib.Core.Path.{_≡_, refl, ap, _∙_}
 use mathlib.Core.Bool.{Bool, true, false}
@@ -20,14 +22,16 @@ use lib.ListN.{length, take, drop, length-append}
 use Rattle.octets.specs.Octets.{be, put, copied}
 use Rattle.octets.specs.Field.{fitted}
 use Rattle.octets.proofs.Laws.{length-be, length-put, put-next, number-fits, copied-part}
+use Rattle.checksum.specs.Sum.{words, add, sumFrom}
+use Rattle.checksum.proofs.Laws.{sum-after}
 use Rattle.format.specs.Outcome.{gives, refuses, refuseIf, _>>_}
 use Rattle.format.specs.Header.{message}
 use Rattle.format.specs.Record.{each}
 use Rattle.format.specs.Writing.{intoBuffer}
 use Rattle.format.specs.declared.Kind.the-variants.{Hello as ofHello}
 use Rattle.format.proofs.Messages.{length-message}
-use Rattle.headers.specs.Sealing.{sealed}
-use Rattle.headers.proofs.Seals.{sealed-body}
+use Rattle.headers.specs.Sealing.{firstWord, withHeader}
+use Rattle.headers.proofs.Seals.{with-body}
 use Rattle.hello.specs.declared.table.Known.{Known}
 use Rattle.hello.specs.declared.table.Known.the-variants.{Holdtime, Priority, Packing, Other}
 use Rattle.hello.specs.Options.{Said, said, typeOf, lengthOf, isSome, given, numberOctets, valueOf, optionOctets, optionsOctets}
@@ -93,6 +97,46 @@ put-value k d s at n {m} long p q h =
     let same : length m ≡ length d = ap length p ∙ length-put d at s (omega arith) in
     put-next d at s (be k n) p (q ∙ number-fits k m (at + 4) n (omega arith)) (omega arith)
 
+-- ---- sums of words
+
+two-words : (n : ℕ) → n < 65536 → words (be 2 n) ≡ n ∷ []
+unfolding be words
+two-words n h =
+    let e : n / 256 % 256 * 256 + n / 1 % 256 ≡ n = omega arith in
+    rw e
+
+four-words : (n : ℕ) → n < 4294967296 → words (be 4 n) ≡ (n / 65536) ∷ (n % 65536) ∷ []
+unfolding be words
+four-words n h =
+    let high : n / 16777216 % 256 * 256 + n / 65536 % 256 ≡ n / 65536 = omega arith in
+    let low : n / 256 % 256 * 256 + n / 1 % 256 ≡ n % 65536 = omega arith in
+    rw (high, low)
+
+-- an option's first four octets, then its value
+pub holdtime-summed : (start n : ℕ) {x r : ℕ} → n < 65536 → x ≡ sumFrom start (words (0 ∷ 1 ∷ 0 ∷ 2 ∷ [])) → r ≡ add x n → r ≡ sumFrom start (words (0 ∷ 1 ∷ 0 ∷ 2 ∷ be 2 n))
+unfolding words sumFrom
+holdtime-summed start n h e f = f ∙ rw (e, two-words n h)
+
+pub priority-summed : (start n : ℕ) {x y r : ℕ} → n < 4294967296 → x ≡ sumFrom start (words (0 ∷ 19 ∷ 0 ∷ 4 ∷ [])) → y ≡ add x (n / 65536) → r ≡ add y (n % 65536)
+    → r ≡ sumFrom start (words (0 ∷ 19 ∷ 0 ∷ 4 ∷ be 4 n))
+unfolding words sumFrom
+priority-summed start n h e f g = g ∙ rw (f, e, four-words n h)
+
+half : (n : ℕ) (k : Known) → n ≡ 4 + lengthOf k 0 → n ≡ 2 * (n / 2)
+unfolding lengthOf
+half n Holdtime e = rw e
+half n Priority e = rw e
+half n Packing e = rw e
+half n Other e = rw e
+
+-- every option is whole words
+option-even : (s : Said) (k : Known) → length (optionOctets s k) ≡ 2 * (length (optionOctets s k) / 2)
+option-even s k = go (given s k) refl
+  where
+    go : (b : Bool) → given s k ≡ b → length (optionOctets s k) ≡ 2 * (length (optionOctets s k) / 2)
+    go true e = half (length (optionOctets s k)) k (option-long s k e)
+    go false e = rw (option-absent s k e)
+
 -- ---- all options
 
 pub options-are : (s : Said) → optionsOctets s ≡ optionOctets s Holdtime ++ (optionOctets s Priority ++ optionOctets s Packing)
@@ -101,6 +145,14 @@ options-are s = rw append-nil refl
 
 pub options-long : (s : Said) → length (optionsOctets s) ≡ length (optionOctets s Holdtime) + length (optionOctets s Priority) + length (optionOctets s Packing)
 options-long s = rw (options-are, length-append, length-append) (omega arith)
+
+-- their words, by those of each
+pub options-summed : (s : Said) (w : ℕ)
+    → sumFrom w (words (optionsOctets s)) ≡ sumFrom (sumFrom (sumFrom w (words (optionOctets s Holdtime))) (words (optionOctets s Priority))) (words (optionOctets s Packing))
+options-summed s w =
+    ap (λ o. sumFrom w (words o)) (options-are s)
+    ∙ sum-after _ w (optionOctets s Holdtime) (optionOctets s Priority ++ optionOctets s Packing) (option-even s Holdtime)
+    ∙ sum-after _ _ (optionOctets s Priority) (optionOctets s Packing) (option-even s Priority)
 
 -- ---- the call
 
@@ -117,8 +169,8 @@ module _ (h : Hello) (d : List ℕ) where
   unfolding writeHello intoBuffer refuseIf _>>_
   hello-written e = rw (le-ltb (length d) (length (helloMessage h)) (omega (arith, hello-long h)))
 
-  -- the options, then the header
-  pub hello-sealed : 4 + length (optionsOctets (saidIn h)) ≤ length d
-      → sealed ofHello (4 + length (optionsOctets (saidIn h))) (put d 4 (optionsOctets (saidIn h))) ≡ put d 0 (helloMessage h)
+  -- the options, then the header by their sum
+  pub hello-headed : (x : ℕ) → 4 + length (optionsOctets (saidIn h)) ≤ length d → x ≡ sumFrom (firstWord ofHello) (words (optionsOctets (saidIn h)))
+      → withHeader ofHello x (put d 4 (optionsOctets (saidIn h))) ≡ put d 0 (helloMessage h)
   unfolding helloMessage
-  hello-sealed e = sealed-body ofHello d (optionsOctets (saidIn h)) _ refl e
+  hello-headed x e sum = with-body ofHello d (optionsOctets (saidIn h)) _ refl e x sum

@@ -1,10 +1,15 @@
-// Writing Hellos: how many octets a Hello has, its options one after another, and the header last. The options stand in
-// one list, here in the code `size_of` and `put_options`, which name them in its order.
+// Writing Hellos: how far a Hello goes and what it sums to, its options one after another, and the header last. `measure`
+// and `put_options` name the options in the order of their list. The sum is made of the numbers: octets that were just
+// stored one by one would be waited for, to be read again as words.
 use crate::Hello;
 use crate::table::CAPABILITY;
+use crate::table::HOLDTIME;
 use crate::table::Heard;
 use crate::table::Known;
+use crate::table::PRIORITY;
 use crate::table::was_given;
+use checksum::add;
+use checksum::sum_after;
 use format::Kind;
 use format::Refusal;
 use format::Writing;
@@ -16,10 +21,18 @@ ghost use mathlib.Core.Bool.{true};
 ghost use Prim.Native.Nat.{_+_, _≤_};
 ghost use lib.ListN.{length};
 ghost use Rattle.octets.specs.Octets.{put};
+ghost use Rattle.checksum.specs.Sum.{words, sumFrom};
 ghost use Rattle.format.specs.Writing.{lengthBy};
+ghost use Rattle.headers.specs.Sealing.{firstWord};
 ghost use Rattle.hello.specs.Options.{lengthOf, given, optionOctets, optionsOctets};
 ghost use Rattle.hello.specs.Hello.{saidIn, writeHello};
 ghost use Rattle.hello.specs.Answers.{saidBy, helloBy};
+
+// How far a message goes, and the sum of its words but for the checksum.
+struct Extent {
+    end: usize,
+    sum: u16,
+}
 
 // What a Hello has to say: its holdtime always.
 fn to_say(said: Hello) -> Heard
@@ -46,24 +59,47 @@ fn option_size(k: Known) -> usize
     }
 }
 
-// The same, none where the option is not given.
-fn given_size(h: Heard, k: Known) -> usize
-    ensures { λ r. ⌜ r ≡ length (optionOctets (saidBy h) k) ⌝ }
+// The words of an option that is given, summed onto an earlier sum.
+fn sum_given(h: Heard, k: Known, start: u16) -> u16
+    requires { ⌜ given (saidBy h) k ≡ true ⌝ }
+    ensures { λ r. ⌜ r ≡ sumFrom start (words (optionOctets (saidBy h) k)) ⌝ }
 {
-    if was_given(h, k) {
-        return option_size(k);
+    match k {
+        Known::Holdtime => add(sum_after(start, &HOLDTIME), h.holdtime),
+        Known::Priority => {
+            let high = add(sum_after(start, &PRIORITY), (h.priority / 65536) as u16);
+            add(high, (h.priority % 65536) as u16)
+        }
+        Known::Packing => sum_after(start, &CAPABILITY),
+        Known::Other => start,
     }
-    0
 }
 
-// The octets of a message that says all of it.
-fn size_of(h: Heard) -> usize
-    ensures { λ r. ⌜ r ≡ 4 + length (optionsOctets (saidBy h)) ⌝ }
+// The extent past an option, which is the same where the option is not given.
+fn past(h: Heard, k: Known, x: Extent) -> Extent
+    requires { ⌜ x .end ≤ 22 ⌝ }
+    ensures { λ r. ⌜ (r .end ≡ x .end + length (optionOctets (saidBy h) k)) × (r .sum ≡ sumFrom (x .sum) (words (optionOctets (saidBy h) k))) ⌝ }
 {
-    let holdtime = given_size(h, Known::Holdtime);
-    let priority = given_size(h, Known::Priority);
-    let packing = given_size(h, Known::Packing);
-    4 + holdtime + priority + packing
+    if was_given(h, k) {
+        return Extent {
+            end: x.end + option_size(k),
+            sum: sum_given(h, k, x.sum),
+        };
+    }
+    x
+}
+
+// The extent of a message that says all of it.
+fn measure(h: Heard) -> Extent
+    ensures { λ r. ⌜ (r .end ≡ 4 + length (optionsOctets (saidBy h))) × (r .sum ≡ sumFrom (firstWord Kind.Hello) (words (optionsOctets (saidBy h)))) ⌝ }
+{
+    let header = Extent {
+        end: 4,
+        sum: headers::first_word(Kind::Hello),
+    };
+    let holdtime = past(h, Known::Holdtime, header);
+    let priority = past(h, Known::Priority, holdtime);
+    past(h, Known::Packing, priority)
 }
 
 // An option that is given, at a place: its type and length are one string.
@@ -73,11 +109,11 @@ fn put_given(h: Heard, k: Known, d: &mut [u8], at: usize)
 {
     match k {
         Known::Holdtime => {
-            copy4(b"\x00\x01\x00\x02", &mut d[at..at + 4]);
+            copy4(&HOLDTIME, &mut d[at..at + 4]);
             write16(d, at + 4, h.holdtime);
         }
         Known::Priority => {
-            copy4(b"\x00\x13\x00\x04", &mut d[at..at + 4]);
+            copy4(&PRIORITY, &mut d[at..at + 4]);
             write32(d, at + 4, h.priority);
         }
         Known::Packing => copy4(&CAPABILITY, &mut d[at..at + 4]),
@@ -114,14 +150,14 @@ pub fn write_hello(said: Hello, d: &mut [u8]) -> Writing
     ensures buffer { λ _. ⌜ now (d .exit) ≡ writeHello (helloBy said) (now (d .entry)) .buffer ⌝ }
 {
     let h = to_say(said);
-    let n = size_of(h);
-    if d.len() < n {
+    let x = measure(h);
+    if d.len() < x.end {
         return Writing::Refused(Refusal {
             number: 8,
             place: 0,
         });
     }
     put_options(h, d);
-    headers::seal(Kind::Hello, d, n);
-    Writing::Wrote(n)
+    headers::put_header(Kind::Hello, x.sum, d);
+    Writing::Wrote(x.end)
 }

@@ -1,11 +1,13 @@
--- `headers::sealing::seal` meets its contract: two octets stored, then the checksum of what stands.
+-- `headers::sealing::seal` meets its contract: the header by the sum of the body as it stands.
 -- Assumes nothing.
+use Prim.Native.Nat.{_-_}
 use native.Mathlib.Omega.{arith}
-use mathlib.Core.Path.{_∙_}
-use lib.ListN.{length-set, length-take}
+use mathlib.Core.Path.{ap, _∙_}
 use denote.Ref.{now}
+use lib.ListN.{take, drop}
 use borrow.Author.Needs.{needs}
-use Rattle.headers.proofs.Seals.{sealed-short, sealed-long, sealed-stores}
+use Rattle.checksum.specs.Sum.{words, sumFrom}
+use Rattle.headers.proofs.Seals.{sealed-short, sealed-long, with-sealed}
 use Rattle.headers.proofs.sealing.seal.Statement.{statement}
 use Rattle.headers.proofs.sealing.seal.Tie as tie
 
@@ -19,18 +21,14 @@ returns-2 c =
     let a = c .before .before .before .args in
     sealed-long (a .kind) (a .n) (now (a .d)) (c .if2 .taken)
 
-same-length : tie.Need-same-length
-same-length c = c .before .before .write16 .kept .0 ∙ simp length-set
-
 returns-3 : tie.Need-returns-3
 returns-3 c =
-    let w = c .before .before in
-    let sum = w .before .before in
-    let second = sum .before .before in
-    let first = second .before in
-    let a = first .before .before .before .before .args in
-    let d = now (a .d) in
-    sealed-stores (a .kind) d (a .n) (first .octet0 .ensures) (second .octet1 .ensures) (sum .checksum .ensures) (w .write16 .ensures .1) (omega arith) (omega arith)
+    let p = c .before .before in
+    let s = p .before .before in
+    let f = s .before .before .before in
+    let a = f .before .before .before .before .args in
+    let sum = s .sum-after .ensures ∙ ap (λ w. sumFrom w (words (take (a .n - 4) (drop 4 (now (a .d)))))) (f .first-word .ensures) in
+    p .put-header .ensures ∙ with-sealed (a .kind) (a .n) (s .sum-after .result) (now (a .d)) (omega arith) (omega arith) sum
 
 pub seal-spec : {M : Type 1} → statement M
 seal-spec =
@@ -40,11 +38,8 @@ seal-spec =
     returns-2
     (λ c κs. search needs)
     (λ c. search needs)
-    (λ c κs. search needs)
-    (λ c. simp length-set (omega arith))
     (λ c. search needs)
-    (λ c. simp (length-take, length-set) (omega arith))
     (λ c κs. search needs)
     (λ c κs. search needs)
-    same-length
+    (λ c. search needs)
     returns-3)
