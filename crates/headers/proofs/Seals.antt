@@ -1,10 +1,10 @@
 -- A header written: laws over the definitions of specs/Sealing.antt.
---     with-none, with-stores         no room for it; two octets stored, and the checksum
+--     with-none, with-written        no room for it; its first word written, and the checksum
 --     sealed-short, sealed-long      where there is no message to seal
 --     with-sealed                    by a sum that is known or made, what is left is the message
 --     with-body, sealed-body         the same of a body that was written at octet 4
 -- Assumes nothing.
-use Prim.Native.Nat.{ℕ, _+_, _-_, _*_, _≤_, _<_}
+use Prim.Native.Nat.{ℕ, _+_, _-_, _*_, _/_, _%_, _≤_, _<_}
 use native.Mathlib.Nat.{zero-add}
 use native.Mathlib.Omega.{arith}
 use mathlib.Core.Path.{_≡_, refl, sym, ap, _∙_}
@@ -15,7 +15,7 @@ use lib.ListN.{length, take, drop, length-append, length-take, length-drop, take
 use lib.Seq.{drop-drop}
 use Rattle.octets.specs.Octets.{be, put}
 use Rattle.octets.specs.Field.{fitted}
-use Rattle.octets.proofs.Laws.{stores, stores-put, number-fits, length-put, part-put, put-put, drop-put-end}
+use Rattle.octets.proofs.Laws.{length-be, number-fits, length-put, part-put, put-number-next, drop-put-end}
 use Rattle.checksum.specs.Sum.{words, add, sumFrom, checksumFrom, checksum}
 use Rattle.format.specs.Header.{octet0, octet1, message}
 use Rattle.format.specs.declared.Kind.{Kind}
@@ -32,15 +32,22 @@ with-there : (k : Kind) (s : ℕ) (d : List ℕ) → 4 ≤ length d → withHead
 unfolding withHeader
 with-there k s d h = rw (le-leb 4 (length d) h)
 
+first-octets : (k : Kind) → be 2 (firstWord k) ≡ octet0 k ∷ octet1 k ∷ []
+unfolding be firstWord
+first-octets k =
+    let row = kind-row k in
+    let high : (octet0 k * 256 + octet1 k) / 256 % 256 ≡ octet0 k = omega (arith, row .0, row .1) in
+    let low : (octet0 k * 256 + octet1 k) / 1 % 256 ≡ octet1 k = omega (arith, row .0, row .1) in
+    rw (high, low)
+
 -- by what each call promised
-pub with-stores : (k : Kind) (s : ℕ) (d : List ℕ) {a b : ℕ} {d′ : List ℕ} → a ≡ octet0 k → b ≡ octet1 k
-    → d′ ≡ fitted (stores d 0 0 (a ∷ b ∷ [])) 2 (be 2 (65535 - s)) → 4 ≤ length d → d′ ≡ withHeader k s d
-with-stores k s d {a} {b} first second wrote h =
-    let m : stores d 0 0 (a ∷ b ∷ []) ≡ put d 0 (octet0 k ∷ octet1 k ∷ []) = stores-put d 0 (a ∷ b ∷ []) (omega arith) ∙ rw (first, second) in
-    let long : length (put d 0 (octet0 k ∷ octet1 k ∷ [])) ≡ length d = length-put d 0 (octet0 k ∷ octet1 k ∷ []) (omega arith) in
-    wrote
-    ∙ rw m (number-fits 2 (put d 0 (octet0 k ∷ octet1 k ∷ [])) 2 (65535 - s) (omega arith))
-    ∙ put-put d 0 (octet0 k ∷ octet1 k ∷ []) (be 2 (65535 - s))
+pub with-written : (k : Kind) (s : ℕ) (d : List ℕ) {w : ℕ} {m d′ : List ℕ} → w ≡ firstWord k → m ≡ fitted d 0 (be 2 w) → d′ ≡ fitted m 2 (be 2 (65535 - s)) → 4 ≤ length d
+    → d′ ≡ withHeader k s d
+with-written k s d {w} {m} first one two h =
+    let p : m ≡ put d 0 (be 2 w) = one ∙ number-fits 2 d 0 w (omega arith) in
+    let long : length m ≡ length d = ap length p ∙ length-put d 0 (be 2 w) (rw length-be (omega arith)) in
+    put-number-next 2 d 0 w (be 2 (65535 - s)) p (two ∙ number-fits 2 m 2 (65535 - s) (omega arith)) refl
+    ∙ ap (λ x. put d 0 (x ++ be 2 (65535 - s))) (ap (be 2) first ∙ first-octets k)
     ∙ sym (with-there k s d h)
 
 -- ---- where there is no message

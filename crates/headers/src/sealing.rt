@@ -3,42 +3,21 @@
 use format::Kind;
 use octets::write16;
 ghost use mathlib.Core.Path.{_≡_};
-ghost use Rattle.format.specs.Header.{octet0 as octet0Of, octet1 as octet1Of};
 ghost use Rattle.headers.specs.Sealing.{firstWord, withHeader, sealed};
 
-// Version 2 and the type.
-fn octet0(kind: Kind) -> u8
-    ensures { λ r. ⌜ r ≡ octet0Of kind ⌝ }
-{
-    match kind {
-        Kind::Hello => 0x20,
-        Kind::Assert => 0x25,
-        Kind::Simple => 0x25,
-        Kind::Aggregated => 0x25,
-        Kind::NullRegister => 0x2d,
-        Kind::RegisterStop => 0x2d,
-    }
-}
-
-// P and A of an assert, the subtype of a register.
-fn octet1(kind: Kind) -> u8
-    ensures { λ r. ⌜ r ≡ octet1Of kind ⌝ }
-{
-    match kind {
-        Kind::Hello => 0,
-        Kind::Assert => 0,
-        Kind::Simple => 1,
-        Kind::Aggregated => 3,
-        Kind::NullRegister => 0,
-        Kind::RegisterStop => 0x10,
-    }
-}
-
-// Both as one word, which begins the sum of a message.
+// The first word of a message, which also begins its sum: version 2 and the type; then P and A of an assert, or the subtype
+// of a register.
 pub fn first_word(kind: Kind) -> u16
     ensures { λ r. ⌜ r ≡ firstWord kind ⌝ }
 {
-    (octet0(kind) as u16) * 256 + (octet1(kind) as u16)
+    match kind {
+        Kind::Hello => 0x2000,
+        Kind::Assert => 0x2500,
+        Kind::Simple => 0x2501,
+        Kind::Aggregated => 0x2503,
+        Kind::NullRegister => 0x2d00,
+        Kind::RegisterStop => 0x2d10,
+    }
 }
 
 // The header over a body whose words, after the first word of the message, sum to this. Nothing where it has no room.
@@ -48,8 +27,7 @@ pub fn put_header(kind: Kind, sum: u16, d: &mut [u8])
     if d.len() < 4 {
         return;
     }
-    d[0] = octet0(kind);
-    d[1] = octet1(kind);
+    write16(d, 0, first_word(kind));
     write16(d, 2, 65535 - sum);
 }
 

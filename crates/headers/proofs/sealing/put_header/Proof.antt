@@ -1,11 +1,9 @@
--- `headers::sealing::put_header` meets its contract: two octets stored, then the checksum.
+-- `headers::sealing::put_header` meets its contract: two words, one after the other.
 -- Assumes nothing.
 use native.Mathlib.Omega.{arith}
-use mathlib.Core.Path.{_∙_}
-use lib.ListN.{length-set}
 use denote.Ref.{now}
 use borrow.Author.Needs.{needs}
-use Rattle.headers.proofs.Seals.{with-none, with-stores}
+use Rattle.headers.proofs.Seals.{with-none, with-written}
 use Rattle.headers.proofs.sealing.put_header.Statement.{statement}
 use Rattle.headers.proofs.sealing.put_header.Tie as tie
 
@@ -14,16 +12,12 @@ returns c =
     let a = c .before .before .args in
     with-none (a .kind) (a .sum) (now (a .d)) (c .if1 .taken)
 
-same-length : tie.Need-same-length
-same-length c = c .before .before .write16 .kept .0 ∙ simp length-set
-
 returns-2 : tie.Need-returns-2
 returns-2 c =
-    let w = c .before .before in
-    let second = w .before .before in
-    let first = second .before in
-    let a = first .before .before .before .args in
-    with-stores (a .kind) (a .sum) (now (a .d)) (first .octet0 .ensures) (second .octet1 .ensures) (w .write16 .ensures .1) (omega arith)
+    let second = c .before .before in
+    let first = second .before .before .before .before in
+    let a = first .before .before .before .before .before .args in
+    with-written (a .kind) (a .sum) (now (a .d)) (first .before .first-word .ensures) (first .write16 .ensures .1) (second .write162 .ensures .1) (omega arith)
 
 pub put-header-spec : {M : Type 1} → statement M
 put-header-spec =
@@ -31,10 +25,8 @@ put-header-spec =
     (tie.spec
     returns
     (λ c κs. search needs)
+    (λ c κs. search needs)
     (λ c. search needs)
     (λ c κs. search needs)
-    (λ c. simp length-set (omega arith))
     (λ c. search needs)
-    (λ c κs. search needs)
-    same-length
     returns-2)
