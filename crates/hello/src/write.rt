@@ -151,7 +151,8 @@ pub fn write_hello(said: Hello, d: &mut [u8]) -> Writing
 {
     let h = to_say(said);
     let x = measure(h);
-    if d.len() < x.end {
+    let n = x.end;
+    if d.len() < n {
         return Writing::Refused(Refusal {
             number: 8,
             place: 0,
@@ -159,5 +160,5 @@ pub fn write_hello(said: Hello, d: &mut [u8]) -> Writing
     }
     put_options(h, d);
     headers::put_header(Kind::Hello, x.sum, d);
-    Writing::Wrote(x.end)
+    Writing::Wrote(n)
 }

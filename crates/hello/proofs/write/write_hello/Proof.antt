@@ -30,7 +30,7 @@ extent c =
 returns : tie.Need-returns
 unfolding lengthBy
 returns c =
-    let z = c .before .before in
+    let z = c .before in
     let a = z .before .before .before .args in
     let e = hello-refused (helloBy (a .said)) (now (a .d)) (omega (arith, extent z .0, c .if1 .taken)) in
     (rw e, rw e)
@@ -41,7 +41,7 @@ returns-2 c =
     let l = c .before .before in
     let p = l .before .before .before .before in
     let f = p .before .before in
-    let z = f .before .before in
+    let z = f .before in
     let a = z .before .before .before .args in
     let h = helloBy (a .said) in
     let d = now (a .d) in
