@@ -5,6 +5,7 @@
 --     put-string, put-value            an option's first four octets copied, and a number past them
 --     holdtime-summed, priority-summed the words of an option, as the code sums them
 --     options-are, options-long        all options, one after another
+--     options-put                      written so, or not written
 --     options-summed                   and their words
 --     hello-long                       the message: four octets, and its options
 --     hello-refused, hello-written     the call: no room, or the message
@@ -13,7 +14,7 @@
 use Prim.Native.Nat.{ℕ, _+_, _-_, _*_, _/_, _%_, _≤_, _<_}
 use native.Mathlib.Omega.{arith}
 use mathlib.Core.Path.{_≡_, refl, ap, _∙_}
-use mathlib.Core.Bool.{Bool, true, false}
+use mathlib.Core.Bool.{Bool, true, false, cond}
 use mathlib.Core.List.{List, [], _∷_, _++_, append-nil}
 use mathlib.Core.Option.{Option, none, some}
 use borrow.Author.Tests.{le-ltb, lt-ltb}
@@ -145,6 +146,14 @@ options-are s = rw append-nil refl
 
 pub options-long : (s : Said) → length (optionsOctets s) ≡ length (optionOctets s Holdtime) + length (optionOctets s Priority) + length (optionOctets s Packing)
 options-long s = rw (options-are, length-append, length-append) (omega arith)
+
+-- written one after another, or not written
+pub options-put : (write : Bool) (s : Said) (d : List ℕ) (p q : ℕ) {a b c : List ℕ} → a ≡ cond write (put d 4 (optionOctets s Holdtime)) d → b ≡ cond write (put a p (optionOctets s Priority)) a
+    → c ≡ cond write (put b q (optionOctets s Packing)) b → p ≡ 4 + length (optionOctets s Holdtime) → q ≡ p + length (optionOctets s Priority) → c ≡ cond write (put d 4 (optionsOctets s)) d
+options-put true s d p q {a} one two three e f =
+    rw (options-are s)
+    (put-next d 4 (optionOctets s Holdtime) (optionOctets s Priority ++ optionOctets s Packing) one (put-next a p (optionOctets s Priority) (optionOctets s Packing) two three f) e)
+options-put false s d p q one two three e f = three ∙ two ∙ one
 
 -- their words, by those of each
 pub options-summed : (s : Said) (w : ℕ)

@@ -1,5 +1,5 @@
-// Writing Hellos: how far a Hello goes and what it sums to, its options one after another, and the header last. `measure`
-// and `put_options` name the options in the order of their list. The sum is made of the numbers: octets that were just
+// Writing Hellos. One pass over the list of options measures, and once there is room a second one writes: the same
+// function, told whether to write. The header is written last. The sum is made of the numbers: octets that were just
 // stored one by one would be waited for, to be read again as words.
 use crate::Hello;
 use crate::table::CAPABILITY;
@@ -17,7 +17,7 @@ use octets::copy4;
 use octets::write16;
 use octets::write32;
 ghost use mathlib.Core.Path.{_≡_};
-ghost use mathlib.Core.Bool.{true};
+ghost use mathlib.Core.Bool.{true, cond};
 ghost use Prim.Native.Nat.{_+_, _≤_};
 ghost use lib.ListN.{length};
 ghost use Rattle.octets.specs.Octets.{put};
@@ -75,33 +75,6 @@ fn sum_given(h: Heard, k: Known, start: u16) -> u16
     }
 }
 
-// The extent past an option, which is the same where the option is not given.
-fn past(h: Heard, k: Known, x: Extent) -> Extent
-    requires { ⌜ x .end ≤ 22 ⌝ }
-    ensures { λ r. ⌜ (r .end ≡ x .end + length (optionOctets (saidBy h) k)) × (r .sum ≡ sumFrom (x .sum) (words (optionOctets (saidBy h) k))) ⌝ }
-{
-    if was_given(h, k) {
-        return Extent {
-            end: x.end + option_size(k),
-            sum: sum_given(h, k, x.sum),
-        };
-    }
-    x
-}
-
-// The extent of a message that says all of it.
-fn measure(h: Heard) -> Extent
-    ensures { λ r. ⌜ (r .end ≡ 4 + length (optionsOctets (saidBy h))) × (r .sum ≡ sumFrom (firstWord Kind.Hello) (words (optionsOctets (saidBy h)))) ⌝ }
-{
-    let header = Extent {
-        end: 4,
-        sum: headers::first_word(Kind::Hello),
-    };
-    let holdtime = past(h, Known::Holdtime, header);
-    let priority = past(h, Known::Priority, holdtime);
-    past(h, Known::Packing, priority)
-}
-
 // An option that is given, at a place: its type and length are one string.
 fn put_given(h: Heard, k: Known, d: &mut [u8], at: usize)
     requires { ⌜ (given (saidBy h) k ≡ true) × (at + (4 + lengthOf k 0) ≤ length (now d)) ⌝ }
@@ -121,27 +94,45 @@ fn put_given(h: Heard, k: Known, d: &mut [u8], at: usize)
     }
 }
 
-// An option at a place, where it is given; the place past it.
-fn put_option(h: Heard, k: Known, d: &mut [u8], at: usize) -> usize
-    requires { ⌜ at + length (optionOctets (saidBy h) k) ≤ length (now d) ⌝ }
-    ensures next { λ r. ⌜ r ≡ at + length (optionOctets (saidBy h) k) ⌝ }
-    ensures buffer { λ _. ⌜ now (d .exit) ≡ put (now (d .entry)) at (optionOctets (saidBy h) k) ⌝ }
+// The same, if octets are to be written.
+fn put_if(write: bool, h: Heard, k: Known, d: &mut [u8], at: usize)
+    requires { ⌜ (given (saidBy h) k ≡ true) × (write ≡ true → at + (4 + lengthOf k 0) ≤ length (now d)) ⌝ }
+    ensures { λ _. ⌜ now (d .exit) ≡ cond write (put (now (d .entry)) at (optionOctets (saidBy h) k)) (now (d .entry)) ⌝ }
 {
-    if was_given(h, k) {
+    if write {
         put_given(h, k, d, at);
-        return at + option_size(k);
     }
-    at
 }
 
-// The options from octet 4 on.
-fn put_options(h: Heard, d: &mut [u8])
-    requires { ⌜ 4 + length (optionsOctets (saidBy h)) ≤ length (now d) ⌝ }
-    ensures { λ _. ⌜ now (d .exit) ≡ put (now (d .entry)) 4 (optionsOctets (saidBy h)) ⌝ }
+// An option where it is given, written or only measured: the extent past it.
+fn pass_option(h: Heard, k: Known, write: bool, d: &mut [u8], x: Extent) -> Extent
+    requires { ⌜ (x .end ≤ 22) × (write ≡ true → x .end + length (optionOctets (saidBy h) k) ≤ length (now d)) ⌝ }
+    ensures extent { λ r. ⌜ (r .end ≡ x .end + length (optionOctets (saidBy h) k)) × (r .sum ≡ sumFrom (x .sum) (words (optionOctets (saidBy h) k))) ⌝ }
+    ensures buffer { λ _. ⌜ now (d .exit) ≡ cond write (put (now (d .entry)) (x .end) (optionOctets (saidBy h) k)) (now (d .entry)) ⌝ }
 {
-    let a = put_option(h, Known::Holdtime, d, 4);
-    let b = put_option(h, Known::Priority, d, a);
-    put_option(h, Known::Packing, d, b);
+    if was_given(h, k) {
+        put_if(write, h, k, d, x.end);
+        return Extent {
+            end: x.end + option_size(k),
+            sum: sum_given(h, k, x.sum),
+        };
+    }
+    x
+}
+
+// The list of options, from octet 4 on: the extent of the message that says all of them.
+fn pass(h: Heard, write: bool, d: &mut [u8]) -> Extent
+    requires { ⌜ (write ≡ true → 4 + length (optionsOctets (saidBy h)) ≤ length (now d)) ⌝ }
+    ensures extent { λ r. ⌜ (r .end ≡ 4 + length (optionsOctets (saidBy h))) × (r .sum ≡ sumFrom (firstWord Kind.Hello) (words (optionsOctets (saidBy h)))) ⌝ }
+    ensures buffer { λ _. ⌜ now (d .exit) ≡ cond write (put (now (d .entry)) 4 (optionsOctets (saidBy h))) (now (d .entry)) ⌝ }
+{
+    let header = Extent {
+        end: 4,
+        sum: headers::first_word(Kind::Hello),
+    };
+    let holdtime = pass_option(h, Known::Holdtime, write, d, header);
+    let priority = pass_option(h, Known::Priority, write, d, holdtime);
+    pass_option(h, Known::Packing, write, d, priority)
 }
 
 // Writes the one Hello that says this. A priority that it has not is not looked at.
@@ -150,7 +141,7 @@ pub fn write_hello(said: Hello, d: &mut [u8]) -> Writing
     ensures buffer { λ _. ⌜ now (d .exit) ≡ writeHello (helloBy said) (now (d .entry)) .buffer ⌝ }
 {
     let h = to_say(said);
-    let x = measure(h);
+    let x = pass(h, false, d);
     let n = x.end;
     if d.len() < n {
         return Writing::Refused(Refusal {
@@ -158,7 +149,7 @@ pub fn write_hello(said: Hello, d: &mut [u8]) -> Writing
             place: 0,
         });
     }
-    put_options(h, d);
+    pass(h, true, d);
     headers::put_header(Kind::Hello, x.sum, d);
     Writing::Wrote(n)
 }
