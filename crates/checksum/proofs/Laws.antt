@@ -9,7 +9,8 @@
 --     checksum-le         a checksum is a word
 --     checksum-field      the checksum does not look at its own field
 --     sum-after           octets after whole words are summed on
---     eight-summed        the words of a number of eight octets, as code takes them
+--     words-be            the words of a number, by the first
+--     eight-summed        those of a number of eight octets, as code takes them
 --     holds-true          a message whose sum is 0xFFFF holds
 --     holds-sum           and back
 --     sum-checksum        octets with their checksum written into the field sum to 0xFFFF: by themselves, after an earlier sum
@@ -20,7 +21,7 @@ use mathlib.Core.Bool.{true}
 use mathlib.Core.List.{List, [], _∷_, _++_}
 use Prim.Native.Nat.{ℕ, zero, suc, _+_, _-_, _*_, _/_, _%_, _^_, _≤_, _<_}
 use native.Mathlib.Omega.{arith}
-use native.Mathlib.Nat.{mod-add-mod, add-assoc, zero-add}
+use native.Mathlib.Nat.{mod-add-mod, add-assoc, zero-add, mul-comm, pow-succ', div-div-eq-div-mul}
 use borrow.Author.Tests.{eq-eqb, eqb-true}
 use lib.ListN.{length, getD, take}
 use lib.Seq.{take-length}
@@ -123,16 +124,22 @@ sumFrom-append acc (x ∷ a) b = sumFrom-append (add acc x) a b
 pub sum-after : (k acc : ℕ) (a b : List ℕ) → length a ≡ 2 * k → sumFrom acc (words (a ++ b)) ≡ sumFrom (sumFrom acc (words a)) (words b)
 sum-after k acc a b e = rw (words-append k a b e) (sumFrom-append acc (words a) (words b))
 
+-- the words of a number, by the first
+pub words-be : (k n : ℕ) → words (be (suc (suc k)) n) ≡ (n / 256 ^ k % 65536) ∷ words (be k n)
+unfolding words be
+words-be k n =
+    let up : n / 256 ^ suc k ≡ n / 256 ^ k / 256 = rw (pow-succ', div-div-eq-div-mul, mul-comm) in
+    let e : n / 256 ^ k / 256 % 256 * 256 + n / 256 ^ k % 256 ≡ n / 256 ^ k % 65536 = omega arith in
+    rw (up, e)
+
 -- the words of a number of eight octets, as code takes them
 words-eight : (n : ℕ) → n < 18446744073709551616
     → words (be 8 n) ≡ n / 281474976710656 ∷ (n / 4294967296 % 65536) ∷ (n / 65536 % 65536) ∷ n % 65536 ∷ []
 unfolding words be
 words-eight n h =
-    let a : n / 256 ^ 7 % 256 * 256 + n / 256 ^ 6 % 256 ≡ n / 281474976710656 = omega arith in
-    let b : n / 256 ^ 5 % 256 * 256 + n / 256 ^ 4 % 256 ≡ n / 4294967296 % 65536 = omega arith in
-    let c : n / 256 ^ 3 % 256 * 256 + n / 256 ^ 2 % 256 ≡ n / 65536 % 65536 = omega arith in
-    let d : n / 256 ^ 1 % 256 * 256 + n / 256 ^ 0 % 256 ≡ n % 65536 = omega arith in
-    rw (a, b, c, d)
+    let first : n / 281474976710656 % 65536 ≡ n / 281474976710656 = omega arith in
+    let last : n / 1 % 65536 ≡ n % 65536 = omega arith in
+    rw (words-be 6 n, words-be 4 n, words-be 2 n, words-be 0 n, first, last)
 
 pub eight-summed : (start n a b c d : ℕ) → n < 18446744073709551616 → a ≡ add start (n / 281474976710656) → b ≡ add a (n / 4294967296 % 65536)
     → c ≡ add b (n / 65536 % 65536) → d ≡ add c (n % 65536) → d ≡ sumFrom start (words (be 8 n))

@@ -1,5 +1,5 @@
-// The election among the routers of a scenario, one of them our own or none, by the Hello that each sends. A router stands
-// in 12 octets, as a sheet has a neighbour: address, priority, 1 if it has a priority, a zero octet, holdtime.
+// The election among the routers of a scenario, one of them our own or none, by the Hello that each sends. A router
+// stands in 12 octets, as a sheet has a neighbour: address, priority, 1 if it has a priority, a zero octet, holdtime.
 use format::Writing;
 use hello::Hello;
 use hello::HelloRead;

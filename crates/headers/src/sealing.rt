@@ -5,8 +5,8 @@ use octets::write16;
 ghost use mathlib.Core.Path.{_≡_};
 ghost use Rattle.headers.specs.Sealing.{firstWord, withHeader, sealed};
 
-// The first word of a message, which also begins its sum: version 2 and the type; then P and A of an assert, or the subtype
-// of a register.
+// The first word of a message, which also begins its sum: version 2 and the type; then P and A of an assert, or the
+// subtype of a register.
 pub fn first_word(kind: Kind) -> u16
     ensures { λ r. ⌜ r ≡ firstWord kind ⌝ }
 {

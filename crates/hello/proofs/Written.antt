@@ -24,7 +24,7 @@ use Rattle.octets.specs.Octets.{be, put, copied}
 use Rattle.octets.specs.Field.{fitted}
 use Rattle.octets.proofs.Laws.{length-be, length-put, put-next, number-fits, copied-part}
 use Rattle.checksum.specs.Sum.{words, add, sumFrom}
-use Rattle.checksum.proofs.Laws.{sum-after}
+use Rattle.checksum.proofs.Laws.{words-be, sum-after}
 use Rattle.format.specs.Outcome.{gives, refuses, refuseIf, _>>_}
 use Rattle.format.specs.Header.{message}
 use Rattle.format.specs.Record.{each}
@@ -103,15 +103,15 @@ put-value k d s at n {m} long p q h =
 two-words : (n : ℕ) → n < 65536 → words (be 2 n) ≡ n ∷ []
 unfolding be words
 two-words n h =
-    let e : n / 256 % 256 * 256 + n / 1 % 256 ≡ n = omega arith in
-    rw e
+    let e : n / 1 % 65536 ≡ n = omega arith in
+    rw (words-be 0 n, e)
 
 four-words : (n : ℕ) → n < 4294967296 → words (be 4 n) ≡ (n / 65536) ∷ (n % 65536) ∷ []
 unfolding be words
 four-words n h =
-    let high : n / 16777216 % 256 * 256 + n / 65536 % 256 ≡ n / 65536 = omega arith in
-    let low : n / 256 % 256 * 256 + n / 1 % 256 ≡ n % 65536 = omega arith in
-    rw (high, low)
+    let high : n / 65536 % 65536 ≡ n / 65536 = omega arith in
+    let low : n / 1 % 65536 ≡ n % 65536 = omega arith in
+    rw (words-be 2 n, words-be 0 n, high, low)
 
 -- an option's first four octets, then its value
 pub holdtime-summed : (start n : ℕ) {x r : ℕ} → n < 65536 → x ≡ sumFrom start (words (0 ∷ 1 ∷ 0 ∷ 2 ∷ [])) → r ≡ add x n → r ≡ sumFrom start (words (0 ∷ 1 ∷ 0 ∷ 2 ∷ be 2 n))

@@ -8,8 +8,8 @@ ghost use lib.ListN.{length, take, drop};
 ghost use Rattle.hello.specs.Options.{named, lengthOf, given, hear};
 ghost use Rattle.hello.specs.Answers.{saidBy, fourAt, lengthFits};
 
-// What each known option begins with where it is written: its type and its length. The packing capability is nothing more,
-// and is compared so when it is read.
+// What each known option begins with where it is written: its type and its length. The packing capability is nothing
+// more, and is compared so when it is read.
 pub(crate) const HOLDTIME: [u8; 4] = *b"\x00\x01\x00\x02";
 
 pub(crate) const PRIORITY: [u8; 4] = *b"\x00\x13\x00\x04";

@@ -11,7 +11,7 @@ use printing::number;
 use printing::text;
 use printing::title;
 
-// What a Hello says; the priority is one where it has one.
+// What a Hello says.
 fn saying(holdtime: u16, has_priority: bool, priority: u32, packing: bool) -> Hello {
     Hello {
         holdtime,
