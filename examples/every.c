@@ -28,7 +28,7 @@
 #define FIELD(type, field, at, size) HOLDS(offsetof(type, field) == (at) && sizeof(((type *)0)->field) == (size))
 
 /* Whoever changes a size, an offset or a constant that is asserted here raises the version. */
-HOLDS(PIM_VERSION == 3);
+HOLDS(PIM_VERSION == 4);
 
 HOLDS(sizeof(size_t) == 8);
 HOLDS(sizeof(bool) == 1);
@@ -173,7 +173,7 @@ HOLDS(PIM_ASSERT_ENTRY == 4 + 4 + 4 + 4);
 HOLDS(PIM_PAIR_ENTRY == 4 + 4);
 HOLDS(PIM_LEAST_LIMIT == 38);
 HOLDS(PIM_GREATEST_LIMIT == 65515);
-HOLDS(PIM_USUAL_LIMIT == 1480);
+HOLDS(PIM_USUAL_LIMIT == 576 - 20);
 HOLDS(PIM_R_BIT == 0xffffffffu - 0x7fffffffu);
 HOLDS(PIM_USUAL_HOLDTIME == 105);
 HOLDS(PIM_LONGEST_HELLO == 4 + (2 + 2 + 2) + (2 + 2 + 4) + (2 + 2));
@@ -205,8 +205,10 @@ HOLDS(PIM_POPCOUNT_DIAMETER == 1 << 9);
 HOLDS(PIM_POPCOUNT_TIME_ZONE == 1 << 8);
 
 /* They are constant where n is. */
-HOLDS(PIM_MOST_ASSERTS(PIM_USUAL_LIMIT) == 241);
-HOLDS(PIM_MOST_PAIRS(PIM_USUAL_LIMIT) == 105);
+HOLDS(PIM_MOST_ASSERTS(PIM_USUAL_LIMIT) == 87);
+HOLDS(PIM_MOST_PAIRS(PIM_USUAL_LIMIT) == 39);
+HOLDS(PIM_MOST_ASSERTS(1480) == 241);
+HOLDS(PIM_MOST_PAIRS(1480) == 105);
 
 /* ---- what can go wrong */
 
@@ -372,7 +374,7 @@ static size_t smallest(uint8_t *m, size_t k)
 /* A message attains each bound, and needs all of the room that the bound says. */
 static void most_is_attained(void)
 {
-    static const size_t bounds[] = {26, 41, 42, 43, 49, 50, 55, 56, 62, PIM_USUAL_LIMIT, PIM_LONGEST_MESSAGE};
+    static const size_t bounds[] = {26, 41, 42, 43, 49, 50, 55, 56, 62, PIM_USUAL_LIMIT, 1480, PIM_LONGEST_MESSAGE};
     static uint8_t m[PIM_LONGEST_MESSAGE], entries[PIM_ASSERT_ENTRY * PIM_MOST_ASSERTS(PIM_LONGEST_MESSAGE)];
     size_t i;
 
@@ -621,7 +623,7 @@ static bool packed(pim_pack_answer p, size_t length, size_t taken)
 /* A plain assert, and the rule book's first example from its entry. */
 static void plain_and_simple(void)
 {
-    uint8_t entries[67 * PIM_ASSERT_ENTRY], buffer[PIM_USUAL_LIMIT], plain[26] = {0x25};
+    uint8_t entries[67 * PIM_ASSERT_ENTRY], buffer[1480], plain[26] = {0x25};
     pim_pack_answer p;
 
     make_entries(entries, 67);
@@ -633,13 +635,30 @@ static void plain_and_simple(void)
 
     p = CALLED(pim_pack_simple(entries, PIM_ASSERT_ENTRY, 0, PIM_LEAST_LIMIT, buffer, sizeof buffer));
     EXPECT(packed(p, 30, 1) && memcmp(buffer, example, 30) == 0 && untouched(buffer, 30, sizeof buffer));
-    /* 67 entries left at the usual limit: 66 taken, 1,460 octets; 66 left: the same */
-    p = CALLED(pim_pack_simple(entries, sizeof entries, 0, 0, buffer, sizeof buffer));
+    /* limit 1,480, 67 entries left: 66 taken, 1,460 octets; 66 left: the same */
+    p = CALLED(pim_pack_simple(entries, sizeof entries, 0, 1480, buffer, sizeof buffer));
     EXPECT(packed(p, 1460, 66) && CALLED(pim_checksum_holds(buffer, 1460)) && untouched(buffer, 1460, sizeof buffer));
-    p = CALLED(pim_pack_simple(entries, sizeof entries, 1, PIM_USUAL_LIMIT, buffer, sizeof buffer));
+    p = CALLED(pim_pack_simple(entries, sizeof entries, 1, 1480, buffer, sizeof buffer));
     EXPECT(packed(p, 1460, 66));
     p = CALLED(pim_pack_simple(entries, sizeof entries, 67, 0, buffer, sizeof buffer));
     EXPECT(packed(p, 0, 0));
+}
+
+/* Limit 0 is the usual one, and the buffer needs room for that: of 22 octets each, after 8, 24 entries fit. */
+static void limit_0(void)
+{
+    uint8_t entries[67 * PIM_ASSERT_ENTRY], buffer[PIM_USUAL_LIMIT], named[PIM_USUAL_LIMIT];
+    pim_pack_answer p;
+
+    make_entries(entries, 67);
+    memset(buffer, UNTOUCHED, sizeof buffer);
+    memset(named, UNTOUCHED, sizeof named);
+    p = CALLED(pim_pack_simple(entries, sizeof entries, 0, 0, buffer, 555));
+    EXPECT(refused(p.refusal, PIM_NO_ROOM, 0) && untouched(buffer, 0, sizeof buffer));
+    p = CALLED(pim_pack_simple(entries, sizeof entries, 0, 0, buffer, 556));
+    EXPECT(packed(p, 536, 24) && CALLED(pim_checksum_holds(buffer, 536)) && untouched(buffer, 536, sizeof buffer));
+    p = CALLED(pim_pack_simple(entries, sizeof entries, 0, PIM_USUAL_LIMIT, named, sizeof named));
+    EXPECT(packed(p, 536, 24) && memcmp(buffer, named, sizeof named) == 0);
 }
 
 /* Three R=0 entries, one source and metric: 50 octets at limit 50; at 49, messages of 42 and 34. */
@@ -1202,6 +1221,7 @@ int main(void)
     hellos();
     hellos_written();
     plain_and_simple();
+    limit_0();
     source_aggregated();
     rp_aggregated();
     pairs_packed();

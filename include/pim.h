@@ -47,8 +47,8 @@ extern "C" {
 
 /* Each change of this file that a caller can notice raises it: a name, a layout, a number, a size, or what a call does.
  * It is no version of the protocol. 2: counters and rows are lent, names of Pop-Count begin pim_popcount_, the sheet's
- * counts are pim_sheet_counts. 3: pim_write_hello, and PIM_LONGEST_HELLO. */
-#define PIM_VERSION 3
+ * counts are pim_sheet_counts. 3: pim_write_hello, and PIM_LONGEST_HELLO. 4: limit 0 is 556, before it was 1480. */
+#define PIM_VERSION 4
 
 /* ---- sizes and limits, in octets where nothing else is said */
 
@@ -59,7 +59,7 @@ extern "C" {
 #define PIM_PAIR_ENTRY 8          /* group, source: 4 octets each */
 #define PIM_LEAST_LIMIT 38        /* of a message that is packed */
 #define PIM_GREATEST_LIMIT 65515  /* the longest message */
-#define PIM_USUAL_LIMIT 1480      /* what limit 0 is read as */
+#define PIM_USUAL_LIMIT 556       /* what limit 0 is read as: a datagram of 576, without its IP header */
 #define PIM_USUAL_HOLDTIME 105    /* seconds, of a Hello that has none */
 #define PIM_LONGEST_HELLO 22      /* the longest that is written */
 #define PIM_ROWS 16               /* rows of a neighbour table, and neighbours of a sheet at most */
@@ -74,8 +74,10 @@ extern "C" {
 
 /* The most entries that a message of n octets or fewer can give: of pim_read_asserts, and of pim_read_pairs. Both are
  * exact: some message of at most n octets gives so many. They take n more than once, and are constant where n is.
+ * A message that is read may be longer than PIM_USUAL_LIMIT; on Ethernet, in datagrams of 1,500 octets, it has up to
+ * 1,480.
  *
- *     uint8_t entries[PIM_ASSERT_ENTRY * PIM_MOST_ASSERTS(PIM_USUAL_LIMIT)];
+ *     uint8_t entries[PIM_ASSERT_ENTRY * PIM_MOST_ASSERTS(1480)];
  *
  * A plain assert has 26 octets; a source aggregated record of two groups makes 42, and an RP aggregated record of one
  * group and k sources 32 + 6k. Pairs take 4 + 14k. */

@@ -48,8 +48,11 @@ example1 = be 30 0x2501e558_00000000_01000020e8010101_01000a000001_0000006e_0000
 unfoldable pub calls : List Row
 calls =
     -- limit 0 is the usual one, and 8 is against it
-    packs (simple ipv4) (octetsOf (flows 67)) 0 0 1480 (gives (wrote 1460 66))
-    ∷ packs (simple ipv4) (octetsOf (flows 67)) 0 0 1479 (refuses 8 0)
+    packs (simple ipv4) (octetsOf (flows 67)) 0 0 556 (gives (wrote 536 24))
+    ∷ packs (simple ipv4) (octetsOf (flows 67)) 0 0 555 (refuses 8 0)
+    -- one call passes 0 and the next the limit that 0 is read as
+    ∷ packs (aggregated ipv4) (octetsOf (flows 70)) 0 0 556 (gives (wrote 554 66))
+    ∷ packs (aggregated ipv4) (octetsOf (flows 70)) 66 556 556 (gives (wrote 58 4))
     -- the limits' ends
     ∷ packs (aggregated ipv4) (octetsOf (shared 1 ∷ [])) 0 38 38 (gives (wrote 38 1))
     ∷ packs (aggregated ipv4) (octetsOf (shared 1 ∷ [])) 0 65515 65515 (gives (wrote 38 1))

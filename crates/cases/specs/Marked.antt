@@ -27,9 +27,9 @@ AssertForm = Form (assertEntries ipv4)
 
 -- ---- what a row says
 
--- "Limits run from 38 to 65,515; limit 0 is read as 1,480": a limit, and the octets it allows
+-- "Limits run from 38 to 65,515", and "Limit 0 is to mean 556" (E2): a limit, and the octets it allows
 pub data Allowed : ℕ → ℕ → Type 0 where
-  usual : Allowed 0 1480
+  usual : Allowed 0 556
   told : {limit : ℕ} → 38 ≤ limit → limit ≤ 65515 → Allowed limit limit
 
 -- calls for the empty list at a limit of l octets

@@ -108,7 +108,7 @@ limit-range f limit l e = go (eqb limit 0) refl (leb (leastLimit f) limit) refl 
   where
     go : (z : Bool) → eqb limit 0 ≡ z → (a : Bool) → leb (leastLimit f) limit ≡ a → (b : Bool) → leb limit longest ≡ b → (leastLimit f ≤ usualLimit → leastLimit f ≤ l) × (l ≤ longest)
     go true z a ea b eb =
-        let same : 1480 ≡ l = gives-same (rw z at e) in
+        let same : usualLimit ≡ l = gives-same (rw z at e) in
         (λ usual. omega arith, omega arith)
     go false z true ea true eb =
         let same : limit ≡ l = gives-same (rw (z, ea, eb) at e) in

@@ -1,5 +1,6 @@
 -- The two families are lawful, so every theorem holds of them.
 --     lawful              what the theorems ask of a family
+--     least-usual         the usual limit is not below the family's least one
 --     given               any limit that is read lies in its family's range, so demand 3 speaks of it
 --     lossless6, least6, mostThatFit6, fewest6     the theorems on joining, sizes and trains at 16 octets
 -- Assumes nothing.
@@ -30,7 +31,7 @@ pub lawful : (isIpv6 : Bool) → Lawful (familyOf isIpv6)
 lawful false = record { wide = lit< tt; familyOctet = lit< tt; maskOctet = lit< tt; zeroIsNone = refl }
 lawful true = record { wide = lit< tt; familyOctet = lit< tt; maskOctet = lit< tt; zeroIsNone = refl }
 
-least-usual : (isIpv6 : Bool) → leastLimit (familyOf isIpv6) ≤ usualLimit
+pub least-usual : (isIpv6 : Bool) → leastLimit (familyOf isIpv6) ≤ usualLimit
 unfolding leastLimit usualLimit
 least-usual false = lit≤ tt
 least-usual true = lit≤ tt

@@ -27,9 +27,9 @@ use Rattle.format.specs.declared.Kind.the-variants.{Assert, Simple, Aggr
 
 -- ---- limits
 
--- "limit 0 is read as 1,480" (E2 changes it)
+-- E2: "Limit 0 is to mean 556 from now on (a 576-octet datagram without its IP header)", in each family
 unfoldable pub usualLimit : ℕ
-usualLimit = 1480
+usualLimit = 556
 
 -- "Limits run from 38 to 65,515": from the largest message of one entry, an aggregated one with R=1 and a source
 unfoldable pub leastLimit : Family → ℕ

@@ -1,8 +1,9 @@
-// The vocabulary that the crates above share: the kinds of message with their numbers, a refusal, what writing octets
-// did, an address, the two records and the R bit. What each means in octets is in specs/, and so are the theorems'
+// The vocabulary that the crates above share: the kinds of message with their numbers, limits, a refusal, what writing
+// octets did, an address, the two records and the R bit. What each means in octets is in specs/, and so are the theorems'
 // statements; there is hardly any code.
 ghost use mathlib.Core.Path.{_≡_};
 ghost use Rattle.records.specs.Records.{rBit};
+ghost use Rattle.format.specs.Packing.{usualLimit};
 ghost use Rattle.format.specs.Values.{kindNumber, kindNamed, namedBy};
 
 // The six kinds of message, in 01's order.
@@ -50,11 +51,15 @@ pub fn kind_named(number: u8) -> Named
 }
 
 // Limits run from the least to the greatest; limit 0 is read as the usual one.
-pub const USUAL_LIMIT: usize = 1480;
-
 pub const LEAST_LIMIT: usize = 38;
 
 pub const GREATEST_LIMIT: usize = 65515;
+
+pub fn usual_limit() -> usize
+    ensures { λ r. ⌜ r ≡ usualLimit ⌝ }
+{
+    556
+}
 
 // A number of 01's table, and the place at fault.
 #[repr(C)]

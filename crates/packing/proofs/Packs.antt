@@ -14,12 +14,12 @@ use Rattle.format.specs.Outcome
 use Rattle.format.specs.Outcome.{Outcome, gives, refuses}
 use Rattle.format.specs.Entry.{Entries, entriesOf}
 use Rattle.format.specs.Family.{familyOf}
-use Rattle.format.specs.Packing.{leastLimit, usualLimit, Form, Due, due, asked, Packed, octetsOf, tookOf, pack, wrote, written, packDue, packing}
+use Rattle.format.specs.Packing.{leastLimit, Form, Due, due, asked, Packed, octetsOf, tookOf, pack, wrote, written, packDue, packing}
 use Rattle.format.specs.declared.Kind.{Kind}
 use Rattle.format.specs.declared.Refusal.{Refusal}
 use Rattle.format.proofs.Outcomes.{no-refusal, gives-same}
 use Rattle.format.proofs.Calls.{limit-range, Asked, asked-gives, gives-asked}
-use Rattle.addresses.proofs.Laws.{width-range}
+use Rattle.format.proofs.Families.{least-usual}
 use Rattle.packing.specs.Answers.{limitOf, limited}
 use Rattle.packing.specs.declared.limit.Limit.{Limit}
 use Rattle.packing.specs.declared.limit.Limit.the-variants.{Is, Refused}
@@ -46,8 +46,7 @@ call-refused F o start limit d n p e = rw e
 
 -- the limit that was read
 pub asked-limit : (ipv6 : Bool) (k : Kind) (o : List ℕ) (start limit room l : ℕ) → Asked (entriesFor ipv6 k) o start limit room l → leastLimit (familyOf ipv6) ≤ l
-unfolding leastLimit usualLimit
-asked-limit ipv6 k o start limit room l h = limit-range (familyOf ipv6) limit l (rw (family-is ipv6 k) at (h .limitRead)) .0 (omega (arith, width-range ipv6))
+asked-limit ipv6 k o start limit room l h = limit-range (familyOf ipv6) limit l (rw (family-is ipv6 k) at (h .limitRead)) .0 (least-usual ipv6)
 
 -- a call that is not refused packs the entries from the start on
 pub call-packs : {E : Entries} (F : Form E) (o : List ℕ) (start limit l : ℕ) (d : List ℕ) (p : Packed) → Asked E o start limit (length d) l → p ≡ pack F l (drop start (entriesOf E o))

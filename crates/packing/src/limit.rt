@@ -6,7 +6,7 @@ use entries::first_bad;
 use format::GREATEST_LIMIT;
 use format::Kind;
 use format::Refusal;
-use format::USUAL_LIMIT;
+use format::usual_limit;
 ghost use mathlib.Core.Path.{_≡_};
 ghost use Rattle.format.specs.Family.{familyOf};
 ghost use Rattle.format.specs.Packing.{readLimit, asked as askedOf};
@@ -29,7 +29,7 @@ fn read_limit(ipv6: bool, limit: usize) -> Limit
     ensures { λ r. ⌜ limitOf r ≡ readLimit (familyOf ipv6) limit ⌝ }
 {
     if limit == 0 {
-        return Limit::Is(USUAL_LIMIT);
+        return Limit::Is(usual_limit());
     }
     if limit < least_limit(ipv6) {
         return refused(9, 0);

@@ -87,21 +87,24 @@ fn messages(three: &[u8]) {
     show(b"choice, three at limit 49: ", three, 0, 49);
     show(b"choice, two at limit 52: ", two, 0, 52);
     show(b"choice, equal number and length: ", four, 0, 0);
+    lent(b"choice, limit 0 and 556 octets: ", three, 0, 0, 556, 556);
 }
 
 // The part is empty.
 fn no_message(three: &[u8]) {
     show(b"choice, end of the list: ", three, 3, 0);
     show(b"choice, start past the end: ", three, 4, 0);
-    lent(b"choice, simple buffer short: ", three, 0, 0, 1479, 1480);
+    lent(b"choice, simple buffer short: ", three, 0, 1480, 1479, 1480);
     lent(
         b"choice, aggregated buffer short: ",
         three,
         0,
-        0,
+        1480,
         1480,
         1479,
     );
+    lent(b"choice, limit 0, simple 555: ", three, 0, 0, 555, 556);
+    lent(b"choice, limit 0, aggregated 555: ", three, 0, 0, 556, 555);
 }
 
 pub(crate) fn run() {

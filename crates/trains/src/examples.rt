@@ -1,4 +1,4 @@
-// The examples that 01 marks for the packing calls, by their numbers there.
+// The examples that 01 marks for the packing calls, by their numbers there, and limit 0.
 use crate::call::pack;
 use crate::output::answer;
 use octets::number16;
@@ -19,6 +19,16 @@ fn example_3(list: &[u8]) {
     show(b"example 3, 67 left: ", p);
     let q = packing::pack_simple(list, 958, 1480, &mut d);
     show(b"example 3, 66 left: ", q);
+}
+
+// "Limit 0 is to mean 556": the 67 entries of example 3, with as many octets lent, and with one less.
+fn limit_0(list: &[u8]) {
+    let mut enough = [0; 556];
+    let p = packing::pack_simple(list, 957, 0, &mut enough);
+    show(b"limit 0, 67 left: ", p);
+    let mut short = [0; 555];
+    let q = packing::pack_simple(list, 957, 0, &mut short);
+    show(b"limit 0, 555 octets lent: ", q);
 }
 
 fn taken_by(p: Packing) -> usize {
@@ -81,6 +91,7 @@ fn example_8() {
 
 pub(crate) fn run(list: &[u8]) {
     example_3(list);
+    limit_0(list);
     example_4();
     example_5();
     example_6();

@@ -106,14 +106,22 @@ struct Total {
     taken: usize,
 }
 
-fn pack_all(e: &[u8], limit: usize, d: &mut [u8], back: &mut [u8]) -> Total
+// The limit of the next call: the first passes one, the second the other, and so on by turns.
+fn in_turn(one: usize, other: usize, messages: usize) -> usize {
+    if messages % 2 == 0 {
+        return one;
+    }
+    other
+}
+
+fn pack_all(e: &[u8], one: usize, other: usize, d: &mut [u8], back: &mut [u8]) -> Total
     requires { ⌜ (length (now d) ≡ 65536) × (length (now back) ≡ 16384) ⌝ }
 {
     let mut messages = 0;
     let mut octets = 0;
     let mut taken = 0;
     while taken < COUNT {
-        let s = next_message(e, taken, limit, d, back);
+        let s = next_message(e, taken, in_turn(one, other, messages), d, back);
         if s.taken == 0 {
             break;
         }
@@ -137,21 +145,35 @@ fn compare(packed: &[u8], read: &[u8]) -> bool {
     number(b", read back: another list, from entry ", (at / 16) as u64) && text(b" on\n")
 }
 
-// The train at a limit, with buffers of its own, so that nothing of another train can be read. A train that is not
-// whole has said why.
-fn run_at(list: &[u8], limit: usize)
+// A train, with buffers of its own, so that nothing of another train can be read. One that is not whole has said why.
+fn show(list: &[u8], one: usize, other: usize)
     requires { ⌜ length (now list) ≡ 16384 ⌝ }
 {
     let mut d = io::large_buffer();
     let mut back = room();
-    number(b"limit ", limit as u64);
     text(b": ");
-    let t = pack_all(list, limit, &mut d, &mut back);
+    let t = pack_all(list, one, other, &mut d, &mut back);
     if t.taken == COUNT {
         number(b"messages ", t.messages as u64);
         number(b", octets ", t.octets as u64);
         compare(list, &back);
     }
+}
+
+fn run_at(list: &[u8], limit: usize)
+    requires { ⌜ length (now list) ≡ 16384 ⌝ }
+{
+    number(b"limit ", limit as u64);
+    show(list, limit, limit);
+}
+
+fn run_by_turns(list: &[u8], one: usize, other: usize)
+    requires { ⌜ length (now list) ≡ 16384 ⌝ }
+{
+    number(b"limits ", one as u64);
+    number(b" and ", other as u64);
+    text(b" by turns");
+    show(list, one, other);
 }
 
 pub(crate) fn run(list: &[u8])
@@ -162,6 +184,9 @@ pub(crate) fn run(list: &[u8])
     run_at(list, 38);
     run_at(list, 49);
     run_at(list, 50);
+    run_at(list, 0);
+    run_at(list, 556);
+    run_by_turns(list, 0, 556);
     run_at(list, 576);
     run_at(list, 1480);
     run_at(list, 9000);

@@ -3,15 +3,15 @@
 use mathlib.Core.Path.{sym}
 use borrow.Author.Needs.{needs}
 use Rattle.format.specs.Family.{familyOf}
-use Rattle.format.specs.Packing.{usualLimit}
 use Rattle.packing.specs.Answers.{limitOf}
 use Rattle.packing.proofs.Asks.{limit-usual, limit-low, limit-high, limit-within}
 use Rattle.packing.proofs.limit.read_limit.Statement.{statement}
 use Rattle.packing.proofs.limit.read_limit.Tie as tie
 
 returns : tie.Need-returns
-unfolding limitOf usualLimit
-returns c = sym (limit-usual (familyOf (c .before .args .ipv6)) (c .before .args .limit) (c .if1 .taken))
+unfolding limitOf
+returns c =
+    rw (c .usual-limit .ensures) (sym (limit-usual (familyOf (c .before .before .args .ipv6)) (c .before .before .args .limit) (c .before .if1 .taken)))
 
 returns-2 : tie.Need-returns-2
 unfolding limitOf
@@ -35,6 +35,7 @@ pub read-limit-spec : {M : Type 1} → statement M
 read-limit-spec =
     tie.close
     (tie.spec
+    (λ c κs. search needs)
     returns
     (λ c κs. search needs)
     (λ c κs. search needs)
