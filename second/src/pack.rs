@@ -4,8 +4,8 @@
 use crate::checksum::checksum;
 use crate::{assert_entry_ok, pair_entry_ok, refuse, Answer, MESSAGE_MOST};
 
-/// The limit that 0 stands for.
-pub const USUAL_LIMIT: usize = 1_480;
+/// The limit that 0 stands for: a datagram of 576 octets without its IP header.
+pub const USUAL_LIMIT: usize = 556;
 /// The least limit: one RP aggregated record with one source fits.
 pub const LEAST_LIMIT: usize = 38;
 

@@ -3,15 +3,27 @@ mod common;
 use common::*;
 use second::brute::least_messages;
 use second::pack::pack_aggregated;
+use second::read::read_asserts;
 use second::rng::Rng;
 
-fn messages(list: &[u8], limit: usize, buffer: &mut [u8]) -> usize {
-    let (mut start, mut messages) = (0, 0);
-    while 16 * start < list.len() {
-        let (_, taken) = pack_aggregated(list, start, limit, buffer).unwrap();
+/// Packs a list to its end, the limits passed by turns, and hands each message
+/// on.
+fn pack_all(list: &[u8], limits: &[usize], buffer: &mut [u8], mut each: impl FnMut(&[u8])) {
+    let mut start = 0;
+    for limit in limits.iter().cycle() {
+        if 16 * start >= list.len() {
+            break;
+        }
+        let (length, taken) = pack_aggregated(list, start, *limit, buffer).unwrap();
+        assert!(taken > 0);
+        each(&buffer[..length]);
         start += taken;
-        messages += 1;
     }
+}
+
+fn messages(list: &[u8], limit: usize, buffer: &mut [u8]) -> usize {
+    let mut messages = 0;
+    pack_all(list, &[limit], buffer, |_| messages += 1);
     messages
 }
 
@@ -96,6 +108,55 @@ fn larger_limits_write_no_more() {
             before = count;
         }
     }
+}
+
+/// The messages of a list, the limits passed by turns.
+fn train(list: &[u8], limits: &[usize]) -> Vec<Vec<u8>> {
+    let mut train = Vec::new();
+    pack_all(list, limits, &mut [0; 556], |message| train.push(message.to_vec()));
+    train
+}
+
+fn unpacked(train: &[Vec<u8>]) -> Vec<u8> {
+    let mut list = Vec::new();
+    for message in train {
+        let mut entries = [0; 16 * 100];
+        let (_, count) = read_asserts(message, &mut entries).unwrap();
+        list.extend_from_slice(&entries[..16 * count]);
+    }
+    list
+}
+
+/// Limit 0 is 556 before demand 3 asks for the same limit, so calls that pass
+/// either are one train.
+#[test]
+fn limits_0_and_556_by_turns() {
+    let mut rng = Rng::new(556);
+    for count in 0..300 {
+        let list = random_entries(&mut rng, count);
+        let open = train(&list, &[556]);
+        assert!(open.iter().all(|message| message.len() <= 556));
+        assert_eq!(unpacked(&open), list);
+        for limits in [&[0][..], &[0, 556], &[556, 0]] {
+            assert_eq!(train(&list, limits), open, "{limits:?}");
+        }
+    }
+}
+
+#[test]
+fn limit_0_between_its_neighbours() {
+    let mut rng = Rng::new(557);
+    let mut buffer = [0; 557];
+    let mut counts = |list: &[u8]| [555, 0, 557].map(|limit| messages(list, limit, &mut buffer));
+    for count in 0..300 {
+        assert!(counts(&random_entries(&mut rng, count)).is_sorted_by(|a, b| a >= b));
+    }
+    // A group of one source and 83 sources of another group take
+    // 8 + (18 + 8) + (12 + 12 + 6 * 83) = 556 octets: one message, but two at 555.
+    let rp: Vec<u8> = (1..=83).flat_map(|source| entry(0xE801_0102, source, R, 1)).collect();
+    assert_eq!(counts(&[entry(0xE801_0101, 7, 1, 1), rp].concat()), [2, 1, 1]);
+    // 66 groups of one source fill a message, since 8 + 18 + 8 * 66 = 554; 200 = 3 * 66 + 2.
+    assert_eq!(counts(&same_source(200)), [4, 4, 4]);
 }
 
 #[test]

@@ -265,7 +265,7 @@ fn number_8_buffers() {
     assert_eq!(read_pairs(&m, &mut []), refusal(7, 18));
     for start in [0, 1, 2] {
         let mut buffer = [0x77; 1479];
-        assert_eq!(pack_simple(&entry(0, 0, 0, 0), start, 0, &mut buffer), refusal(8, 0));
+        assert_eq!(pack_simple(&entry(0, 0, 0, 0), start, 1480, &mut buffer), refusal(8, 0));
         assert_eq!(pack_aggregated(&entry(0, 0, 0, 0), start, 1480, &mut buffer), refusal(8, 0));
         assert_eq!(buffer, [0x77; 1479]);
     }
@@ -319,7 +319,7 @@ fn number_9_limits() {
 
 #[test]
 fn number_10_entry_lists() {
-    let mut buffer = [0x77; 1480];
+    let mut buffer = [0x77; 556];
     let bad = entry(0, 0, 0, 0);
     for start in [0, 1, 2, usize::MAX] {
         assert_eq!(pack_simple(&bad[..15], start, 0, &mut buffer), refusal(10, 0));
@@ -328,12 +328,12 @@ fn number_10_entry_lists() {
     assert_eq!(pack_assert(&bad, 2, 0, &mut buffer), refusal(10, 0));
     assert_eq!(pack_register_stop(&bad, 3, 0, &mut buffer), refusal(10, 0));
     assert_eq!(pack_register_stop(&bad, 2, 0, &mut buffer), Ok((0, 0)));
-    assert_eq!(buffer, [0x77; 1480]);
+    assert_eq!(buffer, [0x77; 556]);
 }
 
 #[test]
 fn packing_number_7_looks_to_the_end() {
-    let mut buffer = [0x77; 1480];
+    let mut buffer = [0x77; 556];
     let good = entry(G, S, 1, 2);
     let list = [entry(G, 0, 1, 2), good.clone(), good.clone(), entry(0x7FFF_FFFF, S, 1, 2)].concat();
     for pack in [pack_assert, pack_simple, pack_aggregated] {
@@ -344,7 +344,7 @@ fn packing_number_7_looks_to_the_end() {
     let list = [pair(0, S), pair(G, 0), pair(G, S)].concat();
     assert_eq!(pack_null_register(&list, 0, 0, &mut buffer), refusal(7, 0));
     assert_eq!(pack_null_register(&list, 1, 0, &mut buffer), refusal(7, 1));
-    assert_eq!(buffer, [0x77; 1480]);
+    assert_eq!(buffer, [0x77; 556]);
     assert_eq!(pack_register_stop(&list, 1, 0, &mut buffer), Ok((32, 2)));
 }
 

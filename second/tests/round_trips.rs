@@ -6,32 +6,13 @@ use second::hello::*;
 use second::pack::*;
 use second::read::*;
 use second::rng::Rng;
-use second::{Answer, Kind};
+use second::Kind;
 use std::collections::HashSet;
-
-type Pack = fn(&[u8], usize, usize, &mut [u8]) -> Answer<(usize, usize)>;
-type Read = fn(&[u8], &mut [u8]) -> Answer<(Kind, usize)>;
-
-/// One way to pack and read back.
-struct Form {
-    kind: Kind,
-    size: usize,
-    pack: Pack,
-    read: Read,
-}
-
-const ASSERT: Form = Form { kind: Kind::Assert, size: 16, pack: pack_assert, read: read_asserts };
-const SIMPLE: Form = Form { kind: Kind::Simple, size: 16, pack: pack_simple, read: read_asserts };
-const AGGREGATED: Form = Form { kind: Kind::Aggregated, size: 16, pack: pack_aggregated, read: read_asserts };
-const NULL_REGISTER: Form =
-    Form { kind: Kind::NullRegister, size: 8, pack: pack_null_register, read: read_pairs };
-const REGISTER_STOP: Form =
-    Form { kind: Kind::RegisterStop, size: 8, pack: pack_register_stop, read: read_pairs };
 
 /// Packs the whole list and reads it back; the number of messages.
 fn train(form: &Form, list: &[u8], limit: usize) -> usize {
     let count = list.len() / form.size;
-    let room = if limit == 0 { 1480 } else { limit };
+    let room = if limit == 0 { USUAL_LIMIT } else { limit };
     let mut buffer = vec![0; room + 2];
     let mut back = vec![0x99; list.len() + 1];
     let (mut start, mut messages) = (0, 0);
@@ -73,7 +54,7 @@ fn small_limits() {
 #[test]
 fn large_limits() {
     let mut rng = Rng::new(9465);
-    for limit in [0, 1480, 1481, 9000, 65_514, 65_515] {
+    for limit in [0, 555, 556, 557, 1480, 1481, 9000, 65_514, 65_515] {
         let list = random_entries(&mut rng, 9000);
         train(&AGGREGATED, &list, limit);
         train(&SIMPLE, &list, limit);

@@ -3,10 +3,32 @@
 
 use second::checksum::checksum;
 use second::hello::Hello;
+use second::pack::*;
+use second::read::{read_asserts, read_pairs};
 use second::rng::Rng;
-use second::{Answer, Refusal};
+use second::{Answer, Kind, Refusal};
 
 pub const R: u32 = 0x8000_0000;
+
+pub type Pack = fn(&[u8], usize, usize, &mut [u8]) -> Answer<(usize, usize)>;
+pub type Read = fn(&[u8], &mut [u8]) -> Answer<(Kind, usize)>;
+
+/// One way to pack and read back.
+pub struct Form {
+    pub kind: Kind,
+    pub size: usize,
+    pub pack: Pack,
+    pub read: Read,
+}
+
+pub const ASSERT: Form = Form { kind: Kind::Assert, size: 16, pack: pack_assert, read: read_asserts };
+pub const SIMPLE: Form = Form { kind: Kind::Simple, size: 16, pack: pack_simple, read: read_asserts };
+pub const AGGREGATED: Form =
+    Form { kind: Kind::Aggregated, size: 16, pack: pack_aggregated, read: read_asserts };
+pub const NULL_REGISTER: Form =
+    Form { kind: Kind::NullRegister, size: 8, pack: pack_null_register, read: read_pairs };
+pub const REGISTER_STOP: Form =
+    Form { kind: Kind::RegisterStop, size: 8, pack: pack_register_stop, read: read_pairs };
 
 pub fn refusal<T>(number: u8, place: usize) -> Answer<T> {
     Err(Refusal { number, place })
@@ -60,6 +82,11 @@ pub fn pair_record(group: u32, source: u32) -> Vec<u8> {
 
 pub fn words(numbers: &[u32]) -> Vec<u8> {
     numbers.iter().flat_map(|word| word.to_be_bytes()).collect()
+}
+
+/// Assert entries of one source, each with another group.
+pub fn same_source(count: u32) -> Vec<u8> {
+    (0..count).flat_map(|i| entry(0xE801_0101 + i, 0x0A00_0001, 110, 20)).collect()
 }
 
 /// An assert entry from a small alphabet, so that neighbours often join.

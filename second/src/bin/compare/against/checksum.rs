@@ -5,7 +5,7 @@ use super::{calls, Run};
 use second::checksum::checksum;
 
 pub fn compare(run: &mut Run) {
-    for length in (0..=300).chain([1_479, 1_480, 65_514, 65_515, 65_516, 65_535, 65_536, 1 << 20]) {
+    for length in (0..=300).chain([555, 556, 1_479, 1_480, 65_514, 65_515, 65_516, 65_535, 65_536, 1 << 20]) {
         for fill in [0, 0xFF, 0x80] {
             any(run, &vec![fill; length]);
         }

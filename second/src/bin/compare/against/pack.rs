@@ -53,12 +53,17 @@ pub const REGISTER_STOP: Form = Form {
 pub const FORMS: [Form; 5] = [ASSERT, SIMPLE, AGGREGATED, NULL_REGISTER, REGISTER_STOP];
 
 /// Limits beyond those that are all tried, some of them refused.
-const LIMITS: [usize; 12] = [0, 1, 37, 38, 1_479, 1_480, 9_000, 65_514, 65_515, 65_516, 1 << 32, usize::MAX];
+const LIMITS: [usize; 16] =
+    [0, 1, 37, 38, 555, 556, 557, 576, 1_479, 1_480, 9_000, 65_514, 65_515, 65_516, 1 << 32, usize::MAX];
+
+/// Lists from none to more than a message of a common limit takes.
+const COUNTS: [usize; 6] = [0, 1, 5, 70, 300, 4_000];
 
 pub fn compare(run: &mut Run) {
     for _ in 0..run.rounds {
         every_limit(run);
         other_limits(run);
+        usual_limit(run);
     }
     for _ in 0..30_000 * run.rounds {
         disorder(run);
@@ -82,6 +87,11 @@ pub fn as_read(limit: usize) -> usize {
     }
 }
 
+/// Room for a limit. One that is refused needs no buffer of its size.
+fn enough(limit: usize) -> usize {
+    as_read(limit).min(70_000)
+}
+
 fn every_limit(run: &mut Run) {
     for limit in 38..=200 {
         for _ in 0..40 {
@@ -93,8 +103,18 @@ fn every_limit(run: &mut Run) {
 
 fn other_limits(run: &mut Run) {
     for limit in LIMITS {
-        for count in [0, 1, 5, 70, 300, 4_000] {
+        for count in COUNTS {
             every_form(run, count, limit);
+        }
+    }
+}
+
+/// Limit 0 in rooms from none to far beyond it: however large the room, the
+/// message is no longer.
+fn usual_limit(run: &mut Run) {
+    for room in [0, 38, 554, 555, 556, 557, 576, 1_479, 1_480, 1_481, 65_515, 70_000] {
+        for count in COUNTS {
+            in_room(run, count, 0, room);
         }
     }
 }
@@ -102,19 +122,26 @@ fn other_limits(run: &mut Run) {
 /// Each call on a good list, with a buffer that is too small by one, exactly
 /// enough and larger.
 fn every_form(run: &mut Run, count: usize, limit: usize) {
-    // A limit that is refused needs no buffer of its size.
-    let enough = as_read(limit).min(70_000);
+    let enough = enough(limit);
     for room in [enough - 1, enough, enough + 1 + run.below(30)] {
-        let start = if run.rng.one_in(3) { 0 } else { run.below(count + 2) };
-        for form in FORMS {
-            let list = list(run, form, count);
-            let list = run.input("entries", &list);
-            one(run, form, &list, start, limit, room);
-        }
-        let list = make::asserts(&mut run.rng, count);
+        in_room(run, count, limit, room);
+    }
+}
+
+/// Each call on a good list; the choice with that room for either buffer, and
+/// for both.
+fn in_room(run: &mut Run, count: usize, limit: usize, room: usize) {
+    let enough = enough(limit);
+    let start = if run.rng.one_in(3) { 0 } else { run.below(count + 2) };
+    for form in FORMS {
+        let list = list(run, form, count);
         let list = run.input("entries", &list);
-        both(run, &list, start, limit, [room, enough]);
-        both(run, &list, start, limit, [enough, room]);
+        one(run, form, &list, start, limit, room);
+    }
+    let list = make::asserts(&mut run.rng, count);
+    let list = run.input("entries", &list);
+    for rooms in [[room, enough], [enough, room], [room, room]] {
+        both(run, &list, start, limit, rooms);
     }
 }
 

@@ -44,9 +44,10 @@ const CALLS: [&str; 29] = [
 pub const UNPACKED: &str = "train unpacks to its list";
 pub const LEAST: &str = "train is the least (brute force)";
 pub const LARGER_LIMIT: &str = "larger limit, no longer train";
+pub const USUAL: &str = "limit 0 gives the train at 556";
 pub const READ_BACK: &str = "Hello reads back as what was said";
 
-const CLAIMS: [&str; 4] = [UNPACKED, LEAST, LARGER_LIMIT, READ_BACK];
+const CLAIMS: [&str; 5] = [UNPACKED, LEAST, LARGER_LIMIT, USUAL, READ_BACK];
 
 const NUMBERS: usize = 14;
 const COMPARISONS_LEAST: u64 = 200_000;

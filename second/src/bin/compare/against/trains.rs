@@ -1,10 +1,15 @@
 //! Whole trains: packed to the list's end, with refused calls between, and
-//! read back by both.
+//! read back by both. The calls of a train pass two limits by turns, mostly the
+//! same one twice.
 
 use super::lent::Lent;
 use super::pack::{self, as_read, Form, AGGREGATED, FORMS};
-use super::tally::{LARGER_LIMIT, UNPACKED};
+use super::tally::{LARGER_LIMIT, UNPACKED, USUAL};
 use super::{make, read, Run};
+use second::pack::USUAL_LIMIT;
+
+/// Limits that are all read as the usual one.
+const BY_TURNS: [[usize; 2]; 3] = [[0, 0], [0, USUAL_LIMIT], [USUAL_LIMIT, 0]];
 
 pub fn compare(run: &mut Run) {
     for limit in 38..=200 {
@@ -13,7 +18,7 @@ pub fn compare(run: &mut Run) {
             every_form(run, count, limit);
         }
     }
-    for limit in [0, 38, 39, 1_480, 9_000, 65_514, 65_515] {
+    for limit in [0, 38, 39, 555, 556, 557, 576, 1_480, 9_000, 65_514, 65_515] {
         for _ in 0..run.rounds {
             every_form(run, 700, limit);
             one_run(run, limit);
@@ -21,6 +26,9 @@ pub fn compare(run: &mut Run) {
     }
     for _ in 0..300 * run.rounds {
         larger_limits(run);
+    }
+    for _ in 0..20 * run.rounds {
+        usual_limit(run);
     }
 }
 
@@ -32,37 +40,71 @@ fn every_form(run: &mut Run, count: usize, limit: usize) {
     }
     let list = make::asserts(&mut run.rng, count);
     let list = run.input("entries", &list);
-    train_of_choices(run, &list, limit);
+    train_of_choices(run, &list, [limit; 2]);
 }
 
 /// Many entries that one record takes, as far as the limit goes.
 fn one_run(run: &mut Run, limit: usize) {
-    let count = if limit < 1_000 { 600 } else { 12_000 };
+    let count = if as_read(limit) < 1_000 { 600 } else { 12_000 };
     for r in [0, make::R] {
         let list = run.input("entries", &make::one_run(r, count));
         train(run, AGGREGATED, &list, limit);
     }
 }
 
-/// The train of a list gets no longer with a larger limit.
 fn larger_limits(run: &mut Run) {
     let count = run.below(40);
     let list = make::asserts(&mut run.rng, count);
     let list = run.input("entries", &list);
+    let step = 1 + run.below(9);
+    no_longer(run, &list, (38..=200).step_by(step));
+}
+
+/// The train of a list gets no longer with a larger limit.
+fn no_longer(run: &mut Run, list: &Lent, limits: impl Iterator<Item = usize>) {
     let mut before = usize::MAX;
-    for limit in (38..=200).step_by(1 + run.below(9)) {
-        let messages = train(run, AGGREGATED, &list, limit);
-        run.tally.claim(LARGER_LIMIT, format_args!("limit {limit}"), &list, messages <= before);
+    for limit in limits {
+        let messages = train(run, AGGREGATED, list, limit);
+        run.tally.claim(LARGER_LIMIT, format_args!("limit {limit}"), list, messages <= before);
         before = messages;
     }
 }
 
-/// Packs a list to its end: how many messages. Each is within the limit, takes
-/// an entry or more, and together they unpack to the list.
+/// Limit 0 gives the messages of the limit that it stands for, also where the
+/// calls of a train pass either: no more than one octet less gives, and no
+/// fewer than one more.
+fn usual_limit(run: &mut Run) {
+    let count = run.below(700);
+    for form in FORMS {
+        let list = pack::list(run, form, count);
+        let list = run.input("entries", &list);
+        let open = messages(run, form, &list, [USUAL_LIMIT; 2]);
+        for limits in BY_TURNS {
+            let holds = messages(run, form, &list, limits) == open;
+            run.tally.claim(USUAL, format_args!("limits {limits:?}"), &list, holds);
+        }
+    }
+    let list = make::asserts(&mut run.rng, count);
+    let list = run.input("entries", &list);
+    let open = train_of_choices(run, &list, [USUAL_LIMIT; 2]);
+    for limits in BY_TURNS {
+        let holds = train_of_choices(run, &list, limits) == open;
+        run.tally.claim(USUAL, format_args!("limits {limits:?}, of both forms"), &list, holds);
+    }
+    no_longer(run, &list, [USUAL_LIMIT - 1, 0, USUAL_LIMIT + 1].into_iter());
+}
+
+/// Packs a list to its end: how many messages.
 pub fn train(run: &mut Run, form: Form, list: &Lent, limit: usize) -> usize {
-    let (mut messages, mut taken, mut whole) = (0, 0, true);
+    messages(run, form, list, [limit; 2]).len()
+}
+
+/// The messages of a list. Each is within its limit, takes an entry or more,
+/// and together they unpack to the list.
+fn messages(run: &mut Run, form: Form, list: &Lent, limits: [usize; 2]) -> Vec<Vec<u8>> {
+    let (mut messages, mut taken, mut whole) = (Vec::new(), 0, true);
     let mut entries = Vec::new();
-    loop {
+    for limit in limits.into_iter().cycle() {
         let start = next_start(run, form, list, taken, limit);
         let room = as_read(limit) + run.below(3);
         let (answer, message) = pack::one(run, form, list, start, limit, room);
@@ -71,11 +113,11 @@ pub fn train(run: &mut Run, form: Form, list: &Lent, limit: usize) -> usize {
         }
         whole &= answer.taken > 0 && message.len() <= as_read(limit);
         taken += answer.taken;
-        messages += 1;
         entries.extend((form.read)(run, &message, form.size * answer.taken));
+        messages.push(message);
     }
     let holds = whole && entries == list.second();
-    run.tally.claim(UNPACKED, format_args!("limit {limit}"), list, holds);
+    run.tally.claim(UNPACKED, format_args!("limits {limits:?}"), list, holds);
     messages
 }
 
@@ -89,10 +131,11 @@ fn next_start(run: &mut Run, form: Form, list: &Lent, taken: usize, limit: usize
     taken + refused.taken
 }
 
-fn train_of_choices(run: &mut Run, list: &Lent, limit: usize) {
-    let (mut start, mut whole) = (0, true);
+/// The chosen messages of a list, of which the same holds.
+fn train_of_choices(run: &mut Run, list: &Lent, limits: [usize; 2]) -> Vec<Vec<u8>> {
+    let (mut messages, mut start, mut whole) = (Vec::new(), 0, true);
     let mut entries = Vec::new();
-    loop {
+    for limit in limits.into_iter().cycle() {
         let (taken, message) = pack::both(run, list, start, limit, [as_read(limit); 2]);
         if message.is_empty() {
             break;
@@ -100,7 +143,9 @@ fn train_of_choices(run: &mut Run, list: &Lent, limit: usize) {
         whole &= taken > 0 && message.len() <= as_read(limit);
         start += taken;
         entries.extend(read::asserts(run, &message, 16 * taken));
+        messages.push(message);
     }
     let holds = whole && entries == list.second();
-    run.tally.claim(UNPACKED, format_args!("limit {limit}, of both forms"), list, holds);
+    run.tally.claim(UNPACKED, format_args!("limits {limits:?}, of both forms"), list, holds);
+    messages
 }
