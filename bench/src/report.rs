@@ -2,6 +2,7 @@
 
 use crate::measure::{Spread, ROUNDS};
 use crate::rows::{thousands, Measured, Row};
+use second::pack::USUAL_LIMIT;
 
 /// What the caller knows of the run.
 pub struct Run<'a> {
@@ -41,13 +42,15 @@ fn how_measured(run: &Run, passes: usize) -> String {
          apart.\n\n\
          Each row also checks that both sides give the same answers and octets. Buffers are not cleared \
          between calls. A train's time is that of all its calls, the last one, which finds nothing left, too; \
-         its octets are those of all its messages.\n",
+         its octets are those of all its messages. At limit {} its calls pass 0, which is read as that \
+         limit; any other limit they pass as it is.\n",
         run.date,
         machine(),
         run.compiler,
         run.lto,
         ROUNDS,
-        passes
+        passes,
+        USUAL_LIMIT
     )
 }
 
@@ -152,19 +155,20 @@ fn deferred_part(rows: &[Row]) -> String {
     )
 }
 
+/// A line for each two neighbouring sizes of a family.
 fn growth_part(rows: &[Row]) -> String {
     let cells: Vec<Vec<String>> =
         rows.windows(2).filter(|pair| pair[0].family == pair[1].family).map(growth_cells).collect();
     let columns = ["family", "from", "to", "octets", "entries looked at", "archive time", "second time"];
     format!(
         "## How time grows with size\n\n\
-         Each number says how many times as much the larger row has. A single call looks at each octet a \
-         fixed number of times, so its time should grow as its octets do, or less where the fixed part of a \
-         call still counts; more, with mixed runs, is likely the branch predictor, which learns a short \
-         message by heart and a long one not. A train of n entries is not linear in n: refusal 7 makes each \
-         packing call look at every entry from its start on, so a train of m messages looks at some \
-         n(m + 1) / 2 entries. The smaller the limit, the more messages, and the more this pass counts; at \
-         one message for the whole list it is n.\n\n{}",
+         Each line goes from one size of a family to the next, and each number says how many times as much \
+         the larger row has. A single call looks at each octet a fixed number of times, so its time should \
+         grow as its octets do, or less where the fixed part of a call still counts; more, with mixed runs, \
+         is likely the branch predictor, which learns a short message by heart and a long one not. A train \
+         of n entries is not linear in n: refusal 7 makes each packing call look at every entry from its \
+         start on, so a train of m messages looks at some n(m + 1) / 2 entries. The smaller the limit, the \
+         more messages, and the more this pass counts; at one message for the whole list it is n.\n\n{}",
         table(&columns, cells)
     )
 }
