@@ -55,6 +55,7 @@ pub const LEAST_LIMIT: usize = 38;
 
 pub const GREATEST_LIMIT: usize = 65515;
 
+// What limit 0 is read as: a function, so that a promise holds it to the definition.
 pub fn usual_limit() -> usize
     ensures { λ r. ⌜ r ≡ usualLimit ⌝ }
 {
