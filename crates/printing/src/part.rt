@@ -16,7 +16,8 @@ pub fn front(e: &[u8], n: usize) -> &[u8]
 
 // How many octets from the start on are the same in both slices.
 pub fn in_common(e: &[u8], f: &[u8]) -> usize
-    ensures { λ r. ⌜ (r ≤ length (now (e .entry))) × (r ≤ length (now (f .entry))) × ((k : ℕ) → k < r → getD (now (e .entry)) k 0 ≡ getD (now (f .entry)) k 0) ⌝ }
+    ensures same { λ r. ⌜ (r ≤ length (now (e .entry))) × (r ≤ length (now (f .entry))) × ((k : ℕ) → k < r → getD (now (e .entry)) k 0 ≡ getD (now (f .entry)) k 0) ⌝ }
+    ensures most { λ r. ⌜ (r < length (now (e .entry)) → r < length (now (f .entry)) → getD (now (e .entry)) r 0 ≡ getD (now (f .entry)) r 0 → ⊥) ⌝ }
 {
     let mut i = 0;
     while i < e.len() {
