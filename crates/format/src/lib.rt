@@ -50,7 +50,7 @@ pub fn kind_named(number: u8) -> Named
     }
 }
 
-// Limits run from the least to the greatest; limit 0 is read as the usual one.
+// Limits run from the least to the greatest.
 pub const LEAST_LIMIT: usize = 38;
 
 pub const GREATEST_LIMIT: usize = 65515;

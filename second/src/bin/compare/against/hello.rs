@@ -4,7 +4,6 @@ use super::ffi::Hello;
 use super::tally::READ_BACK;
 use super::{calls, expect, make, read, Run};
 use second::hello::write_hello;
-use second::pack::USUAL_LIMIT;
 
 const HOLDTIMES: [u16; 6] = [0, 1, 105, 0x00FF, 0xFF00, 0xFFFF];
 const PRIORITIES: [u32; 6] = [0, 1, 5, 0xFFFF, 0xFFFF_0000, u32::MAX];
@@ -23,7 +22,7 @@ fn edges(run: &mut Run) {
     let numbers = HOLDTIMES.map(|holdtime| PRIORITIES.map(|priority| (holdtime, priority))).concat();
     for said in numbers.iter().flat_map(|numbers| SHAPES.map(|shape| hello(*numbers, shape))) {
         every_room(run, said);
-        for room in [USUAL_LIMIT, 1_480, 65_536] {
+        for room in [556, 1_480, 65_536] {
             one(run, said, room);
         }
     }
