@@ -29,6 +29,11 @@
  * and `place` is then 0 too. Else it is one of the fourteen numbers, and `place` says where. The other fields of a
  * refused answer are 0, but for a table, which comes back as it was passed (pim_read_sheet: without neighbours).
  *
+ * A place is an octet of what is read, counted from 0, or the number of an entry that is to be packed. Where a message,
+ * a record or an attribute is refused by 6 or 7, it is the first octet of the field at fault: of a field that is cut or
+ * missing (if missing, it is where the octets end), of a number that may not be 0, of a group or a source. A group is
+ * one field of 8 octets, a source one of 6. Every other place is said with its call.
+ *
  * Contents, in order: version; sizes and limits; kinds, numbers and lengths; messages read; messages written;
  * neighbours and election; counters; Pop-Count attributes; the stored sheet; the checksum.
  */
@@ -47,8 +52,9 @@ extern "C" {
 
 /* Each change of this file that a caller can notice raises it: a name, a layout, a number, a size, or what a call does.
  * It is no version of the protocol. 2: counters and rows are lent, names of Pop-Count begin pim_popcount_, the sheet's
- * counts are pim_sheet_counts. 3: pim_write_hello, and PIM_LONGEST_HELLO. 4: limit 0 is 556, before it was 1480. */
-#define PIM_VERSION 4
+ * counts are pim_sheet_counts. 3: pim_write_hello, and PIM_LONGEST_HELLO. 4: limit 0 is 556, before it was 1480.
+ * 5: 6 and 7 in reading are placed at the field, before it was at the record, the option or the attribute. */
+#define PIM_VERSION 5
 
 /* ---- sizes and limits, in octets where nothing else is said */
 
@@ -118,7 +124,7 @@ enum pim_number {
 /* 16 octets */
 typedef struct {
     uint8_t number; /* enum pim_number */
-    size_t place;   /* the octet, or the entry, at fault; 0 where nothing is refused */
+    size_t place;   /* the first octet of what is at fault, or the entry; 0 where nothing is refused */
 } pim_refusal;
 
 /* 24 octets */
@@ -156,7 +162,8 @@ typedef struct {
 } pim_record_answer;
 
 /* The record of a kind at place `at` of n octets. What follows it is no fault. Refuses 4 at 0 for PIM_HELLO,
- * PIM_AGGREGATED and a number that is no kind; 6 and 7 at `at`, which may be any number. */
+ * PIM_AGGREGATED and a number that is no kind; 6 and 7 at the field, as in pim_read_asserts. `at` may be any number: at
+ * the end of the octets or past it the group is missing, and that is 6 at `at`. */
 pim_record_answer pim_read_record(uint8_t kind, const uint8_t *o, size_t n, size_t at);
 
 /* 32 octets */
@@ -168,9 +175,11 @@ typedef struct {
 
 /* Reads a message of kind PIM_ASSERT, PIM_SIMPLE or PIM_AGGREGATED into entries of PIM_ASSERT_ENTRY octets. `room`
  * counts octets; those past the entries stay. PIM_MOST_ASSERTS(n) entries are always room enough.
- * Refuses 1, 2, 3, 4 at 0; then, in the message's order, 5 to 7 at the first octet of the record at fault (in an
- * aggregated message, of the aggregated record), at 4 for Zero and Reserved, at 8 where there is no record, at 26 for
- * octets after a plain assert; last 8 at 0, exactly if all entries take more than the room. */
+ * Refuses 1, 2, 3, 4 at 0; then, in the message's order, 5 at 4 for Zero and at 8 where there is no record, 6 and 7 at
+ * the field: Zero at 4, Reserved at 5, octets after a plain assert where they begin, at 26. The two reserved octets
+ * after a number are a field of their own, looked at after the number. A source that is 0 where R is 0 is 7 at the
+ * source, in an assert record once the four octets of R with preference are there. Last 8 at 0, exactly if all entries
+ * take more than the room. */
 pim_read_answer pim_read_asserts(const uint8_t *m, size_t n, uint8_t *entries, size_t room);
 
 /* The same for PIM_NULL_REGISTER and PIM_REGISTER_STOP, with entries of PIM_PAIR_ENTRY octets. PIM_MOST_PAIRS(n) of
@@ -191,7 +200,8 @@ typedef struct {
     pim_hello hello;
 } pim_hello_answer;
 
-/* Reads a Hello. Refuses 1, 2, 3, 4 at 0, then 6 and 13 at the option's first octet. */
+/* Reads a Hello. Refuses 1, 2, 3, 4 at 0, then, in the options' order, 6 at the type, the length or the value that is
+ * cut or missing, and 13 at the option's first octet. */
 pim_hello_answer pim_read_hello(const uint8_t *m, size_t n);
 
 /* ---- messages written */
@@ -380,7 +390,9 @@ typedef struct {
     pim_popcount_attribute attribute;
 } pim_popcount_read_answer;
 
-/* Reads the attribute at place `at` of n octets. Refuses 13 and 6 at `at`, which may be any number. */
+/* Reads the attribute at place `at` of n octets, which may be any number. Refuses 13 at `at`, and 6 at the field that
+ * is cut or missing: the first octet, the length, MTU, flags, options, each value, and the octets that are ignored,
+ * which are one field. */
 pim_popcount_read_answer pim_popcount_read(const uint8_t *o, size_t n, size_t at);
 
 enum pim_popcount_order { PIM_POPCOUNT_LESS = 0, PIM_POPCOUNT_EQUAL = 1, PIM_POPCOUNT_GREATER = 2 };
@@ -397,7 +409,8 @@ typedef struct {
 
 /* Merges our own values with the attributes that stand one after another in `contributors`, possibly none, into one
  * attribute at `buffer`. It needs PIM_POPCOUNT_MERGED octets at most; octets past the length stay.
- * Refuses 13 and 6 at the first octet of the attribute at fault, then 8 at 0. */
+ * Refuses 13 at the first octet of the attribute at fault and 6 at the field, both counted in `contributors`; then 8 at
+ * 0. */
 pim_length_answer pim_popcount_merge(pim_popcount_own own, bool e, const uint8_t *contributors, size_t n,
                                      uint8_t *buffer, size_t room);
 

@@ -1,19 +1,18 @@
 -- What an attribute reads as, by the answers that the code got: laws over the readers of specs/Attribute.antt and specs/Answers.antt.
 --     refused                                a refusal as the code makes it
 --     then-got, then-bad                     a reader that goes on
---     must-yes, must-no, must-bad            a field that has to pass a test
+--     refuse-yes, refuse-no                  a test that refuses, or not
 --     option-fits, value-read                an option's value fits its octets; what is answered of one
 --     inOrder, numbers, last, chained        readers in order, as a definition and as calls, each on what the one before it came to: both are one
 --     values-chained, past-got, past-cut     the options' values, so read; what they come to, by the last of them
 --     has-f, other-type, pop-count           the first octet
 --     agrees-least, fields-read              a length that agrees has all the options, and what is past them is ignored
---     handed-got, handed-bad                 an attribute by its fields: a fault is handed up
 -- Assumes nothing.
 use Prim.Native.Nat.{ℕ, _+_, _-_, _/_, _%_, _^_, _≤_, _<_}
 use native.Mathlib.Nat.{one-le-pow}
 use native.Mathlib.Omega.{arith}
 use mathlib.Core.Path.{_≡_, refl, sym, ap, _∙_}
-use mathlib.Core.Bool.{Bool, true, false, cond}
+use mathlib.Core.Bool.{Bool, true, false, not, cond}
 use mathlib.Core.List.{List, [], _∷_, map}
 use lib.ListN.{getD}
 use borrow.Author.Tests.{leb-true, eq-eqb, ne-eqb, eqb-true}
@@ -23,9 +22,9 @@ use Rattle.octets.specs.Field.{fieldOf, placeOf}
 use Rattle.octets.specs.declared.Field.{Field}
 use Rattle.octets.specs.declared.Field.the-variants.{Got, Short}
 use Rattle.octets.proofs.Laws.{number-lt}
-use Rattle.format.specs.Reader.{Read, Reader, got, bad, continue, _>>=_, give, number, must, placed, handUp, inRecord}
+use Rattle.format.specs.Reader.{Read, Reader, got, bad, continue, _>>=_, _>>_, give, number, refuse}
 use Rattle.attributes.specs.Options.{bitOf, sizeOf, hasBit, present, sizes, unallocated}
-use Rattle.attributes.specs.Attribute.{isPopCount, lengthAgrees, optional, values, attributeFields, attribute}
+use Rattle.attributes.specs.Attribute.{isPopCount, lengthAgrees, optional, values, attribute}
 use Rattle.attributes.specs.Answers.{readBy, sizeFor, optionAt, past, numberOf, valuesAfter, fieldsAfter}
 use Rattle.attributes.specs.declared.read.Attribute.{Attribute}
 use Rattle.attributes.specs.declared.read.Fixed.{Fixed}
@@ -48,18 +47,14 @@ module _ {A B : Type 0} (k : A → ℕ → Read B) {x : Read A} where
   unfolding continue
   then-bad e = rw e
 
-module _ {A : Type 0} (m : ℕ) (test : A → Bool) (r : Reader A) (o : List ℕ) (at : ℕ) where
-  pub must-yes : {a : A} {n : ℕ} → r o at ≡ got a n → test a ≡ true → must m test r o at ≡ got a n
-  unfolding must continue
-  must-yes e t = rw (e, t)
+module _ {test : Bool} (n p : ℕ) (o : List ℕ) (at : ℕ) where
+  pub refuse-yes : test ≡ true → refuse test n p o at ≡ bad n p
+  unfolding refuse
+  refuse-yes e = rw e
 
-  pub must-no : {a : A} {n : ℕ} → r o at ≡ got a n → test a ≡ false → must m test r o at ≡ bad m at
-  unfolding must continue
-  must-no e t = rw (e, t)
-
-  pub must-bad : {n p : ℕ} → r o at ≡ bad n p → must m test r o at ≡ bad n p
-  unfolding must continue
-  must-bad e = rw e
+  pub refuse-no : test ≡ false → refuse test n p o at ≡ got tt at
+  unfolding refuse
+  refuse-no e = rw e
 
 -- ---- the values
 
@@ -180,20 +175,11 @@ agrees-least n w e = go (unallocated w) e
     go false p = let q : n ≡ 6 + sizes w = eqb-true _ _ p in omega arith
 
 -- once the fields of a fixed size are there, and the length agrees
-pub fields-read : (a : Fixed) (n : ℕ) (o : List ℕ) (at : ℕ) {b c next k : ℕ} {x : Read Attribute}
+pub fields-read : (a : Fixed) (first n : ℕ) (o : List ℕ) (at : ℕ) {b c next k : ℕ} {x : Read Attribute}
     → x ≡ valuesAfter a (n - (6 + k)) o next → k ≡ sizes (a .options)
     → number 2 o at ≡ got (a .mtu) b → number 2 o b ≡ got (a .flags) c → number 2 o c ≡ got (a .options) next → lengthAgrees n (a .options) ≡ true
-    → x ≡ fieldsAfter (a .e) n o at
-unfolding fieldsAfter valuesAfter _>>=_
-fields-read a n o at {next = next} e h m f w l =
-    e ∙ ap (λ k. valuesAfter a (n - (6 + k)) o next) h ∙ sym (then-got _ m ∙ then-got _ f ∙ then-got _ (must-yes 13 _ (number 2) _ _ w l))
-
--- ---- a fault handed up
-
-pub handed-got : (o : List ℕ) (at : ℕ) {a : Attribute} {n : ℕ} → attributeFields o at ≡ got a n → attribute o at ≡ got a n
-unfolding attribute inRecord handUp
-handed-got o at e = rw e
-
-pub handed-bad : (o : List ℕ) (at : ℕ) {n p : ℕ} → attributeFields o at ≡ bad n p → attribute o at ≡ bad n at
-unfolding attribute inRecord handUp placed
-handed-bad o at e = rw e
+    → x ≡ fieldsAfter first (a .e) n o at
+unfolding fieldsAfter valuesAfter _>>=_ _>>_
+fields-read a first n o at {next = next} e h m f w l =
+    e ∙ ap (λ k. valuesAfter a (n - (6 + k)) o next) h
+    ∙ sym (then-got _ m ∙ then-got _ f ∙ then-got _ w ∙ then-got _ (refuse-no 13 first o next (ap not l)))

@@ -4,15 +4,15 @@
 -- Assumes nothing.
 use Prim.Native.Nat.{ℕ, _+_, _-_, _<_, _%_}
 use native.Mathlib.Omega.{arith}
-use mathlib.Core.Path.{_≡_, refl, sym}
-use mathlib.Core.Bool.{Bool, true, false, cond}
+use mathlib.Core.Path.{_≡_, refl, sym, ap}
+use mathlib.Core.Bool.{Bool, true, false, not, cond}
 use mathlib.Core.List.{List, [], _++_, append-nil}
-use borrow.Author.Tests.{le-leb, eq-eqb}
+use borrow.Author.Tests.{le-ltb, eq-eqb}
 use Rattle.octets.specs.Octets.{be}
 use Rattle.format.specs.Reader.{Reader, _>>=_, _>>_, give, octets, number}
-use Rattle.format.proofs.Readers.{Reads, reads-give, reads-bind, reads-last, reads-done, reads-octets, reads-number, reads-must, reads-inRecord}
+use Rattle.format.proofs.Readers.{Reads, reads-give, reads-bind, reads-last, reads-done, reads-here, reads-refuse, reads-octets, reads-number}
 use Rattle.attributes.specs.Options.{Option, transit, stub, minimumSpeed, maximumSpeed, domain, node, diameter, timeZone, sizeOf, hasBit, present, sizes, unallocated}
-use Rattle.attributes.specs.Attribute.{isPopCount, hasE, lengthAgrees, optional, values, attributeFields, attribute, optionOctets, valuesOctets, attributeOctets}
+use Rattle.attributes.specs.Attribute.{isPopCount, hasE, lengthAgrees, optional, values, attribute, optionOctets, valuesOctets, attributeOctets}
 use Rattle.attributes.specs.Written.{valueOf, Given, Written}
 use Rattle.attributes.specs.declared.read.Attribute.{Attribute}
 use Rattle.attributes.specs.declared.options.Values.{Values}
@@ -64,21 +64,21 @@ last {r} {v} {x} k g e h =
     let all : Reads (r >>= (λ v. octets k >> give (g v))) (g v) (x ++ []) = reads-bind _ h (reads-done (g v) (reads-octets [] k (sym e))) in
     rw (append-nil x) at all
 
-reads-fields : (a : Attribute) → Written a → Reads attributeFields a (attributeOctets a)
-unfolding attributeFields attributeOctets
-reads-fields a h =
+pub round-trip : (a : Attribute) → Written a → Reads attribute a (attributeOctets a)
+unfolding attribute attributeOctets
+round-trip a h =
     let w : ℕ = a .options in
     let f = first-is (a .e) in
     let n : ℕ = 6 + sizes w in
-    let all : Reads attributeFields (record { e = hasE (first (a .e)); mtu = a .mtu; flags = a .flags; options = w; values = a .values }) (attributeOctets a) =
-    reads-bind _ (reads-must 13 isPopCount (f .1) (reads-number (first (a .e)) 1 (f .0)))
-    (reads-bind _ (reads-must 13 _ (le-leb 6 n (omega arith)) (reads-number n 1 (omega (arith, sizes-most w))))
+    let all : Reads attribute (record { e = hasE (first (a .e)); mtu = a .mtu; flags = a .flags; options = w; values = a .values }) (attributeOctets a) =
+    reads-here (λ at.
+    reads-bind _ (reads-number (first (a .e)) 1 (f .0))
+    (reads-refuse _ 13 at (ap not (f .1))
+    (reads-bind _ (reads-number n 1 (omega (arith, sizes-most w)))
+    (reads-refuse _ 13 at (le-ltb n 6 (omega arith))
     (reads-bind _ (reads-number (a .mtu) 2 (h .mtu))
     (reads-bind _ (reads-number (a .flags) 2 (h .flags))
-    (reads-bind _ (reads-must 13 (lengthAgrees n) (exact w (h .allocated)) (reads-number w 2 (h .options)))
-    (last (n - (6 + sizes w)) _ (omega arith) (reads-values w (a .values) (h .values))))))) in
+    (reads-bind _ (reads-number w 2 (h .options))
+    (reads-refuse _ 13 at (ap not (exact w (h .allocated)))
+    (last (n - (6 + sizes w)) _ (omega arith) (reads-values w (a .values) (h .values))))))))))) in
     rw (f .2) at all
-
-pub round-trip : (a : Attribute) → Written a → Reads attribute a (attributeOctets a)
-unfolding attribute
-round-trip a h = reads-inRecord (reads-fields a h)

@@ -5,10 +5,10 @@
 --     fieldsAfter, valuesAfter      what follows the length, and what follows the option bits
 -- Assumes nothing: these are definitions.
 use Prim.Native.Nat.{ℕ, _+_, _-_}
-use mathlib.Core.Bool.{Bool, cond}
+use mathlib.Core.Bool.{Bool, not, cond}
 use mathlib.Core.List.{List}
 use lib.Dec.{leb}
-use Rattle.format.specs.Reader.{Read, Reader, got, bad, continue, _>>=_, _>>_, give, octets, number, must}
+use Rattle.format.specs.Reader.{Read, Reader, got, bad, continue, _>>=_, _>>_, give, octets, number, refuse}
 use Rattle.attributes.specs.Options.{hasBit, sizes}
 use Rattle.attributes.specs.Attribute.{lengthAgrees, values}
 use Rattle.attributes.specs.declared.read.Attribute.{Attribute}
@@ -46,12 +46,13 @@ valuesAfter f k = do
   octets k
   give (record { e = f .e; mtu = f .mtu; flags = f .flags; options = f .options; values = v })
 
--- given E and the length
-unfoldable pub fieldsAfter : Bool → ℕ → Reader Attribute
-fieldsAfter e n = do
+-- given the attribute's first octet, E and the length
+unfoldable pub fieldsAfter : ℕ → Bool → ℕ → Reader Attribute
+fieldsAfter first e n = do
   m ← number 2
   f ← number 2
-  w ← must 13 (lengthAgrees n) (number 2)
+  w ← number 2
+  refuse (not (lengthAgrees n w)) 13 first
   v ← values w
   octets (n - (6 + sizes w))
   give (record { e = e; mtu = m; flags = f; options = w; values = v })

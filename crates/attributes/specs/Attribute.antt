@@ -3,15 +3,15 @@
 --     isPopCount, hasE             the first octet
 --     lengthAgrees                 what the length may be for the options
 --     optional, values             an option's value, and all eight
---     attributeFields, attribute   an attribute, its faults in the order of its fields
+--     attribute                    an attribute, its faults in the order of its fields
 --     optionOctets, valuesOctets, attributeOctets     an option, all eight and the attribute, written
 -- Assumes nothing: these are definitions.
 use Prim.Native.Nat.{ℕ, _+_, _-_, _/_, _%_}
-use mathlib.Core.Bool.{Bool, _&&_, cond}
+use mathlib.Core.Bool.{Bool, not, _&&_, cond}
 use mathlib.Core.List.{List, []}
-use lib.Dec.{eqb, leb}
+use lib.Dec.{eqb, leb, ltb}
 use Rattle.octets.specs.Octets.{be, _&_}
-use Rattle.format.specs.Reader.{Reader, _>>=_, _>>_, give, octets, number, must, inRecord}
+use Rattle.format.specs.Reader.{Reader, _>>=_, _>>_, give, here, octets, number, refuse}
 use Rattle.attributes.specs.Options.{Option, transit, stub, minimumSpeed, maximumSpeed, domain, node, diameter, timeZone, sizeOf, hasBit, present, sizes, unallocated}
 use Rattle.attributes.specs.declared.read.Attribute.{Attribute}
 use Rattle.attributes.specs.declared.options.Values.{Values}
@@ -47,21 +47,22 @@ values w = do
   z ← optional w timeZone
   give (record { transit = t; stub = s; «minimum_speed» = least; «maximum_speed» = greatest; domain = d; node = n; diameter = diam; «time_zone» = z })
 
--- "A length under 6 is found at the length octet, any other fault of it at the options"
-unfoldable pub attributeFields : Reader Attribute
-attributeFields = do
-  t ← must 13 isPopCount (number 1)
-  n ← must 13 (λ n. leb 6 n) (number 1)
+-- "A length under 6 is found at the length octet, any other fault of it at the options"; 13 keeps 01's place, "the first octet of the ..
+-- attribute at fault"
+unfoldable pub attribute : Reader Attribute
+attribute = do
+  first ← here
+  t ← number 1
+  refuse (not (isPopCount t)) 13 first
+  n ← number 1
+  refuse (ltb n 6) 13 first
   m ← number 2
   f ← number 2
-  w ← must 13 (lengthAgrees n) (number 2)
+  w ← number 2
+  refuse (not (lengthAgrees n w)) 13 first
   v ← values w
   octets (n - (6 + sizes w))
   give (record { e = hasE t; mtu = m; flags = f; options = w; values = v })
-
--- "The place is the first octet of the .. attribute at fault"
-unfoldable pub attribute : Reader Attribute
-attribute = inRecord attributeFields
 
 -- ---- written
 

@@ -2,7 +2,7 @@
 ghost use mathlib.Core.Path.{_≡_};
 ghost use Rattle.octets.specs.Field.{fieldOf, placeOf};
 ghost use Rattle.format.specs.Reader.{bad};
-ghost use Rattle.attributes.specs.Attribute.{lengthAgrees, attributeFields, attribute};
+ghost use Rattle.attributes.specs.Attribute.{lengthAgrees, attribute};
 ghost use Rattle.attributes.specs.Answers.{readBy, fieldsAfter, valuesAfter};
 use crate::options::DIAMETER;
 use crate::options::DOMAIN;
@@ -110,9 +110,9 @@ fn length_agrees(len: u32, options: u16) -> bool
     known <= len
 }
 
-// What follows the first octet and the length.
-fn fields_after(o: &[u8], at: usize, e: bool, len: u32) -> AttributeRead
-    ensures { λ r. ⌜ readBy r ≡ fieldsAfter e len (now (o .entry)) at ⌝ }
+// What follows the first octet and the length of the attribute that begins at a place.
+fn fields_after(o: &[u8], at: usize, first: usize, e: bool, len: u32) -> AttributeRead
+    ensures { λ r. ⌜ readBy r ≡ fieldsAfter first e len (now (o .entry)) at ⌝ }
 {
     let m = octets::read16(o, at);
     let Field::Got { value, next } = m else {
@@ -124,8 +124,7 @@ fn fields_after(o: &[u8], at: usize, e: bool, len: u32) -> AttributeRead
         return cut(f);
     };
     let flags = value as u16;
-    let place = next;
-    let w = octets::read16(o, place);
+    let w = octets::read16(o, next);
     let Field::Got { value, next } = w else {
         return cut(w);
     };
@@ -139,12 +138,12 @@ fn fields_after(o: &[u8], at: usize, e: bool, len: u32) -> AttributeRead
         };
         return values_after(o, next, fixed, len - (6 + sizes(options)));
     }
-    bad(13, place)
+    bad(13, first)
 }
 
-// An attribute by its fields, each fault at the field's own place.
-fn attribute_fields(o: &[u8], at: usize) -> AttributeRead
-    ensures { λ r. ⌜ readBy r ≡ attributeFields (now (o .entry)) at ⌝ }
+// An attribute: 6 is at the field that is cut, and 13 at the attribute's first octet.
+pub fn read_attribute(o: &[u8], at: usize) -> AttributeRead
+    ensures { λ r. ⌜ readBy r ≡ attribute (now (o .entry)) at ⌝ }
 {
     let t = octets::read8(o, at);
     let Field::Got { value, next } = t else {
@@ -157,24 +156,12 @@ fn attribute_fields(o: &[u8], at: usize) -> AttributeRead
         return bad(13, at);
     }
     let e = value / 64 % 2 == 1;
-    let place = next;
-    let l = octets::read8(o, place);
+    let l = octets::read8(o, next);
     let Field::Got { value: len, next } = l else {
         return cut(l);
     };
     if len < 6 {
-        return bad(13, place);
+        return bad(13, at);
     }
-    fields_after(o, next, e, len)
-}
-
-// An attribute: a fault is handed up at the attribute's first octet.
-pub fn read_attribute(o: &[u8], at: usize) -> AttributeRead
-    ensures { λ r. ⌜ readBy r ≡ attribute (now (o .entry)) at ⌝ }
-{
-    let f = attribute_fields(o, at);
-    match f {
-        AttributeRead::Is(a, next) => AttributeRead::Is(a, next),
-        AttributeRead::Refused(r) => bad(r.number, at),
-    }
+    fields_after(o, next, at, e, len)
 }

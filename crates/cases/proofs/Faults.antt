@@ -1,4 +1,4 @@
--- The damaged messages are refused with the number and the place that 01 gives, and records read singly come out as it says.
+-- The damaged messages are refused with the number and the place that 01 and E3 give, and records read singly come out as it says.
 -- Assumes nothing.
 use mathlib.Core.Path.{refl}
 use lib.Dec.{T}
@@ -12,4 +12,4 @@ faults-right = tt
 
 pub singles-right : Every IsSingle singles
 unfolding computed Every IsSingle singles
-singles-right = (refl, (refl, (refl, (refl, (refl, (refl, (refl, (refl, (refl, (refl, (refl, tt)))))))))))
+singles-right = (refl, (refl, (refl, (refl, (refl, (refl, (refl, (refl, (refl, (refl, (refl, (refl, (refl, (refl, (refl, (refl, (refl, (refl, (refl, tt)))))))))))))))))))

@@ -1,4 +1,4 @@
--- Every definition of octets, checksum, records and format, of Hellos and of the election, opened at once, so that the tables of this crate compute.
+-- Every definition of octets, checksum, records and format, of Hellos, of the election and of reading attributes, opened at once, so that the tables of this crate compute.
 --     computed     a declaration that says `unfolding computed` sees through all of them
 -- Assumes nothing.
 use Rattle.octets.specs.Octets.{numberAt, value, be, put}
@@ -14,12 +14,14 @@ use Rattle.format.specs.Family.{mayBeSource}
 use Rattle.format.specs.Header.{assertKind, registerKind, kindOf, octet0, octet1, header, bodyOf, body, message}
 use Rattle.format.specs.Packing.{usualLimit, leastLimit, readLimit, canonical, firstBadAt, firstBad, asked, taken, pack, written, packDue, packing, prefersAggregated, chosenOf, octetsOf, tookOf, bothWritten, choiceOf, choice}
 use Rattle.format.specs.Reading.{roomFor, delivered, reading, readAsserts, readPairs}
-use Rattle.format.specs.Record.{each, assertFields, assertRecord, assertOctets, pairFields, pairRecord, pairOctets, positive, groupRecord, groupRecordOctets, sourceAggregated, rpAggregated, aggregatedFields, aggregatedRecord, aggregatedOctets, recordAt}
+use Rattle.format.specs.Record.{each, assertRecord, assertOctets, pairRecord, pairOctets, positive, groupRecord, groupRecordOctets, sourceAggregated, rpAggregated, aggregatedRecord, aggregatedOctets, recordAt}
 use Rattle.format.specs.Train.{takenBy, messageOf, calls, takenOf, messagesOf, roomOf, train}
 use Rattle.format.specs.Unpacking.{unpackAsserts, unpackPairs}
 use Rattle.format.specs.Writing.{intoBuffer}
-use Rattle.hello.specs.Options.{nothing, typeOf, among, named, lengthOf, isSome, given, hear, numberOctets, valueOf, against, optionValue, optionFields, option, options, optionOctets, optionsOctets}
+use Rattle.hello.specs.Options.{nothing, typeOf, among, named, lengthOf, isSome, given, hear, numberOctets, valueOf, against, optionValue, option, options, optionOctets, optionsOctets}
 use Rattle.hello.specs.Hello.{holdtimeOf, helloOf, helloOptions, helloBody, readHello, saidIn, helloMessage, writeHello}
+use Rattle.attributes.specs.Options.{bitOf, sizeOf, hasBit, present, sizeIn, sizes, unallocated}
+use Rattle.attributes.specs.Attribute.{isPopCount, hasE, lengthAgrees, optional, values, attribute}
 use Rattle.neighbours.specs.Rows.{noRow, isZero, allZero as zeroRows, allowed, has, sheetRows, valid, tableOf}
 use Rattle.neighbours.specs.Hearing.{asked as askedOf}
 use Rattle.neighbours.specs.Election.{allHave, candidate, above, better, best, elect, electing}
@@ -27,5 +29,5 @@ use Rattle.format.specs.Outcome
 use Rattle.format.specs.Reader
 
 unfoldable pub computed : Unit {0}
-unfolding value be put words add sumFrom sum checksumFrom holdsFrom checksum holds together sameGroup allZero groupRecords allGroupRecords recordOf joined most groupEntries allGroupEntries entries allEntries ofRun glue runs groupForm groupField groupOctets sourceForm sourceField sourceOctets zeroReserved assertsBody pairsBody plainBody simpleBody aggregatedBody pairBody numberAt assertAt assertEntryOctets allowedAssert pairAt pairEntryOctets allowedPair count whole entriesAt entriesOf entriesOctets mayBeSource assertKind registerKind kindOf octet0 octet1 header bodyOf body message Outcome._>>=_ Outcome._>>_ Outcome.refuseIf usualLimit leastLimit readLimit canonical firstBadAt firstBad asked taken pack written packDue packing prefersAggregated chosenOf octetsOf tookOf bothWritten choiceOf choice Reader.continue Reader._>>=_ Reader._>>_ Reader.give Reader.here Reader.octets Reader.number Reader.must Reader.refuse Reader.placed Reader.handUp Reader.inRecord Reader.times Reader.toEnd Reader.records Reader.nothingMore Reader.outcome Reader.from roomFor delivered reading readAsserts readPairs each assertFields assertRecord assertOctets pairFields pairRecord pairOctets positive groupRecord groupRecordOctets sourceAggregated rpAggregated aggregatedFields aggregatedRecord aggregatedOctets recordAt takenBy messageOf calls takenOf messagesOf roomOf train unpackAsserts unpackPairs intoBuffer nothing typeOf among named lengthOf isSome given hear numberOctets valueOf against optionValue optionFields option options optionOctets optionsOctets holdtimeOf helloOf helloOptions helloBody readHello saidIn helloMessage writeHello noRow isZero zeroRows allowed has sheetRows valid tableOf askedOf allHave candidate above better best elect electing
+unfolding value be put words add sumFrom sum checksumFrom holdsFrom checksum holds together sameGroup allZero groupRecords allGroupRecords recordOf joined most groupEntries allGroupEntries entries allEntries ofRun glue runs groupForm groupField groupOctets sourceForm sourceField sourceOctets zeroReserved assertsBody pairsBody plainBody simpleBody aggregatedBody pairBody numberAt assertAt assertEntryOctets allowedAssert pairAt pairEntryOctets allowedPair count whole entriesAt entriesOf entriesOctets mayBeSource assertKind registerKind kindOf octet0 octet1 header bodyOf body message Outcome._>>=_ Outcome._>>_ Outcome.refuseIf usualLimit leastLimit readLimit canonical firstBadAt firstBad asked taken pack written packDue packing prefersAggregated chosenOf octetsOf tookOf bothWritten choiceOf choice Reader.continue Reader._>>=_ Reader._>>_ Reader.give Reader.here Reader.octets Reader.number Reader.must Reader.refuse Reader.times Reader.toEnd Reader.records Reader.nothingMore Reader.outcome Reader.from roomFor delivered reading readAsserts readPairs each assertRecord assertOctets pairRecord pairOctets positive groupRecord groupRecordOctets sourceAggregated rpAggregated aggregatedRecord aggregatedOctets recordAt takenBy messageOf calls takenOf messagesOf roomOf train unpackAsserts unpackPairs intoBuffer nothing typeOf among named lengthOf isSome given hear numberOctets valueOf against optionValue option options optionOctets optionsOctets holdtimeOf helloOf helloOptions helloBody readHello saidIn helloMessage writeHello bitOf sizeOf hasBit present sizeIn sizes unallocated isPopCount hasE lengthAgrees optional values attribute noRow isZero zeroRows allowed has sheetRows valid tableOf askedOf allHave candidate above better best elect electing
 computed = tt

@@ -14,7 +14,7 @@ use lib.ListN.{length, getD}
 use lib.Dec.{leb}
 use borrow.Author.Tests.{le-leb, lt-leb, leb-false, eq-eqb, ne-eqb}
 use Rattle.octets.specs.Octets.{numberAt, value}
-use Rattle.format.specs.Reader.{Read, got, bad, Reader, continue, _>>=_, _>>_, give, octets, number, must, handUp, inRecord, toEnd, records, nothingMore}
+use Rattle.format.specs.Reader.{Read, got, bad, Reader, continue, _>>=_, _>>_, give, octets, number, must, toEnd, records, nothingMore}
 use Rattle.format.specs.Body.{zeroReserved, assertsBody}
 use Rattle.records.specs.Records.{AggregatedRecord, allEntries}
 use Rattle.format.specs.Family.{Family}
@@ -39,26 +39,26 @@ module _ (o : List ℕ) (at : ℕ) where
       let e : numberAt 1 o at ≡ getD o at 0 = number-is 1 o at h ∙ omega arith in
       number-there 1 o at h ∙ ap (λ v. got v (at + 1)) e
 
-  pub zero-cut : {n p : ℕ} → octets 1 o at ≡ bad n p → handUp at (bad n p) ≡ skipped (packedStart o at)
-  unfolding packedStart zeroReserved inRecord handUp must number skipped _>>_ _>>=_ continue
+  pub zero-cut : {n p : ℕ} → octets 1 o at ≡ bad n p → bad n p ≡ skipped (packedStart o at)
+  unfolding packedStart zeroReserved must number skipped _>>_ _>>=_ continue
   zero-cut e = rw e
 
-  pub zero-wrong : at + 1 ≤ length o → (getD o at 0 ≡ 0 → ⊥) → handUp at (bad 5 at) ≡ skipped (packedStart o at)
-  unfolding packedStart zeroReserved inRecord handUp must skipped _>>_ continue
+  pub zero-wrong : at + 1 ≤ length o → (getD o at 0 ≡ 0 → ⊥) → bad 5 at ≡ skipped (packedStart o at)
+  unfolding packedStart zeroReserved must skipped _>>_ continue
   zero-wrong h z = rw (zero-number h, ne-eqb (getD o at 0) 0 z)
 
   module _ (h : at + 1 ≤ length o) (z : getD o at 0 ≡ 0) where
-    pub reserved-cut : {b n p : ℕ} → b ≡ at + 1 → octets 3 o b ≡ bad n p → handUp at (bad n p) ≡ skipped (packedStart o at)
-    unfolding packedStart zeroReserved inRecord handUp must skipped _>>_ continue
+    pub reserved-cut : {b n p : ℕ} → b ≡ at + 1 → octets 3 o b ≡ bad n p → bad n p ≡ skipped (packedStart o at)
+    unfolding packedStart zeroReserved must skipped _>>_ continue
     reserved-cut place e = rw (zero-number h, eq-eqb (getD o at 0) 0 z, ← place, e)
 
     pub start-empty : {n : ℕ} → n ≡ at + 1 + 3 → n ≤ length o → length o ≤ n → bad 5 n ≡ skipped (packedStart o at)
-    unfolding packedStart zeroReserved inRecord handUp must someRecord skipped _>>_ continue give
+    unfolding packedStart zeroReserved must someRecord skipped _>>_ continue give
     start-empty {n} e there end =
         rw (zero-number h, eq-eqb (getD o at 0) 0 z, octets-there 3 o (at + 1) (rw (← e) there), ← e, le-leb (length o) n end)
 
     pub start-some : {n : ℕ} → n ≡ at + 1 + 3 → n ≤ length o → n < length o → got tt n ≡ skipped (packedStart o at)
-    unfolding packedStart zeroReserved inRecord handUp must someRecord skipped _>>_ continue give
+    unfolding packedStart zeroReserved must someRecord skipped _>>_ continue give
     start-some {n} e there more =
         rw (zero-number h, eq-eqb (getD o at 0) 0 z, octets-there 3 o (at + 1) (rw (← e) there), ← e, lt-leb (length o) n more)
 

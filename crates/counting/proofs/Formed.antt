@@ -16,10 +16,10 @@ use Rattle.octets.specs.Octets.{value, numberAt}
 use Rattle.octets.proofs.Laws.{number-there}
 use Rattle.records.specs.Records.{rBit}
 use Rattle.records.specs.Sizes.{groupSize, sourceSize, pairSize, assertSize}
-use Rattle.format.specs.Reader.{got, continue, _>>=_, _>>_, give, here, refuse, handUp, inRecord, toEnd}
+use Rattle.format.specs.Reader.{got, continue, _>>=_, _>>_, give, here, refuse, toEnd}
 use Rattle.format.specs.Family.{Family, Lawful, mayBeSource}
 use Rattle.format.specs.Address.{groupForm, sourceForm}
-use Rattle.format.specs.Record.{assertFields, assertRecord, pairFields, pairRecord}
+use Rattle.format.specs.Record.{assertRecord, pairRecord}
 use Rattle.fields.proofs.Fields.{part-number, part-form, group-is, source-is}
 use Rattle.counting.specs.declared.aggregated.Counted.the-variants.{All}
 use Rattle.counting.specs.Counts.{counted, tallied, wholeIn, recordSize, recordForm, allowedRecords, passedRecords, entryCount, sum}
@@ -51,7 +51,7 @@ module _ (f : Family) (law : Lawful f) (z : Bool) (o : List ℕ) (at : ℕ) wher
   pair-passes : at + pairSize (f .width) ≤ length o → groupForm f (take (groupSize (f .width)) (drop at o)) ≡ true
       → sourceForm f z (take (sourceSize (f .width)) (drop (at + groupSize (f .width)) o)) ≡ true
       → tallied (λ e. 1) (pairRecord f z o at) ≡ got 1 (at + pairSize (f .width))
-  unfolding pairRecord inRecord pairFields _>>=_ give continue handUp tallied
+  unfolding pairRecord _>>=_ give continue tallied
   pair-passes h g s =
       let next : at + groupSize (f .width) + sourceSize (f .width) ≡ at + pairSize (f .width) = omega arith in
       rw (group-is f o at (omega arith) .is, g, source-is f z o (at + groupSize (f .width)) (omega arith) .is, s, next)
@@ -59,7 +59,7 @@ module _ (f : Family) (law : Lawful f) (z : Bool) (o : List ℕ) (at : ℕ) wher
   assert-passes : at + assertSize (f .width) ≤ length o → groupForm f (take (groupSize (f .width)) (drop at o)) ≡ true
       → sourceForm f (rBit (numberAt 4 o (at + pairSize (f .width)))) (take (sourceSize (f .width)) (drop (at + groupSize (f .width)) o)) ≡ true
       → tallied (λ e. 1) (assertRecord f o at) ≡ got 1 (at + assertSize (f .width))
-  unfolding assertRecord inRecord assertFields _>>=_ _>>_ here refuse give continue handUp tallied
+  unfolding assertRecord _>>=_ _>>_ here refuse give continue tallied
   assert-passes h g s =
       let sourceAt = at + groupSize (f .width) in
       let wordAt = at + pairSize (f .width) in

@@ -2,7 +2,6 @@
 --     tallies-bad, tallies-on                  a check that refused: so does the reader; one that passed: the reader goes on from that place
 --     counts-next                              a count that passed: the reader gave a value of so many entries
 --     tallied-last, tallied-value              the last line puts the value together, which has as many entries as were counted
---     handed-all, handed-bad                   a record's count, and the place that it hands up
 --     checks-number, tallies-number            k octets that were checked, and the number read from them
 --     positive-short .. tallies-positive       the same for a number that may not be 0
 --     times-bad, times-on, times-end           n things one after another, checked: those that are left give the whole
@@ -23,7 +22,7 @@ use lib.Dec.{eqb}
 use lib.ListN.{length, length-append, length-map}
 use Rattle.records.specs.Records.{GroupRecord, ofGroup, AggregatedRecord, ofSource, ofRp, groupEntries, allGroupEntries, entries, allEntries}
 use Rattle.records.specs.Sizes.{groupRecordsSize, aggregatedSize}
-use Rattle.format.specs.Reader.{Read, Reader, got, bad, continue, _>>=_, _>>_, give, octets, number, must, handUp, times, toEnd}
+use Rattle.format.specs.Reader.{Read, Reader, got, bad, continue, _>>=_, _>>_, give, octets, number, must, times, toEnd}
 use Rattle.format.specs.Family.{Family}
 use Rattle.format.specs.Address.{groupField, sourceField}
 use Rattle.format.specs.Record.{positive, groupRecord, sourceAggregated, rpAggregated, aggregatedRecord}
@@ -85,20 +84,6 @@ pub tallied-value : {A B : Type 0} (one : A → ℕ) (size : B → ℕ) (g : A �
 unfolding tallied continue
 tallied-value one size g h (got a n) = ap (λ k. got k n) (sym (h a))
 tallied-value one size g h (bad n p) = refl
-
-pub handed-all : {A : Type 0} (size : A → ℕ) (p : ℕ) (r : Read A) {d : Counted} {e n : ℕ} → d ≡ All e n → counted d ≡ tallied size r
-    → counted d ≡ tallied size (handUp p r)
-unfolding counted tallied handUp
-handed-all size p (got a n) h q = q
-handed-all size p (bad n i) h q = absurd (no-got (sym q ∙ ap counted h))
-
-pub handed-bad : {A : Type 0} (size : A → ℕ) (p : ℕ) (r : Read A) {d : Counted} {x : Refusal} {z : Read (Unit {0})} {y : Read ℕ} → d ≡ Not x
-    → counted d ≡ tallied size r → z ≡ handUp p (checked (Bad x)) → y ≡ tallied (λ u. 0) z → y ≡ tallied size (handUp p r)
-unfolding checked counted tallied handUp
-handed-bad size p (got a n) h q u t = absurd (no-got (sym (ap counted h) ∙ q))
-handed-bad size p (bad n i) {x = x} h q u t =
-    let same : bad (x .number) (x .place) ≡ bad n i = sym (ap counted h) ∙ q in
-    t ∙ ap (tallied (λ u. 0)) u ∙ ap (handUp p) same
 
 -- ---- numbers
 

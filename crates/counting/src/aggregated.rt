@@ -3,7 +3,6 @@ use fields::Checked;
 use fields::address_size;
 use fields::bad;
 use fields::group_check;
-use fields::in_record;
 use fields::is_address;
 use fields::octets_check;
 use fields::source_check;
@@ -17,7 +16,7 @@ ghost use Prim.Native.Nat.{ℕ, _+_, _/_, _≤_, min};
 ghost use lib.ListN.{length};
 ghost use Rattle.format.specs.Reader.{times};
 ghost use Rattle.format.specs.Family.{familyOf};
-ghost use Rattle.format.specs.Record.{positive, groupRecord, sourceAggregated, rpAggregated, aggregatedFields, aggregatedRecord};
+ghost use Rattle.format.specs.Record.{positive, groupRecord, sourceAggregated, rpAggregated, aggregatedRecord};
 ghost use Rattle.fields.specs.Answers.{checked, skipped};
 ghost use Rattle.fields.specs.Encoded.{addressSize, addressField};
 ghost use Rattle.counting.specs.Counts.{wholeIn, counted, tallied, groupCount, groupsCount, recordCount};
@@ -210,9 +209,9 @@ fn rp_aggregated(ipv6: bool, m: &[u8], at: usize) -> Counted
     group_records(ipv6, m, records_at, n)
 }
 
-// R tells the two forms apart; the number of entries does not depend on preference and metric.
-fn aggregated_fields(ipv6: bool, m: &[u8], at: usize) -> Counted
-    ensures { λ r. ⌜ counted r ≡ tallied recordCount (aggregatedFields (familyOf ipv6) (now (m .entry)) at) ⌝ }
+// An aggregated record. R tells the two forms apart; the number of entries does not depend on preference and metric.
+pub(crate) fn aggregated_record(ipv6: bool, m: &[u8], at: usize) -> Counted
+    ensures { λ r. ⌜ counted r ≡ tallied recordCount (aggregatedRecord (familyOf ipv6) (now (m .entry)) at) ⌝ }
 {
     let v = octets_check(m, at, 4);
     let Checked::Next(metric_at) = v else {
@@ -226,15 +225,4 @@ fn aggregated_fields(ipv6: bool, m: &[u8], at: usize) -> Counted
         return rp_aggregated(ipv6, m, next);
     }
     source_aggregated(ipv6, m, next)
-}
-
-// An aggregated record: a fault is handed up with the record's first octet.
-pub(crate) fn aggregated_record(ipv6: bool, m: &[u8], at: usize) -> Counted
-    ensures { λ r. ⌜ counted r ≡ tallied recordCount (aggregatedRecord (familyOf ipv6) (now (m .entry)) at) ⌝ }
-{
-    let c = aggregated_fields(ipv6, m, at);
-    let Counted::Bad(r) = c else {
-        return c;
-    };
-    with_count(0, in_record(at, Checked::Bad(r)))
 }

@@ -7,7 +7,6 @@ use crate::whole::record_size;
 use fields::Checked;
 use fields::assert_check;
 use fields::bad;
-use fields::in_record;
 use fields::octets_check;
 use fields::pair_check;
 use format::Kind;
@@ -88,20 +87,20 @@ fn count_to_end(
     }
 }
 
-// Zero, which has to be 0, and Reserved: a fault of either is handed up as that of a record. Then a record has to begin.
+// Zero, which has to be 0, and Reserved. Then a record has to begin.
 fn packed_check(m: &[u8]) -> Checked
     ensures { λ r. ⌜ checked r ≡ skipped (packedStart (now (m .entry)) 4) ⌝ }
 {
     let z = octets_check(m, 4, 1);
     let Checked::Next(reserved_at) = z else {
-        return in_record(4, z);
+        return z;
     };
     if m[4] != 0 {
-        return in_record(4, bad(5, 4));
+        return bad(5, 4);
     }
     let r = octets_check(m, reserved_at, 3);
     let Checked::Next(first) = r else {
-        return in_record(4, r);
+        return r;
     };
     if m.len() <= first {
         return bad(5, first);

@@ -19,7 +19,7 @@ use Rattle.format.specs.Reader.{Read, got, continue, _>>=_, _>>_, give, here, o
 use Rattle.records.specs.Sizes.{groupSize, pairSize}
 use Rattle.format.specs.Family.{Family}
 use Rattle.format.specs.Address.{groupField, sourceField}
-use Rattle.format.specs.Record.{assertFields}
+use Rattle.format.specs.Record.{assertRecord}
 use Rattle.format.specs.declared.Refusal.{Refusal}
 use Rattle.fields.specs.Answers.{checked, skipped}
 use Rattle.fields.specs.declared.field.Checked.{Checked}
@@ -29,19 +29,19 @@ use Rattle.fields.proofs.Fields.{number-skipped, group-back, source-bac
 
 module _ (f : Family) (o : List ℕ) (at : ℕ) where
   pub assert-no-group : {c : Checked} {x : Refusal} → c ≡ Bad x → checked c ≡ skipped (groupField f o at)
-      → checked c ≡ skipped (assertFields f o at)
-  unfolding assertFields _>>=_
+      → checked c ≡ skipped (assertRecord f o at)
+  unfolding assertRecord _>>=_
   assert-no-group p q = checks-bad (groupField f o at) _ p q
 
   pub assert-no-source : {g c : Checked} {p : ℕ} {x : Refusal} → g ≡ Next p → checked g ≡ skipped (groupField f o at)
-      → c ≡ Bad x → checked c ≡ skipped (sourceField f true o p) → checked c ≡ skipped (assertFields f o at)
-  unfolding assertFields _>>=_ here continue
+      → c ≡ Bad x → checked c ≡ skipped (sourceField f true o p) → checked c ≡ skipped (assertRecord f o at)
+  unfolding assertRecord _>>=_ here continue
   assert-no-source {p = p} e h e2 h2 = checks-on (groupField f o at) _ e h (λ g r. checks-bad (sourceField f true o p) _ e2 h2)
 
   pub assert-no-word : {g s c : Checked} {p q : ℕ} {x : Refusal} → g ≡ Next p → checked g ≡ skipped (groupField f o at)
       → s ≡ Next q → checked s ≡ skipped (sourceField f true o p) → c ≡ Bad x → checked c ≡ skipped (octets 4 o q)
-      → checked c ≡ skipped (assertFields f o at)
-  unfolding assertFields _>>=_ here continue
+      → checked c ≡ skipped (assertRecord f o at)
+  unfolding assertRecord _>>=_ here continue
   assert-no-word {p = p} {q = q} e h e2 h2 e3 h3 =
       checks-on (groupField f o at) _ e h (λ g r.
       checks-on (sourceField f true o p) _ e2 h2 (λ s t.
@@ -78,9 +78,9 @@ module _ {f : Family} {o : List ℕ} {at p q n : ℕ} (h : Head f o at p q n) wh
       (omega arith, omega arith, omega arith, omega arith)
 
   -- what is left of the record
-  head-rest : assertFields f o at
+  head-rest : assertRecord f o at
       ≡ continue (refuse (not (rBit (h .v)) && eqb (h .s) 0) 7 p o n) (λ u next. (number 4 >>= (λ m. give (assert (h .g) (h .s) (h .v) m))) o next)
-  unfolding assertFields _>>=_ _>>_ here continue
+  unfolding assertRecord _>>=_ _>>_ here continue
   head-rest = rw (h .group, h .source, h .word)
 
   test-is : (not (rBit (h .v)) && eqb (h .s) 0) ≡ zeroSource f o p q
@@ -92,11 +92,11 @@ module _ {f : Family} {o : List ℕ} {at p q n : ℕ} (h : Head f o at p q n) wh
   zero-tested e t g u = rw (← e, t, ← g, u)
 
   pub assert-zero : zeroSource f o p q ≡ true → {c : Checked} → c ≡ Bad (record { number = 7; place = p })
-      → checked c ≡ skipped (assertFields f o at)
+      → checked c ≡ skipped (assertRecord f o at)
   unfolding refuse continue checked skipped
   assert-zero t e = rw (e, head-rest, test-is, t)
 
   pub assert-last : zeroSource f o p q ≡ false → {x : Read (Unit {0})} → x ≡ skipped (octets 4 o n)
-      → x ≡ skipped (assertFields f o at)
+      → x ≡ skipped (assertRecord f o at)
   unfolding refuse continue _>>=_ give
   assert-last t e = rw (head-rest, test-is, t) (e ∙ sym (number-skipped 4 o n) ∙ sym (skipped-last (number 4 o n) (λ m. assert (h .g) (h .s) (h .v) m)))

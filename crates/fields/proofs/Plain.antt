@@ -1,7 +1,7 @@
 -- Records by their octets, over the family: a record that was read holds the numbers at its octets' places.
---     assert-fields-back, assert-back     an assert record
---     pair-fields-back, pair-back         a pair
---     record-back                         a record of any kind that has one of a fixed length
+--     pair-back         a pair
+--     assert-back       an assert record
+--     record-back       a record of any kind that has one of a fixed length
 -- Assumes nothing.
 use Prim.Native.Nat.{ℕ, _+_, _*_, _≤_}
 use native.Mathlib.Omega.{arith}
@@ -11,23 +11,18 @@ use mathlib.Core.List.{List}
 use lib.Dec.{eqb}
 use lib.ListN.{length}
 use Rattle.records.specs.Records.{AssertRecord, PairRecord, rBit}
-use Rattle.format.specs.Reader.{Read, got, bad, continue, _>>=_, _>>_, give, here, number, refuse, handUp, inRecord}
+use Rattle.format.specs.Reader.{Read, got, bad, continue, _>>=_, _>>_, give, here, number, refuse}
 use Rattle.records.specs.Sizes.{assertSize, pairSize}
 use Rattle.format.specs.Family.{Family}
 use Rattle.format.specs.Address.{groupField, sourceField}
 use Rattle.octets.specs.Octets.{numberAt}
 use Rattle.octets.proofs.Laws.{number-back}
-use Rattle.format.specs.Record.{Single, anAssert, aPair, assertFields, assertRecord, pairFields, pairRecord, recordAt}
+use Rattle.format.specs.Record.{Single, anAssert, aPair, assertRecord, pairRecord, recordAt}
 use Rattle.format.specs.declared.Kind.{Kind}
 use Rattle.format.specs.declared.Kind.the-variants.{Hello, Assert, Simple, Aggregated, NullRegister, RegisterStop}
 use Rattle.fields.specs.Answers.{plainAssert, plainPair, plainRecord, plainSize}
 use Rattle.fields.proofs.Skipped.{no-got, continue-back}
 use Rattle.fields.proofs.Fields.{group-back, source-back}
-
-handUp-back : {A : Type 0} (first : ℕ) (r : Read A) {a : A} {n : ℕ} → handUp first r ≡ got a n → r ≡ got a n
-unfolding handUp
-handUp-back first (got b m) e = e
-handUp-back first (bad m p) e = absurd (no-got e)
 
 refuse-back : (test : Bool) (n p : ℕ) (o : List ℕ) (at : ℕ) {u : Unit {0}} {m : ℕ} → refuse test n p o at ≡ got u m → m ≡ at
 unfolding refuse
@@ -39,10 +34,10 @@ got-next e = cc
 
 -- ---- pairs
 
-pub pair-fields-back : (f : Family) (z : Bool) (o : List ℕ) (at : ℕ) {e : PairRecord} {n : ℕ} → pairFields f z o at ≡ got e n
+pub pair-back : (f : Family) (z : Bool) (o : List ℕ) (at : ℕ) {e : PairRecord} {n : ℕ} → pairRecord f z o at ≡ got e n
     → (e ≡ plainPair f o at) × (n ≡ at + pairSize (f .width)) × (n ≤ length o)
-unfolding pairFields plainPair _>>=_ give
-pair-fields-back f z o at h =
+unfolding pairRecord plainPair _>>=_ give
+pair-back f z o at h =
     continue-back (groupField f o at) _ h (λ g m p q.
     continue-back (sourceField f z o m) _ q (λ s l r t.
     let b = group-back f o at p in
@@ -50,17 +45,12 @@ pair-fields-back f z o at h =
     let second : s ≡ numberAt (f .width) o (at + (f .width + 6)) = c .0 ∙ ap (numberAt (f .width) o) (omega arith) in
     (cc, omega (arith, got-next t), omega (arith, got-next t))))
 
-pub pair-back : (f : Family) (z : Bool) (o : List ℕ) (at : ℕ) {e : PairRecord} {n : ℕ} → pairRecord f z o at ≡ got e n
-    → (e ≡ plainPair f o at) × (n ≡ at + pairSize (f .width)) × (n ≤ length o)
-unfolding pairRecord inRecord
-pair-back f z o at h = pair-fields-back f z o at (handUp-back at (pairFields f z o at) h)
-
 -- ---- assert records
 
-pub assert-fields-back : (f : Family) (o : List ℕ) (at : ℕ) {e : AssertRecord} {n : ℕ} → assertFields f o at ≡ got e n
+pub assert-back : (f : Family) (o : List ℕ) (at : ℕ) {e : AssertRecord} {n : ℕ} → assertRecord f o at ≡ got e n
     → (e ≡ plainAssert f o at) × (n ≡ at + assertSize (f .width)) × (n ≤ length o)
-unfolding assertFields plainAssert _>>=_ _>>_ give here continue
-assert-fields-back f o at h =
+unfolding assertRecord plainAssert _>>=_ _>>_ give here continue
+assert-back f o at h =
     continue-back (groupField f o at) _ h (λ g at1 p q.
     continue-back (sourceField f true o at1) _ q (λ s at2 p2 q2.
     continue-back (number 4 o at2) _ q2 (λ v at3 p3 q3.
@@ -75,11 +65,6 @@ assert-fields-back f o at h =
     let ev : v ≡ numberAt 4 o (at + (2 * f .width + 6)) = b3 .0 ∙ ap (numberAt 4 o) (omega arith) in
     let em : m ≡ numberAt 4 o (at + (2 * f .width + 10)) = b5 .0 ∙ ap (numberAt 4 o) (omega arith) in
     (cc, omega (arith, got-next q5), omega (arith, got-next q5)))))))
-
-pub assert-back : (f : Family) (o : List ℕ) (at : ℕ) {e : AssertRecord} {n : ℕ} → assertRecord f o at ≡ got e n
-    → (e ≡ plainAssert f o at) × (n ≡ at + assertSize (f .width)) × (n ≤ length o)
-unfolding assertRecord inRecord
-assert-back f o at h = assert-fields-back f o at (handUp-back at (assertFields f o at) h)
 
 -- ---- a record of a kind
 

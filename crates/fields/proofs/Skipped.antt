@@ -5,12 +5,11 @@
 --     checks-next, checks-on    a check that passed: the reader gave a value, and goes on with it from that place
 --     refused                   a check that refused: the refusal is the reader's
 --     skipped-last              the last line puts the value together, and shows in no check
---     skipped-handUp            the place that is handed up is that of the check
 -- Assumes nothing.
 use Prim.Native.Nat.{ℕ}
 use native.Mathlib.Omega.{arith}
 use mathlib.Core.Path.{_≡_, refl, sym, ap, _∙_}
-use Rattle.format.specs.Reader.{Read, got, bad, continue, handUp}
+use Rattle.format.specs.Reader.{Read, got, bad, continue}
 use Rattle.format.specs.declared.Refusal.{Refusal}
 use Rattle.fields.specs.Answers.{checked, skipped}
 use Rattle.fields.specs.declared.field.Checked.{Checked}
@@ -50,8 +49,3 @@ pub skipped-last : {A B : Type 0} (r : Read A) (g : A → B) → skipped (contin
 unfolding skipped continue
 skipped-last (got a n) g = refl
 skipped-last (bad n p) g = refl
-
-pub skipped-handUp : {A : Type 0} (p : ℕ) (r : Read A) → skipped (handUp p r) ≡ handUp p (skipped r)
-unfolding skipped handUp
-skipped-handUp p (got a n) = refl
-skipped-handUp p (bad n i) = refl

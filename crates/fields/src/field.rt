@@ -15,7 +15,7 @@ ghost use lib.Dec.{eqb};
 ghost use lib.ListN.{length};
 ghost use Rattle.octets.specs.Octets.{numberAt};
 ghost use Rattle.records.specs.Sizes.{groupSize, sourceSize};
-ghost use Rattle.format.specs.Reader.{octets, handUp};
+ghost use Rattle.format.specs.Reader.{octets};
 ghost use Rattle.format.specs.Family.{familyOf};
 ghost use Rattle.format.specs.Address.{groupForm, groupField, sourceForm, sourceField};
 ghost use Rattle.fields.specs.Answers.{checked, skipped};
@@ -149,14 +149,4 @@ pub fn source_check(ipv6: bool, m: &[u8], at: usize, zero_allowed: bool) -> Chec
     ensures { λ r. ⌜ checked r ≡ skipped (sourceField (familyOf ipv6) «zero_allowed» (now (m .entry)) at) ⌝ }
 {
     address_check(ipv6, false, m, at, zero_allowed)
-}
-
-// The place that a record hands up: its own first octet.
-pub fn in_record(first: usize, c: Checked) -> Checked
-    ensures { λ r. ⌜ checked r ≡ handUp first (checked c) ⌝ }
-{
-    match c {
-        Checked::Next(next) => Checked::Next(next),
-        Checked::Bad(r) => bad(r.number, first),
-    }
 }

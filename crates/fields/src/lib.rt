@@ -10,7 +10,6 @@ pub use field::Checked;
 pub use field::address_size;
 pub use field::bad;
 pub use field::group_check;
-pub use field::in_record;
 pub use field::is_address;
 pub use field::is_group;
 pub use field::is_source;

@@ -2,7 +2,6 @@
 use crate::field::Checked;
 use crate::field::bad;
 use crate::field::group_check;
-use crate::field::in_record;
 use crate::field::octets_check;
 use crate::field::source_check;
 use crate::field::zero_at;
@@ -15,12 +14,13 @@ use format::r_bit;
 use octets::number32;
 ghost use mathlib.Core.Path.{_≡_};
 ghost use Rattle.format.specs.Family.{ipv4, familyOf};
-ghost use Rattle.format.specs.Record.{assertFields, assertRecord, pairFields, pairRecord, recordAt};
+ghost use Rattle.format.specs.Record.{assertRecord, pairRecord, recordAt};
 ghost use Rattle.fields.specs.Answers.{checked, skipped, single, plainAssert, plainPair, plainRecord};
 ghost use Rattle.format.specs.Values.{assertOf, pairOf, recordOf};
 
-fn assert_fields(ipv6: bool, m: &[u8], at: usize) -> Checked
-    ensures { λ r. ⌜ checked r ≡ skipped (assertFields (familyOf ipv6) (now (m .entry)) at) ⌝ }
+// An assert record.
+pub fn assert_check(ipv6: bool, m: &[u8], at: usize) -> Checked
+    ensures { λ r. ⌜ checked r ≡ skipped (assertRecord (familyOf ipv6) (now (m .entry)) at) ⌝ }
 {
     let g = group_check(ipv6, m, at);
     let Checked::Next(source_at) = g else {
@@ -34,7 +34,7 @@ fn assert_fields(ipv6: bool, m: &[u8], at: usize) -> Checked
     let Checked::Next(metric_at) = v else {
         return v;
     };
-    // R=0 with source 0 is found here.
+    // R=0 with source 0 is found here, and its place is the source's.
     if r_bit(number32(m, word_at)) {
         return octets_check(m, metric_at, 4);
     }
@@ -44,28 +44,15 @@ fn assert_fields(ipv6: bool, m: &[u8], at: usize) -> Checked
     octets_check(m, metric_at, 4)
 }
 
-fn pair_fields(ipv6: bool, m: &[u8], at: usize, zero_allowed: bool) -> Checked
-    ensures { λ r. ⌜ checked r ≡ skipped (pairFields (familyOf ipv6) «zero_allowed» (now (m .entry)) at) ⌝ }
+// A pair.
+pub fn pair_check(ipv6: bool, m: &[u8], at: usize, zero_allowed: bool) -> Checked
+    ensures { λ r. ⌜ checked r ≡ skipped (pairRecord (familyOf ipv6) «zero_allowed» (now (m .entry)) at) ⌝ }
 {
     let g = group_check(ipv6, m, at);
     let Checked::Next(source_at) = g else {
         return g;
     };
     source_check(ipv6, m, source_at, zero_allowed)
-}
-
-// An assert record.
-pub fn assert_check(ipv6: bool, m: &[u8], at: usize) -> Checked
-    ensures { λ r. ⌜ checked r ≡ skipped (assertRecord (familyOf ipv6) (now (m .entry)) at) ⌝ }
-{
-    in_record(at, assert_fields(ipv6, m, at))
-}
-
-// A pair.
-pub fn pair_check(ipv6: bool, m: &[u8], at: usize, zero_allowed: bool) -> Checked
-    ensures { λ r. ⌜ checked r ≡ skipped (pairRecord (familyOf ipv6) «zero_allowed» (now (m .entry)) at) ⌝ }
-{
-    in_record(at, pair_fields(ipv6, m, at, zero_allowed))
 }
 
 // A record of a kind that has records of one length; 4 for the others.

@@ -31,7 +31,7 @@ use Rattle.format.specs.Body.{zeroReserved, zeros, assertsBody, pairsBod
 use Rattle.format.specs.Unpacking.{unpacked, unpackAsserts, unpackPairs}
 use Rattle.format.specs.declared.Kind.{Kind}
 use Rattle.format.specs.declared.Kind.the-variants.{Hello, Assert, Simple, Aggregated, NullRegister, RegisterStop}
-use Rattle.format.proofs.Readers.{At, at-right, Reads, reads-then, reads-octets, reads-number, reads-must, reads-done, reads-inRecord, reads-records}
+use Rattle.format.proofs.Readers.{At, at-right, Reads, reads-then, reads-octets, reads-number, reads-must, reads-done, reads-records}
 use Rattle.format.proofs.Lengths.{AreOctets, no-octets, octet, zero-octet, _then_, number as octets-number}
 
 -- ---- the header
@@ -104,9 +104,8 @@ module _ (f : Family) (k : Kind) (rest : List ℕ) (o : AreOctets rest) (small :
 pub reads-zeros : Reads zeroReserved tt zeros
 unfolding zeroReserved be
 reads-zeros =
-    reads-inRecord
-    (reads-then {x = 0 ∷ []} (reads-must 5 (λ (z : ℕ). eqb z 0) refl (reads-number 0 1 (lit< tt)))
-    (reads-done tt (reads-octets (0 ∷ 0 ∷ 0 ∷ []) 3 refl)))
+    reads-then {x = 0 ∷ []} (reads-must 5 (λ (z : ℕ). eqb z 0) refl (reads-number 0 1 (lit< tt)))
+    (reads-done tt (reads-octets (0 ∷ 0 ∷ 0 ∷ []) 3 refl))
 
 -- records one after another, each read from its octets, which are some
 pub record Items {A : Type 0} (r : Reader A) (octetsOf : A → List ℕ) (l : List A) : Type 0 where

@@ -16,7 +16,7 @@ use lib.Seq.{take-add, drop-drop, drop-at, take-take, take-append-seam, drop-app
 use Rattle.octets.specs.Octets.{value, be}
 use Rattle.records.specs.Every.{Every}
 use Rattle.octets.proofs.Laws.{length-be, value-be}
-use Rattle.format.specs.Reader.{got, Reader, continue, _>>=_, _>>_, give, here, octets, number, must, refuse, handUp, inRecord, times, toEnd, records}
+use Rattle.format.specs.Reader.{got, Reader, continue, _>>=_, _>>_, give, here, octets, number, must, refuse, times, toEnd, records}
 use Rattle.format.specs.Record.{each}
 
 -- x stands in o at a place
@@ -117,10 +117,6 @@ reads-number n k h =
 pub reads-must : {A : Type 0} {r : Reader A} {a : A} {x : List ℕ} (n : ℕ) (test : A → Bool) → test a ≡ true → Reads r a x → Reads (must n test r) a x
 unfolding must continue
 reads-must n test e hr = record { read = λ o at h. rw (hr .read o at h, e) }
-
-pub reads-inRecord : {A : Type 0} {r : Reader A} {a : A} {x : List ℕ} → Reads r a x → Reads (inRecord r) a x
-unfolding inRecord handUp
-reads-inRecord hr = record { read = λ o at h. rw (hr .read o at h) }
 
 -- a counted list of things, each read from its octets
 pub reads-times : {A : Type 0} (r : Reader A) (octetsOf : A → List ℕ) (l : List A) → Every (λ (a : A). Reads r a (octetsOf a)) l → Reads (times (length l) r) l (each octetsOf l)

@@ -20,11 +20,11 @@ use Rattle.records.specs.Records.{AssertRecord, assert, PairRecord, pair, rBit,
 use Rattle.format.specs.Reader.{octets, must, _>>=_}
 use Rattle.format.specs.Family.{Family, maskLength, mayBeSource, Lawful}
 use Rattle.format.specs.Address.{groupForm, groupField, groupOctets, sourceForm, sourceField, sourceOctets}
-use Rattle.format.specs.Record.{assertFields, assertRecord, assertOctets, pairFields, pairRecord, pairOctets, positive, groupRecord, groupRecordOctets, sourceAggregated, rpAggregated, aggregatedFields, aggregatedRecord, aggregatedOctets, reserved2}
+use Rattle.format.specs.Record.{assertRecord, assertOctets, pairRecord, pairOctets, positive, groupRecord, groupRecordOctets, sourceAggregated, rpAggregated, aggregatedRecord, aggregatedOctets, reserved2}
 use Rattle.format.specs.Entry.{Fits, PairFits, allowedAssert, allowedPair}
 use Rattle.records.proofs.Every.{every-map}
 use Rattle.format.proofs.Lengths.{length-group, length-source}
-use Rattle.format.proofs.Readers.{Reads, reads-bind, reads-then, reads-last, reads-here, reads-refuse, reads-octets, reads-number, reads-must, reads-inRecord, reads-times}
+use Rattle.format.proofs.Readers.{Reads, reads-bind, reads-then, reads-last, reads-here, reads-refuse, reads-octets, reads-number, reads-must, reads-times}
 
 -- ---- addresses
 
@@ -91,25 +91,23 @@ module _ (f : Family) (lawful : Lawful f) where
       omega arith)
 
   pub reads-assert : (e : AssertRecord) → Fits f e → allowedAssert f e ≡ true → Reads (assertRecord f) e (assertOctets f e)
-  unfolding assertRecord assertFields assertOctets allowedAssert
+  unfolding assertRecord assertOctets allowedAssert
   reads-assert e fits ok =
       let r : Bool = rBit (e .rPreference) in
       let source : mayBeSource f r (e .source) ≡ true = both-right (f .isGroup (e .group)) (mayBeSource f r (e .source)) ok in
-      reads-inRecord
-      (reads-bind _ (reads-group f (e .group) (fits .group) (both-left (f .isGroup (e .group)) (mayBeSource f r (e .source)) ok))
+      reads-bind _ (reads-group f (e .group) (fits .group) (both-left (f .isGroup (e .group)) (mayBeSource f r (e .source)) ok))
       (reads-here (λ n.
       reads-bind _ (reads-source f true (e .source) (fits .source) (source-any r (e .source) source))
       (reads-bind _ (reads-number (e .rPreference) 4 (fits .rPreference))
       (reads-refuse (not r && eqb (e .source) 0) 7 n (source-not-zero r (e .source) source)
-      (reads-last (λ (m : ℕ). assert (e .group) (e .source) (e .rPreference) m) (reads-number (e .metric) 4 (fits .metric))))))))
+      (reads-last (λ (m : ℕ). assert (e .group) (e .source) (e .rPreference) m) (reads-number (e .metric) 4 (fits .metric)))))))
 
 pub reads-pair : (f : Family) (z : Bool) (e : PairRecord) → PairFits f e → allowedPair f z e ≡ true → Reads (pairRecord f z) e (pairOctets f e)
-unfolding pairRecord pairFields pairOctets allowedPair
+unfolding pairRecord pairOctets allowedPair
 reads-pair f z e fits ok =
-    reads-inRecord
-    (reads-bind _ (reads-group f (e .group) (fits .group) (both-left (f .isGroup (e .group)) (mayBeSource f z (e .source)) ok))
+    reads-bind _ (reads-group f (e .group) (fits .group) (both-left (f .isGroup (e .group)) (mayBeSource f z (e .source)) ok))
     (reads-last (λ (s : ℕ). pair (e .group) s)
-    (reads-source f z (e .source) (fits .source) (both-right (f .isGroup (e .group)) (mayBeSource f z (e .source)) ok))))
+    (reads-source f z (e .source) (fits .source) (both-right (f .isGroup (e .group)) (mayBeSource f z (e .source)) ok)))
 
 -- ---- aggregated records
 
@@ -165,10 +163,9 @@ module _ (f : Family) where
       (every-map _ _ (λ (s : ℕ) h. reads-source f true s (h .0) (h .1)) ss (fits .sources))))))
 
   pub reads-aggregated : (r : AggregatedRecord) → AggregatedFits f r → Reads (aggregatedRecord f) r (aggregatedOctets f r)
-  unfolding aggregatedRecord aggregatedFields aggregatedOctets AggregatedFits sourceAggregated rpAggregated
+  unfolding aggregatedRecord aggregatedOctets AggregatedFits sourceAggregated rpAggregated
   reads-aggregated (ofSource v m s gs) fits =
-      reads-inRecord
-      (reads-bind _ (reads-number v 4 (fits .rPreference))
+      reads-bind _ (reads-number v 4 (fits .rPreference))
       (reads-bind _ (reads-number m 4 (fits .metric))
       (rw (fits .rIsZero)
       (reads-bind _ (reads-source f false s (fits .source) (fits .isSource))
@@ -176,13 +173,12 @@ module _ (f : Family) where
       (reads-then reads-reserved
       (reads-last (λ (gs : List ℕ). ofSource v m s gs)
       (reads-times (groupField f) (groupOctets f) gs
-      (every-map _ _ (λ (g : ℕ) h. reads-group f g (h .0) (h .1)) gs (fits .groups))))))))))
+      (every-map _ _ (λ (g : ℕ) h. reads-group f g (h .0) (h .1)) gs (fits .groups)))))))))
   reads-aggregated (ofRp v m rs) fits =
-      reads-inRecord
-      (reads-bind _ (reads-number v 4 (fits .rPreference))
+      reads-bind _ (reads-number v 4 (fits .rPreference))
       (reads-bind _ (reads-number m 4 (fits .metric))
       (rw (fits .rIsOne)
       (reads-bind _ (positive-count (length rs) (fits .some) (fits .count))
       (reads-then reads-reserved
       (reads-last (λ (rs : List GroupRecord). ofRp v m rs)
-      (reads-times (groupRecord f) (groupRecordOctets f) rs (every-map _ _ reads-groupRecord rs (fits .records)))))))))
+      (reads-times (groupRecord f) (groupRecordOctets f) rs (every-map _ _ reads-groupRecord rs (fits .records))))))))

@@ -19,10 +19,10 @@ use Rattle.records.specs.Every.{Every}
 use Rattle.records.specs.Records.{AssertRecord, GroupRecord, ofGroup, AggregatedRecord, ofSource, ofRp, rBit, Formed, allEntries}
 use Rattle.records.specs.Sizes.{groupSize, sourceSize, groupRecordsSize, aggregatedSize, allSize}
 use Rattle.format.specs.Outcome.{gives}
-use Rattle.format.specs.Reader.{Read, got, bad, Reader, continue, _>>=_, _>>_, give, octets, number, must, handUp, inRecord, times, toEnd, records, outcome, from}
+use Rattle.format.specs.Reader.{Read, got, bad, Reader, continue, _>>=_, _>>_, give, here, octets, number, must, refuse, times, toEnd, records, outcome, from}
 use Rattle.format.specs.Family.{Family}
 use Rattle.format.specs.Address.{groupField, sourceField}
-use Rattle.format.specs.Record.{positive, groupRecord, sourceAggregated, rpAggregated, aggregatedFields, aggregatedRecord}
+use Rattle.format.specs.Record.{positive, groupRecord, sourceAggregated, rpAggregated, aggregatedRecord}
 use Rattle.format.specs.Header.{header}
 use Rattle.format.specs.Body.{zeroReserved, assertsBody}
 use Rattle.format.specs.Unpacking.{unpacked, unpackAsserts}
@@ -95,13 +95,18 @@ takes-must {A} {r = r} {Q = Q} n test hr = record {
     go o at a next rest h q true t = (rest, h, (t, q))
     go o at a next rest h q false t = tt
 
-pub takes-inRecord : {A : Type 0} {left : ℕ} {r : Reader A} {Q : A → ℕ → Type 0} → Takes left r Q → Takes left (inRecord r) Q
-unfolding inRecord handUp
-takes-inRecord {A} {r = r} {Q = Q} hr = record { took = λ o at e. go o at (r o at) (hr .took o at e) }
+-- lines that read nothing
+pub takes-here : {B : Type 0} {left : ℕ} {k : ℕ → Reader B} {Q : B → ℕ → Type 0} → ((n : ℕ) → Takes left (k n) Q) → Takes left (here >>= k) Q
+unfolding _>>=_ continue here
+takes-here hk = record { took = λ o at e. hk at .took o at e }
+
+pub takes-refuse : {B : Type 0} {left : ℕ} {s : Reader B} {Q : B → ℕ → Type 0} (test : Bool) (n p : ℕ) → Takes left s Q → Takes left (refuse test n p >> s) Q
+unfolding _>>_ continue refuse
+takes-refuse {B} {left} {s} {Q} test n p hs = record { took = λ o at e. go test o at (hs .took o at e) }
   where
-    go : (o : List ℕ) (at : ℕ) (x : Read A) → Took Q o x → Took Q o (handUp at x)
-    go o at (got a next) h = h
-    go o at (bad n p) h = tt
+    go : (t : Bool) (o : List ℕ) (at : ℕ) → Took Q o (s o at) → Took Q o (continue (refuse t n p o at) (λ a next. s o next))
+    go true o at h = tt
+    go false o at h = h
 
 pub takes-cond : {A : Type 0} {left : ℕ} {r s : Reader A} {Q : A → ℕ → Type 0} (b : Bool)
     → (b ≡ true → Takes left r Q) → (b ≡ false → Takes left s Q) → Takes left (cond b r s) Q
@@ -223,12 +228,11 @@ module _ (f : Family) (v m : ℕ) (whole left : ℕ) (e : whole ≡ 8 + left) wh
       takes-give _ (omega arith, h)
 
 pub takes-aggregatedRecord : (f : Family) (left : ℕ) → Takes left (aggregatedRecord f) (λ a rest. Whole f a left rest)
-unfolding aggregatedRecord aggregatedFields
+unfolding aggregatedRecord
 takes-aggregatedRecord f left =
-    takes-inRecord
-    (takes-bind (takes-number 4 left) λ v left₁ q₁.
+    takes-bind (takes-number 4 left) λ v left₁ q₁.
     takes-bind (takes-number 4 left₁) λ m left₂ q₂.
-    takes-cond (rBit v) (takes-rpAggregated f v m left left₂ (omega arith)) (takes-sourceAggregated f v m left left₂ (omega arith)))
+    takes-cond (rBit v) (takes-rpAggregated f v m left left₂ (omega arith)) (takes-sourceAggregated f v m left left₂ (omega arith))
 
 takes-aggregatedRecords : (f : Family) (left : ℕ)
     → Takes left (records (aggregatedRecord f)) (λ rs rest. (rest ≡ 0) × ((left ≡ allSize (f .width) rs + rest) × Every Formed rs))
@@ -256,10 +260,9 @@ pub record Records (f : Family) (m : List ℕ) (es : List AssertRecord) : Type 0
 takes-zeroReserved : (left : ℕ) → Takes left zeroReserved (λ x rest. left ≡ 4 + rest)
 unfolding zeroReserved
 takes-zeroReserved left =
-    takes-inRecord
-    (takes-then (takes-must 5 _ (takes-number 1 left)) λ z left₁ q₁.
+    takes-then (takes-must 5 _ (takes-number 1 left)) λ z left₁ q₁.
     takes-then (takes-octets 3 left₁) λ x left₂ q₂.
-    takes-give _ (omega arith))
+    takes-give _ (omega arith)
 
 takes-body : (f : Family) (m : List ℕ) (left : ℕ) → 4 + left ≡ length m
     → Takes left (assertsBody f Aggregated) (λ es rest. Records f m es)

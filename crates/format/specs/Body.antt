@@ -10,15 +10,15 @@ use lib.Dec.{eqb}
 use Rattle.octets.specs.Octets.{_&_}
 use Rattle.records.specs.Records.{AssertRecord, PairRecord, allEntries}
 use Rattle.records.specs.Joining.{joined}
-use Rattle.format.specs.Reader.{Reader, _>>=_, _>>_, bad, give, octets, number, must, inRecord, records, nothingMore}
+use Rattle.format.specs.Reader.{Reader, _>>=_, _>>_, bad, give, octets, number, must, records, nothingMore}
 use Rattle.format.specs.Family.{Family}
 use Rattle.format.specs.Record.{each, assertRecord, assertOctets, pairRecord, pairOctets, aggregatedRecord, aggregatedOctets}
 use Rattle.format.specs.declared.Kind.{Kind}
 use Rattle.format.specs.declared.Kind.the-variants.{Hello, Assert, Simple, Aggregated, NullRegister, RegisterStop}
 
--- "Zero is 1 octet, 0 when read (ours); Reserved 3"; both are found at 4
+-- "Zero is 1 octet, 0 when read (ours); Reserved 3": a field each
 unfoldable pub zeroReserved : Reader (Unit {0})
-zeroReserved = inRecord do
+zeroReserved = do
   must 5 (λ z. eqb z 0) (number 1)
   octets 3
   give tt

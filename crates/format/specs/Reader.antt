@@ -1,9 +1,9 @@
 -- Readers of fields with a test, of records and of lists. What a reader is, and the readers of octets and of numbers, are in
--- octets/specs/Reader.antt and are handed on.
+-- octets/specs/Reader.antt and are handed on. A refusal goes up as the field's reader gave it: "For 6 and 7 in reading a message, record or
+-- attribute the place becomes the first octet of the field at fault" (02, E3).
 --     here                    the present place
 --     must                    a field that has to pass a test: "at one field 6 before the rest"
 --     refuse                  a refusal at a place already passed, if a test holds
---     placed, inRecord        which place a record's reader hands up
 --     times                   a counted list
 --     toEnd, records          the records up to the end of the octets, one at least
 --     nothingMore             the octets end here
@@ -26,18 +26,6 @@ must n test r o at = continue (r o at) (λ a next. cond (test a) (got a next) (b
 
 unfoldable pub refuse : Bool → ℕ → ℕ → Reader (Unit {0})
 refuse test n p o at = cond test (bad n p) (got tt at)
-
--- "The place is the first octet of the record (in an aggregated message, of the aggregated one), option or attribute at
--- fault": of a fault's number, the record's first octet and the field's, the record's. (E3 changes this line alone.)
-unfoldable pub placed : ℕ → ℕ → ℕ → ℕ
-placed n first field = first
-
-unfoldable pub handUp : {A : Type 0} → ℕ → Read A → Read A
-handUp first (got a next) = got a next
-handUp first (bad n p) = bad n (placed n first p)
-
-unfoldable pub inRecord : {A : Type 0} → Reader A → Reader A
-inRecord r o at = handUp at (r o at)
 
 unfoldable pub times : {A : Type 0} → ℕ → Reader A → Reader (List A)
 times zero r = give []

@@ -1,11 +1,10 @@
 -- The records of 01, "Octets of a message", read and written, each field in its order. Reserved octets are ignored when read and
 -- written 0.
---     assertFields, assertRecord, assertOctets     "group, source, R bit with 31-bit metric preference, metric: 22 octets"
---     pairFields, pairRecord, pairOctets           "group, source: 14 octets"
---     groupRecord, groupRecordOctets               "group, 16-bit number of sources, 2 reserved, sources: 12 + 6p octets"
---     aggregatedFields, aggregatedRecord, aggregatedOctets     source aggregated, 18 + 8n octets, or RP aggregated, 12 octets and its group records
--- Each record's fields are read in order; the record then decides which place a fault is handed up with.
---     Single, recordAt                             "A record read singly, at a place in lent octets and of a kind the caller names"
+--     assertRecord, assertOctets             "group, source, R bit with 31-bit metric preference, metric: 22 octets"
+--     pairRecord, pairOctets                 "group, source: 14 octets"
+--     groupRecord, groupRecordOctets         "group, 16-bit number of sources, 2 reserved, sources: 12 + 6p octets"
+--     aggregatedRecord, aggregatedOctets     source aggregated, 18 + 8n octets, or RP aggregated, 12 octets and its group records
+--     Single, recordAt                       "A record read singly, at a place in lent octets and of a kind the caller names"
 -- Assumes nothing: these are definitions.
 use Prim.Native.Nat.{ℕ}
 use mathlib.Core.Bool.{Bool, true, false, not, _&&_, cond}
@@ -14,7 +13,7 @@ use lib.ListN.{length}
 use lib.Dec.{eqb}
 use Rattle.octets.specs.Octets.{be, _&_}
 use Rattle.records.specs.Records.{AssertRecord, assert, PairRecord, pair, rBit, GroupRecord, ofGroup, AggregatedRecord, ofSource, ofRp}
-use Rattle.format.specs.Reader.{Reader, _>>=_, _>>_, bad, give, here, octets, number, must, refuse, inRecord, times}
+use Rattle.format.specs.Reader.{Reader, _>>=_, _>>_, bad, give, here, octets, number, must, refuse, times}
 use Rattle.format.specs.Family.{Family}
 use Rattle.format.specs.Address.{groupField, groupOctets, sourceField, sourceOctets}
 use Rattle.format.specs.declared.Kind.{Kind}
@@ -31,9 +30,9 @@ reserved2 = 0 ∷ 0 ∷ []
 
 -- ---- assert records
 
--- "With R=0 the source may not be 0"; that "is found at its R word"
-unfoldable pub assertFields : Family → Reader AssertRecord
-assertFields f = do
+-- "With R=0 the source may not be 0": that "is found at its R word", and its place is "for a zero source with R=0 that of the source" (02, E3)
+unfoldable pub assertRecord : Family → Reader AssertRecord
+assertRecord f = do
   g ← groupField f
   sourceAt ← here
   s ← sourceField f true
@@ -42,23 +41,17 @@ assertFields f = do
   m ← number 4
   give (assert g s v m)
 
-unfoldable pub assertRecord : Family → Reader AssertRecord
-assertRecord f = inRecord (assertFields f)
-
 unfoldable pub assertOctets : Family → AssertRecord → List ℕ
 assertOctets f e = groupOctets f (e .group) & sourceOctets f (e .source) & be 4 (e .rPreference) & be 4 (e .metric)
 
 -- ---- pairs
 
 -- "A null-register source may not be 0; a register-stop source may"
-unfoldable pub pairFields : Family → Bool → Reader PairRecord
-pairFields f zeroAllowed = do
+unfoldable pub pairRecord : Family → Bool → Reader PairRecord
+pairRecord f zeroAllowed = do
   g ← groupField f
   s ← sourceField f zeroAllowed
   give (pair g s)
-
-unfoldable pub pairRecord : Family → Bool → Reader PairRecord
-pairRecord f zeroAllowed = inRecord (pairFields f zeroAllowed)
 
 unfoldable pub pairOctets : Family → PairRecord → List ℕ
 pairOctets f e = groupOctets f (e .group) & sourceOctets f (e .source)
@@ -97,14 +90,11 @@ rpAggregated f v m = do
   rs ← times n (groupRecord f)
   give (ofRp v m rs)
 
-unfoldable pub aggregatedFields : Family → Reader AggregatedRecord
-aggregatedFields f = do
+unfoldable pub aggregatedRecord : Family → Reader AggregatedRecord
+aggregatedRecord f = do
   v ← number 4
   m ← number 4
   cond (rBit v) (rpAggregated f v m) (sourceAggregated f v m)
-
-unfoldable pub aggregatedRecord : Family → Reader AggregatedRecord
-aggregatedRecord f = inRecord (aggregatedFields f)
 
 unfoldable pub aggregatedOctets : Family → AggregatedRecord → List ℕ
 aggregatedOctets f (ofSource v m s gs) =

@@ -5,7 +5,6 @@
 --     own-length, value-there                           an option that is not refused: its length, its value in the octets
 --     no-type, no-length, Head, head                    an option's type and length: cut, or there
 --     tested                                            refused by the code's tests, one of them of the four octets 00 28 00 00
---     option-got, option-bad                            an option by its fields: a fault is handed up
 -- Assumes nothing.
 use mathlib.Core.Path.{_≡_, refl, sym, ap, _∙_}
 use mathlib.Core.Bool.{Bool, true, false, not, _||_, cond}
@@ -17,8 +16,8 @@ use lib.Dec.{eqb}
 use lib.ListN.{length}
 use Rattle.octets.specs.Octets.{value, numberAt}
 use Rattle.octets.proofs.Laws.{octets-back, number-split, number-back}
-use Rattle.format.specs.Reader.{got, bad, continue, _>>=_, _>>_, give, here, octets, number, refuse, placed, handUp, inRecord}
-use Rattle.hello.specs.Options.{Said, typeOf, among, named, lengthOf, isSome, given, against, hear, optionValue, optionFields, option}
+use Rattle.format.specs.Reader.{got, bad, continue, _>>=_, _>>_, give, here, octets, number, refuse}
+use Rattle.hello.specs.Options.{Said, typeOf, among, named, lengthOf, isSome, given, against, hear, optionValue, option}
 use Rattle.hello.specs.Answers.{ifGiven, stepped, fourAt, lengthFits}
 use Rattle.hello.specs.declared.table.Known.{Known}
 use Rattle.hello.specs.declared.table.Known.the-variants.{Holdtime, Priority, Packing, Other}
@@ -83,12 +82,12 @@ value-there s k n o at e f = go k (own-length s k n e)
 
 -- ---- an option's type and length
 
-pub no-type : (s : Said) (o : List ℕ) (at : ℕ) {i p : ℕ} → number 2 o at ≡ bad i p → optionFields s o at ≡ bad i p
-unfolding optionFields here _>>=_ continue
+pub no-type : (s : Said) (o : List ℕ) (at : ℕ) {i p : ℕ} → number 2 o at ≡ bad i p → option s o at ≡ bad i p
+unfolding option here _>>=_ continue
 no-type s o at e = rw e
 
-pub no-length : (s : Said) (o : List ℕ) (at : ℕ) {t b i p : ℕ} → number 2 o at ≡ got t b → number 2 o b ≡ bad i p → optionFields s o at ≡ bad i p
-unfolding optionFields here _>>=_ continue
+pub no-length : (s : Said) (o : List ℕ) (at : ℕ) {t b i p : ℕ} → number 2 o at ≡ got t b → number 2 o b ≡ bad i p → option s o at ≡ bad i p
+unfolding option here _>>=_ continue
 no-length s o at e f = rw (e, f)
 
 -- "the four octets 00 28 00 00"
@@ -111,12 +110,12 @@ four-capability o at n there t size = rw (capability-number, number-split 2 2 o 
 -- the type at a place names the option k, the length n follows, and the value is due at the next place
 pub record Head (o : List ℕ) (at : ℕ) (k : Known) (n next : ℕ) : Type 0 where
   pub fits : at + 4 ≤ length o
-  pub reads : (s : Said) → optionFields s o at ≡ optionValue at s k n o next
+  pub reads : (s : Said) → option s o at ≡ optionValue at s k n o next
   -- the length that the code tests is the option's own
   pub own : lengthFits o at k n ≡ eqb n (lengthOf k n)
 
 pub head : (o : List ℕ) (at : ℕ) {t b n next : ℕ} {k : Known} → number 2 o at ≡ got t b → number 2 o b ≡ got n next → k ≡ named t → Head o at k n next
-unfolding optionFields here _>>=_ continue lengthFits lengthOf
+unfolding option here _>>=_ continue lengthFits lengthOf
 head o at {t} {b} {n} {next} {k} e f g =
     let first = number-back 2 o at e in
     let second = number-back 2 o b f in
@@ -134,13 +133,3 @@ pub tested : {o : List ℕ} {at n next : ℕ} {k : Known} → Head o at k n next
     → r ≡ (not (lengthFits o at k n) || given s k) → r ≡ b → against s k n ≡ b
 unfolding against
 tested h s e f = rw (← h .own) (sym e ∙ f)
-
--- ---- a fault handed up
-
-pub option-got : (s : Said) (o : List ℕ) (at : ℕ) {s′ : Said} {next : ℕ} → optionFields s o at ≡ got s′ next → option s o at ≡ got s′ next
-unfolding option inRecord handUp
-option-got s o at e = rw e
-
-pub option-bad : (s : Said) (o : List ℕ) (at : ℕ) {n p : ℕ} → optionFields s o at ≡ bad n p → option s o at ≡ bad n at
-unfolding option inRecord handUp placed
-option-bad s o at e = rw e

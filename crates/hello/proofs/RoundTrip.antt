@@ -21,12 +21,12 @@ use Rattle.format.specs.Header.{message}
 use Rattle.format.specs.Writing.{WritingCall, lengthBy}
 use Rattle.format.specs.declared.Kind.the-variants.{Hello as ofHello}
 use Rattle.format.proofs.Outcomes.{gives-same}
-use Rattle.format.proofs.Readers.{At, at-left, at-right, Reads, reads-bind, reads-last, reads-here, reads-refuse, reads-octets, reads-number, reads-inRecord}
+use Rattle.format.proofs.Readers.{At, at-left, at-right, Reads, reads-bind, reads-last, reads-here, reads-refuse, reads-octets, reads-number}
 use Rattle.format.proofs.Lengths.{AreOctets, no-octets, _then_, number}
 use Rattle.format.proofs.Messages.{at-body, length-message, header-message}
 use Rattle.hello.specs.declared.table.Known.{Known}
 use Rattle.hello.specs.declared.table.Known.the-variants.{Holdtime, Priority, Packing, Other}
-use Rattle.hello.specs.Options.{Said, said, nothing, typeOf, among, named, lengthOf, isSome, given, hear, numberOctets, valueOf, against, optionValue, optionFields, option, optionOctets, optionsOctets}
+use Rattle.hello.specs.Options.{Said, said, nothing, typeOf, among, named, lengthOf, isSome, given, hear, numberOctets, valueOf, against, optionValue, option, optionOctets, optionsOctets}
 use Rattle.hello.specs.Hello.{Hello, hello, holdtimeOf, helloOf, helloBody, readHello, saidIn, helloMessage, writeHello}
 use Rattle.hello.specs.Answers.{ifGiven, helloBy, told, zeroPriority, unannounced}
 use Rattle.hello.specs.RoundTrip.{WriteCall, Writes, announced, Trip, RoundTrip}
@@ -60,14 +60,13 @@ new packing s e = e
 
 pub reads-option : {k : Known} → Listed k → (s : Said) (v : List ℕ) → given s k ≡ false → length v ≡ lengthOf k 0
     → Reads (option s) (hear s k v) (be 2 (typeOf k) ++ (be 2 (lengthOf k 0) ++ v))
-unfolding option optionFields optionValue
+unfolding option optionValue
 reads-option {k} l s v e long =
     let row = listed l in
-    reads-inRecord
-    (reads-here (λ first.
+    reads-here (λ first.
     reads-bind _ (reads-number (typeOf k) 2 (row .1))
     (reads-bind _ (reads-number (lengthOf k 0) 2 (row .2))
-    (rw (row .0) (reads-refuse _ 13 first (new l s e) (reads-last (hear s k) (reads-octets v (lengthOf k 0) long)))))))
+    (rw (row .0) (reads-refuse _ 13 first (new l s e) (reads-last (hear s k) (reads-octets v (lengthOf k 0) long))))))
 
 -- ---- one option more
 

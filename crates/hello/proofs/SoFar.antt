@@ -13,9 +13,9 @@ use borrow.Author.Tests.{le-leb, lt-leb}
 use lib.Dec.{leb}
 use lib.ListN.{length, take, drop}
 use Rattle.format.specs.Outcome.{gives, refuses}
-use Rattle.format.specs.Reader.{Read, got, bad, continue, _>>=_, _>>_, give, here, octets, number, refuse, handUp, inRecord, outcome, from}
+use Rattle.format.specs.Reader.{Read, got, bad, continue, _>>=_, _>>_, give, here, octets, number, refuse, outcome, from}
 use Rattle.hello.specs.declared.table.Known.{Known}
-use Rattle.hello.specs.Options.{Said, nothing, named, against, optionValue, optionFields, option, options}
+use Rattle.hello.specs.Options.{Said, nothing, named, against, optionValue, option, options}
 
 -- ---- where readers stop
 
@@ -56,20 +56,14 @@ least-value first s k n o at =
     least-continue at at (refuse (against s k n) 13 first o at) _ (least-refuse (against s k n) 13 first o at)
     (λ a i h. least-continue (i + n) at (octets n o i) _ (least-octets n o i) (λ v j l. omega arith))
 
-least-fields : (s : Said) (o : List ℕ) (at : ℕ) → AtLeast (at + 4) (optionFields s o at)
-unfolding optionFields here _>>=_ continue
-least-fields s o at =
+least-option : (s : Said) (o : List ℕ) (at : ℕ) → AtLeast (at + 4) (option s o at)
+unfolding option here _>>=_ continue
+least-option s o at =
     least-continue (at + 2) (at + 4) (number 2 o at) _ (least-number 2 o at)
     (λ t i h. least-continue (i + 2) (at + 4) (number 2 o i) _ (least-number 2 o i) (λ n j l. least-less j (at + 4) (optionValue at s (named t) n o j) (omega arith) (least-value at s (named t) n o j)))
 
-handed : {A : Type 0} (p first : ℕ) (r : Read A) → AtLeast p r → AtLeast p (handUp first r)
-unfolding handUp
-handed p first (got a n) h = h
-handed p first (bad n q) h = tt
-
 pub option-next : (s : Said) (o : List ℕ) (at : ℕ) {s′ : Said} {next : ℕ} → option s o at ≡ got s′ next → at + 4 ≤ next
-unfolding option inRecord
-option-next s o at e = subst (AtLeast (at + 4)) e (handed (at + 4) at (optionFields s o at) (least-fields s o at))
+option-next s o at e = subst (AtLeast (at + 4)) e (least-option s o at)
 
 -- ---- the loop
 

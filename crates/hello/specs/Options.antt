@@ -18,7 +18,7 @@ use Rattle.octets.specs.Octets.{value, be, _&_}
 use Rattle.hello.specs.declared.table.Known.{Known}
 use Rattle.hello.specs.declared.table.Known.the-variants.{Holdtime, Priority, Packing, Other}
 use Rattle.format.specs.Record.{each}
-use Rattle.format.specs.Reader.{Reader, got, continue, _>>=_, _>>_, give, here, octets, number, refuse, inRecord}
+use Rattle.format.specs.Reader.{Reader, got, continue, _>>=_, _>>_, give, here, octets, number, refuse}
 
 -- the holdtime and the priority, if given, and whether the packing capability was
 pub data Said : Type 0 where
@@ -87,23 +87,19 @@ valueOf s Other = []
 unfoldable pub against : Said → Known → ℕ → Bool
 against s k n = not (eqb n (lengthOf k n)) || given s k
 
--- what follows the type and the length of the option that begins at a place
+-- what follows the type and the length of the option that begins at a place: 13 keeps that place, 01's "first octet of the .. option"
 unfoldable pub optionValue : ℕ → Said → Known → ℕ → Reader Said
 optionValue first s k n = do
   refuse (against s k n) 13 first
   v ← octets n
   give (hear s k v)
 
-unfoldable pub optionFields : Said → Reader Said
-optionFields s = do
+unfoldable pub option : Said → Reader Said
+option s = do
   first ← here
   t ← number 2
   n ← number 2
   optionValue first s (named t) n
-
--- "The place is the first octet of the .. option .. at fault"
-unfoldable pub option : Said → Reader Said
-option s = inRecord (optionFields s)
 
 -- The first argument only bounds the recursion: an option has four octets at least.
 unfoldable pub options : ℕ → Said → Reader Said

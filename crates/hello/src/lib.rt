@@ -19,7 +19,7 @@ ghost use mathlib.Core.Bool.{cond};
 ghost use lib.ListN.{length};
 ghost use Rattle.octets.specs.Field.{fieldOf, placeOf};
 ghost use Rattle.format.specs.Reader.{bad, from};
-ghost use Rattle.hello.specs.Options.{nothing, optionFields, option, options};
+ghost use Rattle.hello.specs.Options.{nothing, option, options};
 ghost use Rattle.hello.specs.Hello.{holdtimeOf, helloOf, helloOptions, readHello};
 ghost use Rattle.hello.specs.Answers.{ifGiven, saidBy, stepped, heard, helloBy, zeroPriority, told, unannounced};
 
@@ -65,9 +65,9 @@ fn cut(f: Field) -> Step
     bad(6, octets::place(f))
 }
 
-// An option by its fields, each fault at the field's own place: 13 before the value is looked at.
-fn option_fields(m: &[u8], at: usize, h: Heard) -> Step
-    ensures { λ r. ⌜ stepped r ≡ optionFields (saidBy h) (now (m .entry)) at ⌝ }
+// An option: 6 is at the field that is cut, and 13, before the value is looked at, at the option's first octet.
+fn option(m: &[u8], at: usize, h: Heard) -> Step
+    ensures { λ r. ⌜ stepped r ≡ option (saidBy h) (now (m .entry)) at ⌝ }
 {
     let t = octets::read16(m, at);
     let Field::Got {
@@ -94,17 +94,6 @@ fn option_fields(m: &[u8], at: usize, h: Heard) -> Step
         return cut(v);
     };
     Step::Next(said_with(m, value_at, k, h), next)
-}
-
-// An option: a fault is handed up at the option's first octet.
-fn option(m: &[u8], at: usize, h: Heard) -> Step
-    ensures { λ r. ⌜ stepped r ≡ option (saidBy h) (now (m .entry)) at ⌝ }
-{
-    let s = option_fields(m, at, h);
-    match s {
-        Step::Next(said, next) => Step::Next(said, next),
-        Step::Bad(r) => bad(r.number, at),
-    }
 }
 
 // The options from a place to the end of the octets.

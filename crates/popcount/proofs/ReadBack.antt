@@ -5,7 +5,7 @@
 --     read-back                    the theorem, of a call that wrote something
 -- Assumes nothing.
 use mathlib.Core.Path.{_≡_, refl, sym, ap, subst, _∙_}
-use mathlib.Core.Bool.{Bool, true, false, cond}
+use mathlib.Core.Bool.{Bool, true, false, not, cond}
 use mathlib.Core.List.{List, [], _∷_, map, foldl}
 use Prim.Native.Nat.{ℕ, zero, suc, _+_, _^_, _≤_, _<_, _%_, min}
 use native.Mathlib.Nat.{zero-add}
@@ -18,13 +18,13 @@ use Rattle.octets.specs.Octets.{Octets, value, put}
 use Rattle.octets.proofs.Laws.{octets-take, octets-drop, value-lt, take-put, length-put}
 use Rattle.records.specs.Every.{Every}
 use Rattle.format.specs.Outcome.{Outcome, gives, refuses, refuseIf, _>>=_, _>>_}
-use Rattle.format.specs.Reader.{Read, got, bad, continue, _>>=_ as _>>>=_, _>>_ as _>>>_, give, octets, number, must, handUp, inRecord, toEnd, outcome, from}
+use Rattle.format.specs.Reader.{Read, got, bad, continue, _>>=_ as _>>>=_, _>>_ as _>>>_, give, here, octets, number, refuse, toEnd, outcome, from}
 use Rattle.format.specs.Writing.{intoBuffer}
 use Rattle.format.proofs.Outcomes.{no-refusal, gives-same}
 use Rattle.format.proofs.Readers.{At, Reads}
 use Rattle.attributes.specs.Speed.{size}
 use Rattle.attributes.specs.Options.{Option, transit, stub, minimumSpeed, maximumSpeed, domain, node, diameter, timeZone, sizeOf, bitOf, hasBit, present}
-use Rattle.attributes.specs.Attribute.{isPopCount, lengthAgrees, optional, values, attributeFields, attribute, attributeOctets}
+use Rattle.attributes.specs.Attribute.{isPopCount, lengthAgrees, optional, values, attribute, attributeOctets}
 use Rattle.attributes.specs.Written.{valueOf, Given, Written}
 use Rattle.attributes.specs.declared.read.Attribute.{Attribute}
 use Rattle.attributes.specs.declared.options.Values.{Values}
@@ -177,25 +177,20 @@ module _ (o : List ℕ) (are : Octets o) where
       on-past SpeedsFit (optional w timeZone o n₇) _ λ h n₈.
       record { minimum = least; maximum = greatest }
 
-  on-fields : (at : ℕ) → On (λ a. SpeedsFit (a .values)) (attributeFields o at)
-  unfolding attributeFields _>>>=_ _>>>_ give
-  on-fields at =
-      on-past _ (must 13 isPopCount (number 1) o at) _ λ t n₁.
-      on-past _ (must 13 (λ n. leb 6 n) (number 1) o n₁) _ λ k n₂.
-      on-past _ (number 2 o n₂) _ λ m n₃.
-      on-past _ (number 2 o n₃) _ λ f n₄.
-      on-past _ (must 13 (lengthAgrees k) (number 2) o n₄) _ λ w n₅.
-      on-continue SpeedsFit _ (values w o n₅) _ (on-values w n₅) λ v n₆ fit.
-      on-past _ (octets _ o n₆) _ λ x n₇.
-      fit
-
   on-attribute : (at : ℕ) → On (λ a. SpeedsFit (a .values)) (attribute o at)
-  unfolding attribute inRecord handUp
-  on-attribute at = go (attributeFields o at) (on-fields at)
-    where
-      go : (r : Read Attribute) → On (λ a. SpeedsFit (a .values)) r → On (λ a. SpeedsFit (a .values)) (handUp at r)
-      go (got a n) h = h
-      go (bad n p) h = tt
+  unfolding attribute _>>>=_ _>>>_ give here continue
+  on-attribute at =
+      on-past _ (number 1 o at) _ λ t n₁.
+      on-past _ (refuse (not (isPopCount t)) 13 at o n₁) _ λ x₁ n₂.
+      on-past _ (number 1 o n₂) _ λ k n₃.
+      on-past _ (refuse (ltb k 6) 13 at o n₃) _ λ x₂ n₄.
+      on-past _ (number 2 o n₄) _ λ m n₅.
+      on-past _ (number 2 o n₅) _ λ f n₆.
+      on-past _ (number 2 o n₆) _ λ w n₇.
+      on-past _ (refuse (not (lengthAgrees k w)) 13 at o n₇) _ λ x₃ n₈.
+      on-continue SpeedsFit _ (values w o n₈) _ (on-values w n₈) λ v n₉ fit.
+      on-past _ (octets _ o n₉) _ λ x n₁₀.
+      fit
 
   on-toEnd : (n at : ℕ) → On (Every (λ a. SpeedsFit (a .values))) (toEnd n attribute o at)
   unfolding toEnd Every

@@ -13,9 +13,9 @@ use borrow.Author.Tests.{le-leb, lt-leb}
 use lib.ListN.{length}
 use Rattle.format.specs.Outcome.{Outcome, gives, refuses, _>>=_}
 use Rattle.format.specs.Reader.{Read, got, bad, continue, number, toEnd, outcome, from}
-use Rattle.format.proofs.Taken.{Took, Takes, takes-give, takes-bind, takes-then, takes-octets, takes-number, takes-must, takes-inRecord, takes-cond}
+use Rattle.format.proofs.Taken.{Took, Takes, takes-give, takes-bind, takes-then, takes-octets, takes-number, takes-here, takes-refuse, takes-cond}
 use Rattle.attributes.specs.Options.{Option, transit, stub, minimumSpeed, maximumSpeed, domain, node, diameter, timeZone, sizeOf, present}
-use Rattle.attributes.specs.Attribute.{isPopCount, lengthAgrees, optional, values, attributeFields, attribute}
+use Rattle.attributes.specs.Attribute.{optional, values, attribute}
 use Rattle.attributes.specs.declared.read.Attribute.{Attribute}
 use Rattle.popcount.specs.Merging.{contributors}
 use Rattle.popcount.specs.Tally.{begun, counted, tallyOf}
@@ -45,17 +45,20 @@ takes-values w left =
     takes-give _ (omega arith)
 
 takes-attribute : (left : ℕ) → Takes left attribute (λ a rest. rest < left)
-unfolding attribute attributeFields
+unfolding attribute
 takes-attribute left =
-    takes-inRecord
-    (takes-bind (takes-must 13 isPopCount (takes-number 1 left)) λ t l₁ q₁.
-    takes-bind (takes-must 13 _ (takes-number 1 l₁)) λ n l₂ q₂.
-    takes-bind (takes-number 2 l₂) λ m l₃ q₃.
+    takes-here λ first.
+    takes-bind (takes-number 1 left) λ t l₁ q₁.
+    takes-refuse _ 13 first
+    (takes-bind (takes-number 1 l₁) λ n l₂ q₂.
+    takes-refuse _ 13 first
+    (takes-bind (takes-number 2 l₂) λ m l₃ q₃.
     takes-bind (takes-number 2 l₃) λ f l₄ q₄.
-    takes-bind (takes-must 13 (lengthAgrees n) (takes-number 2 l₄)) λ w l₅ q₅.
-    takes-bind (takes-values w l₅) λ v l₆ q₆.
+    takes-bind (takes-number 2 l₄) λ w l₅ q₅.
+    takes-refuse _ 13 first
+    (takes-bind (takes-values w l₅) λ v l₆ q₆.
     takes-then (takes-octets _ l₆) λ x l₇ q₇.
-    takes-give _ (omega (arith, q₁ .1, q₂ .1, q₅ .1, q₇ .1)))
+    takes-give _ (omega (arith, q₁, q₂, q₅, q₇ .1)))))
 
 pub attribute-next : (o : List ℕ) (at : ℕ) {a : Attribute} {next : ℕ} → at < length o → attribute o at ≡ got a next → at < next
 attribute-next o at h e =

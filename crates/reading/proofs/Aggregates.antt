@@ -14,10 +14,10 @@ use lib.ListN.{length}
 use lib.Dec.{leb}
 use Rattle.records.specs.Records.{rBit, GroupRecord, ofGroup, AggregatedRecord, ofSource, ofRp}
 use Rattle.records.specs.Sizes.{groupRecordSize, groupRecordsSize, aggregatedSize, allSize}
-use Rattle.format.specs.Reader.{Read, got, bad, Reader, _>>=_, _>>_, give, octets, number, handUp, inRecord, times, toEnd}
+use Rattle.format.specs.Reader.{Read, got, bad, Reader, _>>=_, _>>_, give, octets, number, times, toEnd}
 use Rattle.format.specs.Family.{Family}
 use Rattle.format.specs.Address.{groupField, sourceField}
-use Rattle.format.specs.Record.{positive, groupRecord, sourceAggregated, rpAggregated, aggregatedFields, aggregatedRecord}
+use Rattle.format.specs.Record.{positive, groupRecord, sourceAggregated, rpAggregated, aggregatedRecord}
 use Rattle.octets.specs.Octets.{numberAt}
 use Rattle.reading.specs.Plain.{skip, plainAddresses, plainGroupRecord, plainGroupRecords, plainAggregated, plainRecords}
 use Rattle.fields.proofs.Skipped.{no-got, continue-back}
@@ -140,10 +140,10 @@ rp-aggregated-back f o v m at r n e =
       inside = omega (arith, got-place last, g .inside);
     })))
 
-fields-back : (f : Family) (o : List ℕ) (at : ℕ) (r : AggregatedRecord) (n : ℕ) → aggregatedFields f o at ≡ got r n
+pub aggregated-back : (f : Family) (o : List ℕ) (at : ℕ) (r : AggregatedRecord) (n : ℕ) → aggregatedRecord f o at ≡ got r n
     → Back o at r n (plainAggregated (f .width) o at) (aggregatedSize (f .width) (plainAggregated (f .width) o at))
-unfolding aggregatedFields plainAggregated aggregatedSize _>>=_
-fields-back f o at r n e =
+unfolding aggregatedRecord plainAggregated aggregatedSize _>>=_
+aggregated-back f o at r n e =
     continue-back (number 4 o at) _ e (λ v metricAt first rest.
     continue-back (number 4 o metricAt) _ rest (λ m next second rest₁.
     let a = number-back 4 o at first in
@@ -165,16 +165,6 @@ fields-back f o at r n e =
         let groups : at + 8 + (f .width + 6) ≡ at + (f .width + 14) = omega arith in
         let b = rw (ten, count, groups) at (source-aggregated-back f o (numberAt 4 o at) (numberAt 4 o (at + 4)) (at + 8) r n (rw t at h)) in
         rw t (record { value = b .value; next = omega (arith, b .next, ap (λ (x : ℕ). (f .width + 4) * x) (length-addresses true (f .width) o (at + (f .width + 14)) (numberAt 2 o (at + (f .width + 10))))); inside = b .inside })
-
-pub handUp-back : {A : Type 0} (p : ℕ) (x : Read A) {a : A} {n : ℕ} → handUp p x ≡ got a n → x ≡ got a n
-unfolding handUp
-handUp-back p (got a n) e = e
-handUp-back p (bad n q) e = absurd (no-got e)
-
-pub aggregated-back : (f : Family) (o : List ℕ) (at : ℕ) (r : AggregatedRecord) (n : ℕ) → aggregatedRecord f o at ≡ got r n
-    → Back o at r n (plainAggregated (f .width) o at) (aggregatedSize (f .width) (plainAggregated (f .width) o at))
-unfolding aggregatedRecord inRecord
-aggregated-back f o at r n e = fields-back f o at r n (handUp-back at (aggregatedFields f o at) e)
 
 -- up to the end of the octets
 pub aggregates-back : (f : Family) (o : List ℕ) (k at : ℕ) (rs : List AggregatedRecord) (n : ℕ) → at ≤ length o → toEnd k (aggregatedRecord f) o at ≡ got rs n

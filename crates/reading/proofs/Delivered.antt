@@ -16,7 +16,7 @@ use lib.Dec.{leb, eqb}
 use borrow.Author.Tests.{leb-true, leb-false}
 use Rattle.records.specs.Records.{AssertRecord, allEntries}
 use Rattle.records.specs.Sizes.{allSize}
-use Rattle.format.specs.Reader.{Read, got, bad, Reader, continue, _>>=_, _>>_, give, octets, number, must, inRecord, toEnd, records, nothingMore}
+use Rattle.format.specs.Reader.{Read, got, bad, Reader, continue, _>>=_, _>>_, give, octets, number, must, toEnd, records, nothingMore}
 use Rattle.format.specs.Family.{Family}
 use Rattle.format.specs.Entry.{assertEntryOctets}
 use Rattle.format.specs.Record.{each, assertRecord, pairRecord, aggregatedRecord}
@@ -29,7 +29,7 @@ use Rattle.fields.proofs.Skipped.{no-got, continue-back}
 use Rattle.octets.proofs.Laws.{octets-back, number-back}
 use Rattle.fields.proofs.Plain.{assert-back, pair-back}
 use Rattle.reading.proofs.Copying.{size-least}
-use Rattle.reading.proofs.Aggregates.{Back, got-value, got-place, handUp-back, aggregated-back, aggregates-back}
+use Rattle.reading.proofs.Aggregates.{Back, got-value, got-place, aggregated-back, aggregates-back}
 use Rattle.counting.proofs.Bodies.{tallied-back}
 
 -- a body that was counted was read, and gave so many entries
@@ -87,9 +87,9 @@ module _ {A : Type 0} (r : Reader A) (o : List ℕ) (size : ℕ) (plain : ℕ �
 
 -- Zero and Reserved are four octets
 zero-back : (o : List ℕ) (u : Unit {0}) (n : ℕ) → zeroReserved o 4 ≡ got u n → (n ≡ 8) × (8 ≤ length o)
-unfolding zeroReserved inRecord must _>>_ give
+unfolding zeroReserved must _>>_ give
 zero-back o u n e =
-    continue-back (continue (number 1 o 4) (λ a next. cond (eqb a 0) (got a next) (bad 5 4))) _ (handUp-back 4 _ e) (λ z five first rest.
+    continue-back (continue (number 1 o 4) (λ a next. cond (eqb a 0) (got a next) (bad 5 4))) _ e (λ z five first rest.
     continue-back (octets 3 o five) _ rest (λ x eight second last.
     continue-back (number 1 o 4) _ first (λ a next there tested.
     let b = number-back 1 o 4 there in

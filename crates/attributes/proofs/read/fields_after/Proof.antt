@@ -1,14 +1,15 @@
 -- `attributes::read::fields_after` meets its contract: cut in a field, of a length against the options, or as its values come to.
 -- Assumes nothing.
-use mathlib.Core.Path.{_≡_, refl, sym, _∙_}
+use mathlib.Core.Path.{_≡_, refl, sym, ap, _∙_}
+use mathlib.Core.Bool.{not}
 use native.Mathlib.Omega.{arith}
 use denote.Ref.{now}
 use borrow.Author.Needs.{needs}
 use Rattle.octets.specs.Octets.{Octets}
 use Rattle.octets.proofs.Laws.{number-lt, read-got, read-cut}
-use Rattle.format.specs.Reader.{got, number, _>>=_}
+use Rattle.format.specs.Reader.{got, number, _>>=_, _>>_}
 use Rattle.attributes.specs.Answers.{fieldsAfter}
-use Rattle.attributes.proofs.Readings.{refused, then-got, then-bad, must-no, must-bad, agrees-least, fields-read}
+use Rattle.attributes.proofs.Readings.{refused, then-got, then-bad, refuse-yes, agrees-least, fields-read}
 use Rattle.attributes.proofs.read.fields_after.Statement.{statement}
 use Rattle.attributes.proofs.read.fields_after.Tie as tie
 
@@ -62,7 +63,7 @@ returns-3 c =
     let d = c .before .before .before .before in
     c .cut3 .ensures
     ∙ sym (then-got _ (mtu (first d)) ∙ then-got _ (flags d)
-    ∙ then-bad _ (must-bad 13 _ (number 2) _ _ (read-cut (c .before .before .before .read163 .ensures) (c .before .enum-told3 .given .1) refl)))
+    ∙ then-bad _ (read-cut (c .before .before .before .read163 .ensures) (c .before .enum-told3 .given .1) refl))
 
 cast-options : tie.Need-cast-options
 cast-options c = record { fits = number-lt 2 _ _ (read-got (c .before .before .before .read163 .ensures) (c .before .w .given .1)) (octets (first (second c))) }
@@ -77,18 +78,18 @@ returns-4 c =
     let t = c .before .before in
     let l = t .before in
     let d = l .before in
-    fields-read _ _ _ _ (c .values-after .ensures) (c .before .sizes .ensures .0) (mtu (first (second d))) (flags (second d)) (options d)
+    fields-read _ _ _ _ _ (c .values-after .ensures) (c .before .sizes .ensures .0) (mtu (first (second d))) (flags (second d)) (options d)
     (sym (l .length-agrees .ensures) ∙ t .if1 .taken)
 
 returns-5 : tie.Need-returns-5
-unfolding fieldsAfter _>>=_
+unfolding fieldsAfter _>>=_ _>>_
 returns-5 c =
     let t = c .before in
     let l = t .before in
     let d = l .before in
     refused (c .bad .ensures)
     ∙ sym (then-got _ (mtu (first (second d))) ∙ then-got _ (flags (second d))
-    ∙ then-bad _ (must-no 13 _ (number 2) _ _ (options d) (sym (l .length-agrees .ensures) ∙ t .if1 .left)))
+    ∙ then-got _ (options d) ∙ then-bad _ (refuse-yes 13 _ _ _ (ap not (sym (l .length-agrees .ensures) ∙ t .if1 .left))))
 
 pub fields-after-spec : {M : Type 1} → statement M
 fields-after-spec =

@@ -6,7 +6,7 @@ use mathlib.Core.Path.{_≡_, sym, ap, _∙_}
 use borrow.Author.Needs.{needs}
 use denote.Ref.{now}
 use lib.ListN.{length}
-use Rattle.format.specs.Reader.{handUp, octets}
+use Rattle.format.specs.Reader.{octets}
 use Rattle.fields.specs.Answers.{checked}
 use Rattle.fields.proofs.Skipped.{refused}
 use Rattle.fields.proofs.Fields.{octets-room}
@@ -37,11 +37,10 @@ reserved c =
 returns : tie.Need-returns
 unfolding checked
 returns c =
-    let r = c .before .before .before in
+    let r = c .before .before in
     let o = now (r .before .before .args .m) in
-    c .in-record .ensures
-    ∙ ap (λ z. handUp 4 (checked z)) (c .before .enum-told .given .1)
-    ∙ zero-cut o 4 (sym (refused (octets 1 o 4) (c .before .enum-told .given .1) (r .octets-check .ensures)))
+    ap checked (c .enum-told .given .1)
+    ∙ zero-cut o 4 (sym (refused (octets 1 o 4) (c .enum-told .given .1) (r .octets-check .ensures)))
 
 shared-slice-read-if1 : tie.Need-shared-slice-read-if1
 shared-slice-read-if1 c = omega (arith, zero (c .before) .0)
@@ -49,21 +48,18 @@ shared-slice-read-if1 c = omega (arith, zero (c .before) .0)
 returns-2 : tie.Need-returns-2
 unfolding checked
 returns-2 c =
-    let d = c .before .before .before .before in
-    c .in-record2 .ensures
-    ∙ ap (λ z. handUp 4 (checked z)) (c .before .bad .ensures)
-    ∙ zero-wrong (now (start d .args .m)) 4 (zero d .0) (c .before .before .if1 .taken)
+    let d = c .before .before .before in
+    ap checked (c .bad .ensures) ∙ zero-wrong (now (start d .args .m)) 4 (zero d .0) (c .before .if1 .taken)
 
 returns-3 : tie.Need-returns-3
 unfolding checked
 returns-3 c =
-    let r = c .before .before .before in
+    let r = c .before .before in
     let d = r .before .before .before in
     let o = now (start d .args .m) in
-    c .in-record3 .ensures
-    ∙ ap (λ z. handUp 4 (checked z)) (c .before .enum-told2 .given .1)
+    ap checked (c .enum-told2 .given .1)
     ∙ reserved-cut o 4 (zero d .0) (r .before .if1 .left) (zero d .1)
-    (sym (refused (octets 3 o (d .before .z .given .0 .0)) (c .before .enum-told2 .given .1) (r .octets-check2 .ensures)))
+    (sym (refused (octets 3 o (d .before .z .given .0 .0)) (c .enum-told2 .given .1) (r .octets-check2 .ensures)))
 
 returns-4 : tie.Need-returns-4
 unfolding checked
@@ -87,16 +83,13 @@ packed-check-spec =
     (λ c κs. search needs)
     (λ c. search needs)
     (λ c. search needs)
-    (λ c κs. search needs)
     returns
     shared-slice-read-if1
-    (λ c κs. search needs)
     (λ c κs. search needs)
     returns-2
     (λ c κs. search needs)
     (λ c. search needs)
     (λ c. search needs)
-    (λ c κs. search needs)
     returns-3
     (λ c κs. search needs)
     returns-4
