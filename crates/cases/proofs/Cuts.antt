@@ -1,11 +1,11 @@
--- Messages and an attribute, cut after every octet, come to what 01 and E3 say.
+-- Messages and an attribute, cut after every octet, come to what 01 and E3 say, and by 01's rule for places to what 01 alone says.
 -- Assumes nothing.
 use mathlib.Core.Bool.{_&&_}
 use lib.Dec.{T}
 use Rattle.cases.specs.Computed.{computed}
 use Rattle.cases.specs.Faults.{refusedWith}
-use Rattle.cases.specs.Cuts.{isGiven, allRefused, holds, isCut, allCuts, cuts, attributeCuts, attributeHolds}
+use Rattle.cases.specs.Cuts.{isGiven, allRefused, holds, bothHold, ofAsserts, ofPairs, isCut, allCuts, cuts, attributeCuts, attributeHolds}
 
 pub cuts-right : T (allCuts cuts && attributeHolds)
-unfolding computed refusedWith isGiven allRefused holds isCut allCuts cuts attributeCuts attributeHolds
+unfolding computed refusedWith isGiven allRefused holds bothHold ofAsserts ofPairs isCut allCuts cuts attributeCuts attributeHolds
 cuts-right = tt

@@ -1,8 +1,8 @@
 -- Messages and an attribute cut after every octet, worked out by hand from 01 and E3 (02): each field is so cut at its first octet, at its last and
--- at every one between. A row has the octets whole, and for every length from 0 on what comes of it.
+-- at every one between. A row has the octets whole, and for every length from 0 on what comes of it, now and by 01's rule for places.
 --     Span                     what some lengths in turn come to: accepted, or refused by a number at a place
---     Cut, cuts                the kind, the body of a message, sealed anew at each length; the spans
---     attributeCuts            an attribute's spans
+--     Cut, cuts                the kind, the body of a message, sealed anew at each length; the spans, those by 01's rule last
+--     attributeCuts            the same of an attribute
 --     holds, isCut             whether spans hold of a reader, and a row of the definitions
 -- That every row holds is one computation, in proofs/Cuts.antt. Assumes nothing: these are definitions.
 use Prim.Native.Nat.{ℕ, zero, suc, _+_}
@@ -16,6 +16,8 @@ use Rattle.format.specs.Family.{ipv4}
 use Rattle.format.specs.Header.{message}
 use Rattle.format.specs.Reader.{from}
 use Rattle.format.specs.Unpacking.{unpackAsserts, unpackPairs}
+use Rattle.places.specs.Rules.{byRecord, placed, assertsBodyBy, pairsBodyBy}
+use Rattle.places.specs.Places.{unpackBy, readHelloBy}
 use Rattle.format.specs.declared.Kind.{Kind}
 use Rattle.format.specs.declared.Kind.the-variants.{Hello, Assert, Simple, Aggregated, NullRegister, RegisterStop}
 use Rattle.hello.specs.Hello.{readHello}
@@ -44,15 +46,25 @@ module _ {A : Type 0} (read : List ℕ → Outcome A) (o : List ℕ) where
   holds k (refused m n p ∷ l) = allRefused k m n p && holds (k + m) l
 
 pub data Cut : Type 0 where
-  cut : Kind → ℕ → ℕ → List Span → Cut
+  cut : Kind → ℕ → ℕ → List Span → List Span → Cut
+
+-- now, and by 01's rule
+unfoldable pub bothHold : {A : Type 0} → (List ℕ → Outcome A) → (List ℕ → Outcome A) → List ℕ → List Span → List Span → Bool
+bothHold read before o l m = holds read o 0 l && holds before o 0 m
+
+unfoldable pub ofAsserts : Kind → List ℕ → List Span → List Span → Bool
+ofAsserts k = bothHold (λ b. unpackAsserts ipv4 (message k b)) (λ b. unpackBy (assertsBodyBy byRecord ipv4) (message k b))
+
+unfoldable pub ofPairs : Kind → List ℕ → List Span → List Span → Bool
+ofPairs k = bothHold (λ b. unpackPairs ipv4 (message k b)) (λ b. unpackBy (pairsBodyBy byRecord ipv4) (message k b))
 
 unfoldable pub isCut : Cut → Bool
-isCut (cut Hello n m l) = holds (λ b. readHello (message Hello b)) (be n m) 0 l
-isCut (cut Assert n m l) = holds (λ b. unpackAsserts ipv4 (message Assert b)) (be n m) 0 l
-isCut (cut Simple n m l) = holds (λ b. unpackAsserts ipv4 (message Simple b)) (be n m) 0 l
-isCut (cut Aggregated n m l) = holds (λ b. unpackAsserts ipv4 (message Aggregated b)) (be n m) 0 l
-isCut (cut NullRegister n m l) = holds (λ b. unpackPairs ipv4 (message NullRegister b)) (be n m) 0 l
-isCut (cut RegisterStop n m l) = holds (λ b. unpackPairs ipv4 (message RegisterStop b)) (be n m) 0 l
+isCut (cut Hello n o l m) = bothHold (λ b. readHello (message Hello b)) (λ b. readHelloBy byRecord (message Hello b)) (be n o) l m
+isCut (cut Assert n o l m) = ofAsserts Assert (be n o) l m
+isCut (cut Simple n o l m) = ofAsserts Simple (be n o) l m
+isCut (cut Aggregated n o l m) = ofAsserts Aggregated (be n o) l m
+isCut (cut NullRegister n o l m) = ofPairs NullRegister (be n o) l m
+isCut (cut RegisterStop n o l m) = ofPairs RegisterStop (be n o) l m
 
 unfoldable pub allCuts : List Cut → Bool
 allCuts [] = true
@@ -64,17 +76,21 @@ cuts =
     -- a plain assert: group, source, R with preference, metric; then an octet that follows
     cut Assert 23 0x01000020e8010101_01000a000001_0000006e_00000014_00
     (refused 8 6 4 ∷ refused 6 6 12 ∷ refused 4 6 18 ∷ refused 4 6 22 ∷ accepted ∷ refused 1 6 26 ∷ [])
+    (refused 22 6 4 ∷ accepted ∷ refused 1 6 26 ∷ [])
     -- a simple message: Zero, Reserved, no record; two records, the second with R=1 and source 0
     ∷ cut Simple 48 0x00_000000_01000020e8010101_01000a000001_0000006e_00000014_01000020e8010102_010000000000_8000006e_00000014
     (refused 1 6 4 ∷ refused 3 6 5 ∷ refused 1 5 8 ∷ refused 7 6 8 ∷ refused 6 6 16 ∷ refused 4 6 22 ∷ refused 4 6 26 ∷ accepted
     ∷ refused 7 6 30 ∷ refused 6 6 38 ∷ refused 4 6 44 ∷ refused 4 6 48 ∷ accepted ∷ [])
+    (refused 4 6 4 ∷ refused 1 5 8 ∷ refused 21 6 8 ∷ accepted ∷ refused 21 6 30 ∷ accepted ∷ [])
     -- a simple message whose record has R=0 and source 0: found once the R word is there, at 26 octets, and placed at the source
     ∷ cut Simple 26 0x00_000000_01000020e8010101_010000000000_0000006e_00000014
     (refused 1 6 4 ∷ refused 3 6 5 ∷ refused 1 5 8 ∷ refused 7 6 8 ∷ refused 6 6 16 ∷ refused 4 6 22 ∷ refused 5 7 16 ∷ [])
+    (refused 4 6 4 ∷ refused 1 5 8 ∷ refused 17 6 8 ∷ refused 5 7 8 ∷ [])
     -- a source aggregated record: R with preference, metric, source, number of groups, 2 reserved, two groups
     ∷ cut Aggregated 38 0x00_000000_0000006e_00000014_01000a000001_0002_0000_01000020e8010101_01000020e8010102
     (refused 1 6 4 ∷ refused 3 6 5 ∷ refused 1 5 8 ∷ refused 3 6 8 ∷ refused 4 6 12 ∷ refused 6 6 16 ∷ refused 2 6 22 ∷ refused 2 6 24
     ∷ refused 8 6 26 ∷ refused 8 6 34 ∷ accepted ∷ [])
+    (refused 4 6 4 ∷ refused 1 5 8 ∷ refused 33 6 8 ∷ accepted ∷ [])
     -- one of one group, then an RP aggregated record of two group records, with two sources and with none
     ∷ cut Aggregated 78 0x00_000000_0000006e_00000014_01000a000001_0001_0000_01000020e8010101_8000006e_00000014_0002_0000_01000020e8010102_0002_0000_01000a000001_010000000000_01000020e8010103_0000_0000
     (refused 1 6 4 ∷ refused 3 6 5 ∷ refused 1 5 8 ∷ refused 3 6 8 ∷ refused 4 6 12 ∷ refused 6 6 16 ∷ refused 2 6 22 ∷ refused 2 6 24
@@ -82,17 +98,21 @@ cuts =
     ∷ refused 3 6 34 ∷ refused 4 6 38 ∷ refused 2 6 42 ∷ refused 2 6 44
     ∷ refused 8 6 46 ∷ refused 2 6 54 ∷ refused 2 6 56 ∷ refused 6 6 58 ∷ refused 6 6 64
     ∷ refused 8 6 70 ∷ refused 2 6 78 ∷ refused 2 6 80 ∷ accepted ∷ [])
+    (refused 4 6 4 ∷ refused 1 5 8 ∷ refused 25 6 8 ∷ accepted ∷ refused 47 6 34 ∷ accepted ∷ [])
     -- pairs: no record; group, source; the same again
     ∷ cut NullRegister 28 0x01000020e8010101_01000a000001_01000020e8010102_01000a000002
     (refused 1 5 4 ∷ refused 7 6 4 ∷ refused 6 6 12 ∷ accepted ∷ refused 7 6 18 ∷ refused 6 6 26 ∷ accepted ∷ [])
+    (refused 1 5 4 ∷ refused 13 6 4 ∷ accepted ∷ refused 13 6 18 ∷ accepted ∷ [])
     ∷ cut RegisterStop 28 0x01000020e8010101_010000000000_01000020e8010102_01000a000002
     (refused 1 5 4 ∷ refused 7 6 4 ∷ refused 6 6 12 ∷ accepted ∷ refused 7 6 18 ∷ refused 6 6 26 ∷ accepted ∷ [])
+    (refused 1 5 4 ∷ refused 13 6 4 ∷ accepted ∷ refused 13 6 18 ∷ accepted ∷ [])
     -- a Hello: holdtime, an option that is not known, priority, the packing capability; each type, length and value
     ∷ cut Hello 25 0x0001_0002_0069_0063_0003_aabbcc_0013_0004_00000005_0028_0000
     (accepted ∷ refused 1 6 4 ∷ refused 2 6 6 ∷ refused 2 6 8
     ∷ accepted ∷ refused 1 6 10 ∷ refused 2 6 12 ∷ refused 3 6 14
     ∷ accepted ∷ refused 1 6 17 ∷ refused 2 6 19 ∷ refused 4 6 21
     ∷ accepted ∷ refused 1 6 25 ∷ refused 2 6 27 ∷ accepted ∷ [])
+    (accepted ∷ refused 5 6 4 ∷ accepted ∷ refused 6 6 10 ∷ accepted ∷ refused 7 6 17 ∷ accepted ∷ refused 3 6 25 ∷ accepted ∷ [])
     ∷ []
 
 -- at its place 0: the first octet, length, MTU, flags, options; the eight values; three octets that are ignored, by an unallocated bit
@@ -104,4 +124,5 @@ attributeCuts =
 
 unfoldable pub attributeHolds : Bool
 attributeHolds =
-    holds (from 0 attribute) (be 27 0x03_19_05dc_0010_ff01_00000001_00000002_0064_0065_01_02_03_04_aabbcc) 0 attributeCuts
+    bothHold (from 0 attribute) (from 0 (placed byRecord attribute))
+    (be 27 0x03_19_05dc_0010_ff01_00000001_00000002_0064_0065_01_02_03_04_aabbcc) attributeCuts (refused 27 6 0 ∷ accepted ∷ [])

@@ -160,15 +160,15 @@ fn group_records(ipv6: bool, m: &[u8], from: usize, n: usize) -> Counted
 }
 
 // A number of groups or of group records: two octets, and not 0.
-fn count_check(m: &[u8], at: usize) -> Checked
-    ensures { λ r. ⌜ checked r ≡ skipped (positive (now (m .entry)) at) ⌝ }
+fn count_check(m: &[u8], count_at: usize) -> Checked
+    ensures { λ r. ⌜ checked r ≡ skipped (positive (now (m .entry)) «count_at») ⌝ }
 {
-    let f = octets_check(m, at, 2);
+    let f = octets_check(m, count_at, 2);
     let Checked::Next(next) = f else {
         return f;
     };
-    if number16(m, at) == 0 {
-        return bad(6, at);
+    if number16(m, count_at) == 0 {
+        return bad(6, count_at);
     }
     Checked::Next(next)
 }
