@@ -183,7 +183,7 @@ typedef struct {
 pim_read_answer pim_read_asserts(const uint8_t *m, size_t n, uint8_t *entries, size_t room);
 
 /* The same for PIM_NULL_REGISTER and PIM_REGISTER_STOP, with entries of PIM_PAIR_ENTRY octets. PIM_MOST_PAIRS(n) of
- * them are always room enough. No record is 5 at 4. */
+ * them are always room enough. No record is 5 at 4; source 0 in a PIM_NULL_REGISTER is 7 at the source. */
 pim_read_answer pim_read_pairs(const uint8_t *m, size_t n, uint8_t *entries, size_t room);
 
 /* 12 octets */
@@ -390,9 +390,9 @@ typedef struct {
     pim_popcount_attribute attribute;
 } pim_popcount_read_answer;
 
-/* Reads the attribute at place `at` of n octets, which may be any number. Refuses 13 at `at`, and 6 at the field that
- * is cut or missing: the first octet, the length, MTU, flags, options, each value, and the octets that are ignored,
- * which are one field. */
+/* Reads the attribute at place `at` of n octets. Refuses 13 at `at`, and 6 at the field that is cut or missing: the
+ * first octet, the length, MTU, flags, options, each value, and the octets that are ignored, which are one field. `at`
+ * may be any number: at the end of the octets or past it the first octet is missing, and that is 6 at `at`. */
 pim_popcount_read_answer pim_popcount_read(const uint8_t *o, size_t n, size_t at);
 
 enum pim_popcount_order { PIM_POPCOUNT_LESS = 0, PIM_POPCOUNT_EQUAL = 1, PIM_POPCOUNT_GREATER = 2 };
