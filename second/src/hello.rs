@@ -2,7 +2,7 @@
 
 use crate::pack::{put_header, seal};
 use crate::read::header;
-use crate::{refuse, Answer, Kind};
+use crate::{fault, refuse, Answer, Fault, Kind};
 
 /// What a Hello says. A priority not announced is `None`.
 #[derive(Clone, Copy, Debug, PartialEq, Eq)]
@@ -42,7 +42,7 @@ pub fn read_hello(m: &[u8]) -> Answer<Hello> {
     while !rest.is_empty() {
         match option(rest, &mut seen) {
             Ok(after) => rest = after,
-            Err(number) => return refuse(number, m.len() - rest.len()),
+            Err(fault) => return Err(fault.refusal(m.len() - rest.len(), rest)),
         }
     }
     Ok(Hello {
@@ -52,15 +52,15 @@ pub fn read_hello(m: &[u8]) -> Answer<Hello> {
     })
 }
 
-/// One option; what follows it, or a refusal's number.
-fn option<'a>(octets: &'a [u8], seen: &mut Seen) -> Result<&'a [u8], u8> {
-    let (head, rest) = octets.split_first_chunk::<4>().ok_or(6)?;
+/// One option; what follows it.
+fn option<'a>(octets: &'a [u8], seen: &mut Seen) -> Result<&'a [u8], Fault> {
+    let (head, rest) = octets.split_first_chunk::<4>().ok_or_else(|| cut_head(octets))?;
     let option_type = u16::from_be_bytes([head[0], head[1]]);
     let length = u16::from_be_bytes([head[2], head[3]]);
     if !allowed(option_type, length, seen) {
-        return Err(13);
+        return Err(fault(13, octets));
     }
-    let (value, rest) = rest.split_at_checked(usize::from(length)).ok_or(6)?;
+    let (value, rest) = rest.split_at_checked(usize::from(length)).ok_or(fault(6, rest))?;
     match (option_type, value) {
         (HOLDTIME, &[a, b]) => seen.holdtime = Some(u16::from_be_bytes([a, b])),
         (PRIORITY, &[a, b, c, d]) => seen.priority = Some(u32::from_be_bytes([a, b, c, d])),
@@ -68,6 +68,11 @@ fn option<'a>(octets: &'a [u8], seen: &mut Seen) -> Result<&'a [u8], u8> {
         _ => {}
     }
     Ok(rest)
+}
+
+/// The fault of octets that end in the type or in the length.
+fn cut_head(octets: &[u8]) -> Fault {
+    fault(6, octets.get(2..).unwrap_or(octets))
 }
 
 /// A known option has its one length and was not given before.

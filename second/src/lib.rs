@@ -15,18 +15,52 @@ pub mod sheet;
 /// The longest message, which is also the largest limit.
 pub const MESSAGE_MOST: usize = 65_515;
 
-/// A refusal: a number of the rule book's table and a place.
+/// A refusal: a number of the rule book's table and a place. Where reading
+/// refuses by 6 or 7, the place is the first octet of the field at fault.
 #[derive(Clone, Copy, Debug, PartialEq, Eq)]
 pub struct Refusal {
     pub number: u8,
     pub place: usize,
+    /// What the place was before it was the field's: the first octet of the
+    /// record, option or attribute that has the field, 4 for Zero and Reserved.
+    /// For other refusals it is the place.
+    pub within: usize,
 }
 
 /// What every call gives.
 pub type Answer<T> = Result<T, Refusal>;
 
 pub(crate) fn refuse<T>(number: u8, place: usize) -> Answer<T> {
-    Err(Refusal { number, place })
+    Err(Refusal { number, place, within: place })
+}
+
+/// A fault in a record, option or attribute: its number, and how many octets
+/// are left from the field at fault on. A reader of fields sees no more.
+#[derive(Clone, Copy)]
+pub(crate) struct Fault {
+    number: u8,
+    left: usize,
+}
+
+/// A fault at the head of what is left.
+#[inline(always)]
+pub(crate) fn fault(number: u8, rest: &[u8]) -> Fault {
+    Fault { number, left: rest.len() }
+}
+
+impl Fault {
+    /// The refusal, where all octets that were given to the reader, its record,
+    /// option or attribute first, stand at `within`.
+    #[inline(always)]
+    pub(crate) fn refusal(self, within: usize, octets: &[u8]) -> Refusal {
+        Refusal { number: self.number, place: within + (octets.len() - self.left), within }
+    }
+}
+
+/// The first `N` octets as a field, and what follows them; 6 if it is cut.
+#[inline(always)]
+pub(crate) fn field<const N: usize>(octets: &[u8]) -> Result<(&[u8; N], &[u8]), Fault> {
+    octets.split_first_chunk::<N>().ok_or(fault(6, octets))
 }
 
 /// The six kinds of message, numbered from 0 in the rule book's order.

@@ -1,6 +1,6 @@
 //! The Pop-Count attribute: reading, comparing link speeds, merging.
 
-use crate::{refuse, Answer};
+use crate::{fault, field, refuse, Answer, Fault};
 use std::cmp::Ordering;
 
 /// The flag that holds only if all have it.
@@ -64,30 +64,30 @@ pub fn read_attribute(octets: &[u8], at: usize) -> Answer<(Attribute, usize)> {
     let rest = octets.get(at..).unwrap_or(&[]);
     match attribute(rest) {
         Ok((attribute, length)) => Ok((attribute, at + length)),
-        Err(number) => refuse(number, at),
+        Err(fault) => Err(fault.refusal(at, rest)),
     }
 }
 
-/// The first octets as a field; none there is 6.
-fn take<const N: usize>(rest: &mut &[u8]) -> Result<[u8; N], u8> {
-    let (field, after) = rest.split_first_chunk::<N>().ok_or(6)?;
+/// The field at the head of what is left.
+fn take<const N: usize>(rest: &mut &[u8]) -> Result<[u8; N], Fault> {
+    let (octets, after) = field(rest)?;
     *rest = after;
-    Ok(*field)
+    Ok(*octets)
 }
 
-fn take16(rest: &mut &[u8]) -> Result<u16, u8> {
+fn take16(rest: &mut &[u8]) -> Result<u16, Fault> {
     Ok(u16::from_be_bytes(take(rest)?))
 }
 
-fn attribute(octets: &[u8]) -> Result<(Attribute, usize), u8> {
+fn attribute(octets: &[u8]) -> Result<(Attribute, usize), Fault> {
     let mut rest = octets;
     let [first] = take(&mut rest)?;
     if first & 0xBF != 3 {
-        return Err(13);
+        return Err(fault(13, octets));
     }
     let [length] = take(&mut rest)?;
     if length < 6 {
-        return Err(13);
+        return Err(fault(13, octets));
     }
     let length = usize::from(length);
     let mut a = Attribute { e: first & 0x40 != 0, ..Attribute::default() };
@@ -95,11 +95,12 @@ fn attribute(octets: &[u8]) -> Result<(Attribute, usize), u8> {
     a.flags = take16(&mut rest)?;
     a.options = take16(&mut rest)?;
     if !length_ok(length, a.options) {
-        return Err(13);
+        return Err(fault(13, octets));
     }
     take_values(&mut rest, &mut a)?;
+    // The octets that are ignored are one field.
     if octets.len() < 2 + length {
-        return Err(6);
+        return Err(fault(6, rest));
     }
     Ok((a, 2 + length))
 }
@@ -114,7 +115,7 @@ fn known_length(options: u16) -> usize {
     SIZES.iter().filter(|(bit, _)| options & bit != 0).fold(6, |sum, (_, size)| sum + size)
 }
 
-fn take_values(rest: &mut &[u8], a: &mut Attribute) -> Result<(), u8> {
+fn take_values(rest: &mut &[u8], a: &mut Attribute) -> Result<(), Fault> {
     a.transit = take_option(rest, a.options & TRANSIT)?.map(u32::from_be_bytes);
     a.stub = take_option(rest, a.options & STUB)?.map(u32::from_be_bytes);
     a.least_speed = take_option(rest, a.options & LEAST_SPEED)?.map(u16::from_be_bytes);
@@ -126,7 +127,7 @@ fn take_values(rest: &mut &[u8], a: &mut Attribute) -> Result<(), u8> {
     Ok(())
 }
 
-fn take_option<const N: usize>(rest: &mut &[u8], bit: u16) -> Result<Option<[u8; N]>, u8> {
+fn take_option<const N: usize>(rest: &mut &[u8], bit: u16) -> Result<Option<[u8; N]>, Fault> {
     if bit == 0 {
         return Ok(None);
     }

@@ -2,7 +2,7 @@
 //! A reading call checks the whole message first and writes entries after.
 
 use crate::checksum::checksum;
-use crate::{is_group, refuse, Answer, Kind, MESSAGE_MOST};
+use crate::{fault, field, is_group, refuse, Answer, Fault, Kind, Refusal, MESSAGE_MOST};
 
 /// An assert record. `r_preference` is the R bit with the preference.
 #[derive(Clone, Copy, Debug, PartialEq, Eq)]
@@ -86,7 +86,7 @@ pub fn read_record(octets: &[u8], at: usize, kind: Kind) -> Answer<(Record, usiz
     };
     match record {
         Ok(record) => Ok((record, at + length)),
-        Err(number) => refuse(number, at),
+        Err(fault) => Err(fault.refusal(at, rest)),
     }
 }
 
@@ -126,14 +126,8 @@ pub fn read_pairs(m: &[u8], entries: &mut [u8]) -> Answer<(Kind, usize)> {
     Ok((kind, count))
 }
 
-// The readers of fields and records give a refusal's number alone; the place
-// is the record's, known to the caller.
-
-/// The first `N` octets and what follows them.
-#[inline(always)]
-fn field<const N: usize>(octets: &[u8]) -> Result<(&[u8; N], &[u8]), u8> {
-    octets.split_first_chunk::<N>().ok_or(6)
-}
+// The readers of fields and records do not know where their octets stand; the
+// caller does, and makes a refusal of their fault.
 
 #[inline(always)]
 fn group_ok(f: &[u8; GROUP]) -> bool {
@@ -146,39 +140,55 @@ fn source_ok(f: &[u8; SOURCE]) -> bool {
 }
 
 #[inline(always)]
-fn group(octets: &[u8]) -> Result<(u32, &[u8]), u8> {
+fn group(octets: &[u8]) -> Result<(u32, &[u8]), Fault> {
     let (f, rest) = field::<GROUP>(octets)?;
     if !group_ok(f) {
-        return Err(7);
+        return Err(fault(7, octets));
     }
     Ok((u32::from_be_bytes([f[4], f[5], f[6], f[7]]), rest))
 }
 
 #[inline(always)]
-fn source(octets: &[u8]) -> Result<(u32, &[u8]), u8> {
+fn source(octets: &[u8]) -> Result<(u32, &[u8]), Fault> {
     let (f, rest) = field::<SOURCE>(octets)?;
     if !source_ok(f) {
-        return Err(7);
+        return Err(fault(7, octets));
     }
     Ok((u32::from_be_bytes([f[2], f[3], f[4], f[5]]), rest))
 }
 
 #[inline(always)]
-fn number(octets: &[u8]) -> Result<(usize, &[u8]), u8> {
-    let (n, rest) = field::<2>(octets)?;
-    let (_reserved, rest) = field::<2>(rest)?;
-    Ok((usize::from(u16::from_be_bytes(*n)), rest))
+fn source_not_0(octets: &[u8]) -> Result<(u32, &[u8]), Fault> {
+    let (source, rest) = source(octets)?;
+    if source == 0 {
+        return Err(fault(7, octets));
+    }
+    Ok((source, rest))
 }
 
-/// A zero source with R=0 is found at the R word, before the metric.
+/// A number, at least so large, and the two reserved octets after it. They are
+/// a field of their own, so a number that is too small is found first.
 #[inline(always)]
-fn assert_record(octets: &[u8]) -> Result<AssertRecord, u8> {
-    let (group, rest) = group(octets)?;
-    let (source, rest) = source(rest)?;
+fn number(octets: &[u8], least: usize) -> Result<(usize, &[u8]), Fault> {
+    let (n, rest) = field::<2>(octets)?;
+    let n = usize::from(u16::from_be_bytes(*n));
+    if n < least {
+        return Err(fault(6, octets));
+    }
+    let (_reserved, rest) = field::<2>(rest)?;
+    Ok((n, rest))
+}
+
+/// A zero source with R=0 is found at the R word, before the metric; at fault
+/// is the source.
+#[inline(always)]
+fn assert_record(octets: &[u8]) -> Result<AssertRecord, Fault> {
+    let (group, from_source) = group(octets)?;
+    let (source, rest) = source(from_source)?;
     let (r_preference, rest) = field::<4>(rest)?;
     let r_preference = u32::from_be_bytes(*r_preference);
     if r_preference >> 31 == 0 && source == 0 {
-        return Err(7);
+        return Err(fault(7, from_source));
     }
     let (metric, _) = field::<4>(rest)?;
     let metric = u32::from_be_bytes(*metric);
@@ -186,19 +196,14 @@ fn assert_record(octets: &[u8]) -> Result<AssertRecord, u8> {
 }
 
 #[inline(always)]
-fn pair_record(octets: &[u8], zero_source: bool) -> Result<PairRecord, u8> {
+fn pair_record(octets: &[u8], zero_source: bool) -> Result<PairRecord, Fault> {
     let (group, rest) = group(octets)?;
-    let (source, _) = source(rest)?;
-    if source == 0 && !zero_source {
-        return Err(7);
-    }
+    let (source, _) = if zero_source { source(rest) } else { source_not_0(rest) }?;
     Ok(PairRecord { group, source })
 }
 
 fn check_plain(m: &[u8]) -> Answer<usize> {
-    if let Err(number) = assert_record(&m[4..]) {
-        return refuse(number, 4);
-    }
+    assert_record(&m[4..]).map_err(|fault| fault.refusal(4, &m[4..]))?;
     if m.len() > 4 + ASSERT {
         return refuse(6, 4 + ASSERT);
     }
@@ -214,7 +219,7 @@ fn check_zero(m: &[u8]) -> Answer<()> {
         return refuse(5, 4);
     }
     if m.len() < 8 {
-        return refuse(6, 4);
+        return Err(Refusal { number: 6, place: 5, within: 4 });
     }
     if m.len() == 8 {
         return refuse(5, 8);
@@ -224,34 +229,31 @@ fn check_zero(m: &[u8]) -> Answer<()> {
 
 fn check_simple(m: &[u8]) -> Answer<usize> {
     check_zero(m)?;
-    let (records, cut) = m[8..].as_chunks::<ASSERT>();
-    for (i, record) in records.iter().enumerate() {
-        if let Err(number) = assert_record(record) {
-            return refuse(number, 8 + ASSERT * i);
-        }
-    }
-    if !cut.is_empty() {
-        let number = assert_record(cut).err().unwrap_or(6);
-        return refuse(number, m.len() - cut.len());
-    }
-    Ok(records.len())
+    check_records::<ASSERT, _>(m, 8, assert_record)
 }
 
 fn check_pairs(m: &[u8], zero_source: bool) -> Answer<usize> {
     if m.len() == 4 {
         return refuse(5, 4);
     }
-    let (records, cut) = m[4..].as_chunks::<PAIR>();
-    for (i, record) in records.iter().enumerate() {
-        if let Err(number) = pair_record(record, zero_source) {
-            return refuse(number, 4 + PAIR * i);
-        }
+    check_records::<PAIR, _>(m, 4, |octets| pair_record(octets, zero_source))
+}
+
+/// How many records of `N` octets stand from a place to the message's end. The
+/// first that is not good, or is cut, is read again for its fault.
+#[inline(always)]
+fn check_records<const N: usize, T>(
+    m: &[u8],
+    at: usize,
+    record: impl Fn(&[u8]) -> Result<T, Fault>,
+) -> Answer<usize> {
+    let (records, _) = m[at..].as_chunks::<N>();
+    let good = records.iter().take_while(|octets| record(*octets).is_ok()).count();
+    let rest = &m[at + N * good..];
+    if !rest.is_empty() {
+        record(rest).map_err(|fault| fault.refusal(m.len() - rest.len(), rest))?;
     }
-    if !cut.is_empty() {
-        let number = pair_record(cut, zero_source).err().unwrap_or(6);
-        return refuse(number, m.len() - cut.len());
-    }
-    Ok(records.len())
+    Ok(good)
 }
 
 fn check_aggregated(m: &[u8]) -> Answer<usize> {
@@ -264,14 +266,14 @@ fn check_aggregated(m: &[u8]) -> Answer<usize> {
                 count += n;
                 rest = after;
             }
-            Err(number) => return refuse(number, m.len() - rest.len()),
+            Err(fault) => return Err(fault.refusal(m.len() - rest.len(), rest)),
         }
     }
     Ok(count)
 }
 
 /// The number of assert records of one aggregated record, and what follows.
-fn aggregated_record(octets: &[u8]) -> Result<(usize, &[u8]), u8> {
+fn aggregated_record(octets: &[u8]) -> Result<(usize, &[u8]), Fault> {
     let (r_preference, rest) = field::<4>(octets)?;
     let (_metric, rest) = field::<4>(rest)?;
     if r_preference[0] & 0x80 == 0 {
@@ -281,27 +283,18 @@ fn aggregated_record(octets: &[u8]) -> Result<(usize, &[u8]), u8> {
     }
 }
 
-fn source_aggregated(octets: &[u8]) -> Result<(usize, &[u8]), u8> {
-    let (source, rest) = source(octets)?;
-    if source == 0 {
-        return Err(7);
-    }
-    let (groups, rest) = number(rest)?;
-    if groups == 0 {
-        return Err(6);
-    }
+fn source_aggregated(octets: &[u8]) -> Result<(usize, &[u8]), Fault> {
+    let (_, rest) = source_not_0(octets)?;
+    let (groups, rest) = number(rest, 1)?;
     Ok((groups, run(rest, groups, group_ok)?))
 }
 
-fn rp_aggregated(octets: &[u8]) -> Result<(usize, &[u8]), u8> {
-    let (group_records, mut rest) = number(octets)?;
-    if group_records == 0 {
-        return Err(6);
-    }
+fn rp_aggregated(octets: &[u8]) -> Result<(usize, &[u8]), Fault> {
+    let (group_records, mut rest) = number(octets, 1)?;
     let mut count = 0;
     for _ in 0..group_records {
         let (_, after) = group(rest)?;
-        let (sources, after) = number(after)?;
+        let (sources, after) = number(after, 0)?;
         rest = run(after, sources, source_ok)?;
         count += sources.max(1);
     }
@@ -311,16 +304,17 @@ fn rp_aggregated(octets: &[u8]) -> Result<(usize, &[u8]), u8> {
 /// What follows `n` fields, each whole and good. A bad field comes before
 /// the end of the octets, a cut one at it.
 #[inline(always)]
-fn run<const N: usize>(octets: &[u8], n: usize, good: fn(&[u8; N]) -> bool) -> Result<&[u8], u8> {
+fn run<const N: usize>(octets: &[u8], n: usize, good: fn(&[u8; N]) -> bool) -> Result<&[u8], Fault> {
     let (fields, _) = octets.as_chunks::<N>();
     let there = n.min(fields.len());
-    if !fields[..there].iter().all(good) {
-        return Err(7);
+    if let Some(bad) = fields[..there].iter().position(|field| !good(field)) {
+        return Err(fault(7, &octets[N * bad..]));
     }
+    let rest = &octets[N * there..];
     if there < n {
-        return Err(6);
+        return Err(fault(6, rest));
     }
-    Ok(&octets[N * n..])
+    Ok(rest)
 }
 
 // The filling functions run on checked octets and entries with room.

@@ -231,11 +231,10 @@ fn packed_registers() {
         "2d10028701000020ef01010101000a00000101000020ef01010201000000000001000020e00000000100ffffffff";
     pairs(three, Kind::RegisterStop, &[(g, s), (g + 1, 0), (0xE000_0000, 0xFFFF_FFFF)]);
     // Another subtype, the draft's Count word, and a source cut short.
-    let refused =
-        |text, number, place| assert_eq!(read_pairs(&hex(text), &mut [0; 80]), refusal(number, place));
-    refused("2d20d6bb01000020ef01010101000a000001", 4, 0);
-    refused("2d00d6da0000000101000020ef01010101000a000001", 7, 4);
-    refused("2d00d6dc01000020ef01010101000a0000", 6, 4);
+    let read = |text| read_pairs(&hex(text), &mut [0; 80]);
+    assert_eq!(read("2d20d6bb01000020ef01010101000a000001"), refusal(4, 0));
+    assert_eq!(read("2d00d6da0000000101000020ef01010101000a000001"), refusal(7, 4));
+    assert_eq!(read("2d00d6dc01000020ef01010101000a0000"), refusal_within(6, 12, 4));
 }
 
 fn row(router: &(u32, Option<u32>)) -> Neighbour {

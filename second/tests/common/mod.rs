@@ -30,8 +30,14 @@ pub const NULL_REGISTER: Form =
 pub const REGISTER_STOP: Form =
     Form { kind: Kind::RegisterStop, size: 8, pack: pack_register_stop, read: read_pairs };
 
+/// A refusal at the first octet of a record, option or attribute, or at none.
 pub fn refusal<T>(number: u8, place: usize) -> Answer<T> {
-    Err(Refusal { number, place })
+    refusal_within(number, place, place)
+}
+
+/// A refusal at a field of the record, option or attribute at `within`.
+pub fn refusal_within<T>(number: u8, place: usize, within: usize) -> Answer<T> {
+    Err(Refusal { number, place, within })
 }
 
 pub fn hex(text: &str) -> Vec<u8> {

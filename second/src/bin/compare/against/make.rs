@@ -245,6 +245,23 @@ fn small_pairs() -> Vec<Vec<u8>> {
     ]
 }
 
+/// Messages with a source 0 that is not allowed there: of an assert record with
+/// R=0, of a source aggregated record, and of a Null-Register.
+pub fn zero_sources() -> Vec<Vec<u8>> {
+    let assert = assert_record([GROUPS[0], SOURCES[1], 110, 20]);
+    let zero_assert = assert_record([GROUPS[0], 0, 110, 20]);
+    let pair = pair_record(GROUPS[0], SOURCES[1]);
+    let zero_pair = pair_record(GROUPS[0], 0);
+    vec![
+        message(0x25, 0, &zero_assert),
+        message(0x25, 1, &[&[0; 4][..], &zero_assert, &assert].concat()),
+        message(0x25, 1, &[&[0; 4][..], &assert, &zero_assert].concat()),
+        message(0x25, 3, &[&[0; 4][..], &source_aggregated(0, &GROUPS)].concat()),
+        message(0x2D, 0, &[&zero_pair[..], &pair].concat()),
+        message(0x2D, 0, &[&pair[..], &zero_pair].concat()),
+    ]
+}
+
 /// Other values for an octet.
 pub fn other_values(rng: &mut Rng, old: u8) -> [u8; 9] {
     let random = rng.next_u32() as u8;
@@ -501,6 +518,16 @@ fn option_value(rng: &mut Rng, bit: u16, size: usize) -> Vec<u8> {
 /// A good attribute with given options. With unallocated ones there may be
 /// octets beyond the known values.
 pub fn attribute_of(rng: &mut Rng, options: u16) -> Vec<u8> {
+    if options & 0xFF == 0 {
+        return attribute_with(rng, options, 0);
+    }
+    let most = pick(rng, &[1, 5, 230]);
+    let more = rng.below(most);
+    attribute_with(rng, options, more)
+}
+
+/// The same with so many of these octets.
+pub fn attribute_with(rng: &mut Rng, options: u16, more: usize) -> Vec<u8> {
     let mut values = Vec::new();
     for (i, size) in [4, 4, 2, 2, 1, 1, 1, 1].into_iter().enumerate() {
         let bit = 0x8000 >> i;
@@ -508,11 +535,7 @@ pub fn attribute_of(rng: &mut Rng, options: u16) -> Vec<u8> {
             values.extend(option_value(rng, bit, size));
         }
     }
-    if options & 0xFF != 0 {
-        let most = pick(rng, &[1, 5, 250 - values.len()]);
-        let more = rng.below(most);
-        values.extend(octets(rng, more));
-    }
+    values.extend(octets(rng, more));
     let head = [3 | pick(rng, &[0, 0x40]), 6 + values.len() as u8];
     let (mtu, flags) = (rng.next_u32() as u16, rng.next_u32() as u16);
     let numbers = [mtu.to_be_bytes(), flags.to_be_bytes(), options.to_be_bytes()].concat();

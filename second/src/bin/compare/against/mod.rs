@@ -11,6 +11,7 @@ mod lent;
 mod make;
 mod neighbours;
 mod pack;
+mod places;
 mod popcount;
 mod read;
 mod sheet;
@@ -19,15 +20,17 @@ mod trains;
 
 use crate::options::Options;
 use lent::Lent;
+use places::Fields;
 use second::rng::Rng;
 use std::process::ExitCode;
 use tally::Tally;
 
-/// A run: the random numbers, what was counted, and how often random parts
-/// are run.
+/// A run: the random numbers, what was counted, which fields were at fault, and
+/// how often random parts are run.
 pub struct Run {
     rng: Rng,
     tally: Tally,
+    fields: Fields,
     rounds: usize,
 }
 
@@ -47,7 +50,12 @@ impl Run {
 
 /// All comparisons, then the tables.
 pub fn all(options: Options) -> ExitCode {
-    let mut run = Run { rng: Rng::new(options.seed), tally: Tally::new(options), rounds: options.rounds };
+    let mut run = Run {
+        rng: Rng::new(options.seed),
+        tally: Tally::new(options),
+        fields: Fields::default(),
+        rounds: options.rounds,
+    };
     for subject in [
         checksum::compare,
         read::compare,
@@ -62,5 +70,5 @@ pub fn all(options: Options) -> ExitCode {
     ] {
         subject(&mut run);
     }
-    run.tally.report()
+    run.tally.report(&run.fields)
 }

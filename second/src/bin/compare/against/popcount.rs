@@ -1,12 +1,17 @@
 //! Pop-Count attributes read, speeds compared, and attributes merged.
 
-use super::{calls, expect, make, Run};
+use super::{calls, expect, make, places, Run};
 use second::popcount::{compare_speeds, merge, read_attribute, Own};
+
+/// Options, and octets beyond the known values.
+const SHAPES: [(u16, usize); 8] =
+    [(0xFF00, 0), (0xF600, 0), (0x4400, 0), (0, 0), (0x8001, 0), (0x2201, 2), (0xFFFF, 7), (0x0080, 249)];
 
 pub fn compare(run: &mut Run) {
     speeds(run);
-    for options in [0xFF00, 0xF600, 0x4400, 0, 0x8001, 0xFFFF] {
-        let attribute = make::attribute_of(&mut run.rng, options);
+    let alone = (0..8).map(|bit| (0x8000 >> bit, 0));
+    for (options, more) in SHAPES.into_iter().chain(alone) {
+        let attribute = make::attribute_with(&mut run.rng, options, more);
         damaged(run, &attribute);
     }
     for _ in 0..40_000 * run.rounds {
@@ -130,8 +135,10 @@ fn maxima(run: &mut Run, contributors: usize) {
 fn read_one(run: &mut Run, octets: &[u8], at: usize) {
     let lent = run.input("octets", octets);
     let first = calls::popcount_read(&lent, at);
-    let second = expect::attribute(read_attribute(octets, at));
+    let answer = read_attribute(octets, at);
+    let second = expect::attribute(answer);
     run.tally.call("pim_popcount_read", format_args!("at {at}"), &[&lent], &first, &second);
+    places::claim(run, &lent, &answer, |_| "attribute", |cut| read_attribute(cut, at));
 }
 
 fn merge_one(run: &mut Run, own: &Own, contributors: &[u8], room: usize) {
@@ -139,7 +146,9 @@ fn merge_one(run: &mut Run, own: &Own, contributors: &[u8], room: usize) {
     let lent = run.input("contributors", contributors);
     let mut buffer = run.room("buffer", room);
     let first = calls::popcount_merge(expect::own_form(own), e, &lent, &mut buffer);
-    let second = expect::length(merge(*own, contributors, e, buffer.second_mut()));
+    let answer = merge(*own, contributors, e, buffer.second_mut());
+    let second = expect::length(answer);
     let numbers = format_args!("e {e}, room {room}, {own:?}");
     run.tally.call("pim_popcount_merge", numbers, &[&lent, &buffer], &first, &second);
+    places::claim(run, &lent, &answer, |_| "attribute", |cut| merge(*own, cut, e, &mut []));
 }

@@ -1,9 +1,9 @@
 //! Messages, their records and Hellos read.
 
 use super::ffi::HelloAnswer;
-use super::{calls, checksum, expect, make, Run};
+use super::{calls, checksum, expect, make, places, Run};
 use second::hello::read_hello;
-use second::read;
+use second::read::{self, Record};
 use second::{Answer, Kind, Refusal};
 
 /// Kinds to read a record of, and numbers that are none.
@@ -11,9 +11,10 @@ const KINDS: [u8; 9] = [0, 1, 2, 3, 4, 5, 6, 7, 255];
 
 pub fn compare(run: &mut Run) {
     let small = make::small_messages();
-    for m in &small {
+    for m in small.iter().chain(&make::zero_sources()) {
         changed(run, m);
         cut(run, m);
+        changed_and_cut(run, m);
         records(run, m);
     }
     lengths(run);
@@ -48,6 +49,20 @@ fn cut(run: &mut Run, m: &[u8]) {
         let long = [m, &make::octets(&mut run.rng, more)].concat();
         message(run, &long);
         message(run, &make::sealed(&long));
+    }
+}
+
+/// Each octet of the body changed, and cut at each octet after it: a fault that
+/// is found only where more octets are there, and one that goes before a cut.
+fn changed_and_cut(run: &mut Run, m: &[u8]) {
+    for at in 4..m.len() {
+        for octet in [0, m[at] ^ 0x80] {
+            let mut changed = m.to_vec();
+            changed[at] = octet;
+            for length in at + 1..m.len() {
+                message(run, &make::sealed(&changed[..length]));
+            }
+        }
     }
 }
 
@@ -154,20 +169,29 @@ fn header(run: &mut Run, m: &[u8]) {
 /// What both answer.
 pub fn hello(run: &mut Run, m: &[u8]) -> HelloAnswer {
     let lent = run.input("message", m);
-    let (first, second) = (calls::read_hello(&lent), expect::hello(read_hello(m)));
+    let answer = read_hello(m);
+    let (first, second) = (calls::read_hello(&lent), expect::hello(answer));
     run.tally.call("pim_read_hello", format_args!("a message"), &[&lent], &first, &second);
+    places::claim(run, &lent, &answer, |_| "option", |cut| read_hello(&make::sealed(cut)));
     first
 }
 
 fn record(run: &mut Run, kind: u8, octets: &[u8], at: usize) {
     let lent = run.input("octets", octets);
     let first = calls::read_record(kind, &lent, at);
-    let second = match Kind::from_number(kind) {
-        Some(kind) => read::read_record(octets, at, kind),
-        None => Err(Refusal { number: 4, place: 0 }),
-    };
+    let second = read_record(octets, at, kind);
     let numbers = format_args!("kind {kind}, at {at}");
     run.tally.call("pim_read_record", numbers, &[&lent], &first, &expect::record(second));
+    let what = if kind <= Kind::Simple.number() { "assert record" } else { "pair" };
+    places::claim(run, &lent, &second, |_| what, |cut| read_record(cut, at, kind));
+}
+
+/// A record of a kind by its number; one that is no kind is not read.
+fn read_record(octets: &[u8], at: usize, kind: u8) -> Answer<(Record, usize)> {
+    match Kind::from_number(kind) {
+        Some(kind) => read::read_record(octets, at, kind),
+        None => Err(Refusal { number: 4, place: 0, within: 0 }),
+    }
 }
 
 /// The entries that both read.
@@ -175,9 +199,12 @@ pub fn asserts(run: &mut Run, m: &[u8], room: usize) -> Vec<u8> {
     let lent = run.input("message", m);
     let mut entries = run.room("entries", room);
     let first = calls::read_asserts(&lent, &mut entries);
-    let second = expect::read(read::read_asserts(m, entries.second_mut()));
+    let answer = read::read_asserts(m, entries.second_mut());
+    let second = expect::read(answer);
     let numbers = format_args!("room {room}");
     run.tally.call("pim_read_asserts", numbers, &[&lent, &entries], &first, &second);
+    let again = |cut: &[u8]| read::read_asserts(&make::sealed(cut), &mut []);
+    places::claim(run, &lent, &answer, |refusal| places::in_assert(m, refusal), again);
     entries.first()[..16 * first.count].to_vec()
 }
 
@@ -185,8 +212,10 @@ pub fn pairs(run: &mut Run, m: &[u8], room: usize) -> Vec<u8> {
     let lent = run.input("message", m);
     let mut entries = run.room("entries", room);
     let first = calls::read_pairs(&lent, &mut entries);
-    let second = expect::read(read::read_pairs(m, entries.second_mut()));
+    let answer = read::read_pairs(m, entries.second_mut());
+    let second = expect::read(answer);
     let numbers = format_args!("room {room}");
     run.tally.call("pim_read_pairs", numbers, &[&lent, &entries], &first, &second);
+    places::claim(run, &lent, &answer, |_| "pair", |cut| read::read_pairs(&make::sealed(cut), &mut []));
     entries.first()[..8 * first.count].to_vec()
 }

@@ -2,6 +2,7 @@
 
 use super::expect::Answered;
 use super::lent::{Lent, Memory};
+use super::places::Fields;
 use crate::options::Options;
 use std::fmt::{Arguments, Debug};
 use std::process::{exit, ExitCode};
@@ -40,14 +41,16 @@ const CALLS: [&str; 29] = [
 ];
 
 // What is claimed of the first implementation beside the single calls: of its
-// whole trains, and of its Hellos.
+// whole trains, of its Hellos, and of its places in reading.
 pub const UNPACKED: &str = "train unpacks to its list";
 pub const LEAST: &str = "train is the least (brute force)";
 pub const LARGER_LIMIT: &str = "larger limit, no longer train";
 pub const USUAL: &str = "limit 0 gives the train at 556";
 pub const READ_BACK: &str = "Hello reads back as what was said";
+pub const INSIDE: &str = "place in its record, or as it was";
+pub const CUT: &str = "cut where that field begins: 6";
 
-const CLAIMS: [&str; 5] = [UNPACKED, LEAST, LARGER_LIMIT, USUAL, READ_BACK];
+const CLAIMS: [&str; 7] = [UNPACKED, LEAST, LARGER_LIMIT, USUAL, READ_BACK, INSIDE, CUT];
 
 const NUMBERS: usize = 14;
 const COMPARISONS_LEAST: u64 = 200_000;
@@ -87,7 +90,7 @@ impl Tally {
         }
     }
 
-    /// One claim about the train of a list, or about a Hello.
+    /// One claim about the train of a list, about a Hello or about a place.
     pub fn claim(&mut self, claim: &'static str, numbers: Arguments, lent: &Lent, holds: bool) {
         if !holds {
             self.differ(claim, numbers, &[lent], &"does not hold", &"holds");
@@ -121,7 +124,7 @@ impl Tally {
     }
 
     /// Prints the tables; a failure if something was not compared.
-    pub fn report(&self) -> ExitCode {
+    pub fn report(&self, fields: &Fields) -> ExitCode {
         print_rows(&CALLS, &self.calls);
         print_rows(&CLAIMS, &self.claims);
         println!("{:<34}{:>10}", "accepted", self.numbers[0]);
@@ -129,8 +132,9 @@ impl Tally {
             println!("{:<34}{:>10}", format!("refusal {number}"), self.numbers[number]);
         }
         println!("{:<34}{:>10}", "calls lent NULL, with length 0", self.nulls);
+        println!("{:<34}{:>10}", "faults at the rarest field", fields.least().1);
         println!("{} comparisons, 0 differences", self.comparisons());
-        let gaps = self.gaps();
+        let gaps = self.gaps(fields);
         for gap in &gaps {
             println!("failed: {gap}");
         }
@@ -142,7 +146,7 @@ impl Tally {
     }
 
     /// What should have been compared and was not.
-    fn gaps(&self) -> Vec<String> {
+    fn gaps(&self, fields: &Fields) -> Vec<String> {
         let calls = CALLS.iter().zip(&self.calls).chain(CLAIMS.iter().zip(&self.claims));
         let mut gaps: Vec<String> = calls
             .filter(|(_, count)| **count == 0)
@@ -150,6 +154,9 @@ impl Tally {
             .collect();
         for number in (1..=NUMBERS).filter(|number| self.numbers[*number] == 0) {
             gaps.push(format!("refusal {number} never occurred"));
+        }
+        if let ((what, number, field), 0) = fields.least() {
+            gaps.push(format!("refusal {number} never occurred at octet {field} of {what}"));
         }
         if self.nulls == 0 {
             gaps.push("NULL was never lent".to_string());

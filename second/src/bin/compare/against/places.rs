@@ -1,0 +1,92 @@
+//! The places of refusals in reading, by two rules that share the number: the
+//! field's place lies inside the record, option or attribute that the rule before
+//! it named. And which fields were at fault.
+
+use super::lent::Lent;
+use super::tally::{CUT, INSIDE};
+use super::Run;
+use second::{Answer, Refusal};
+use std::collections::BTreeMap;
+
+/// What a field belongs to; the number of the refusal; and the fields that it
+/// has to occur at, counted from the first octet of what they belong to.
+const FIELDS: [(&str, u8, &[usize]); 12] = [
+    ("Zero and Reserved", 6, &[0, 1]),
+    ("assert record", 6, &[0, 8, 14, 18]),
+    ("assert record", 7, &[0, 8]),
+    ("octets after a plain assert", 6, &[0]),
+    ("source aggregated record", 6, &[0, 4, 8, 14, 16, 18, 26]),
+    ("source aggregated record", 7, &[8, 18, 26]),
+    ("RP aggregated record", 6, &[0, 4, 8, 10, 12, 20, 22, 24, 30]),
+    ("RP aggregated record", 7, &[12, 24, 30]),
+    ("pair", 6, &[0, 8]),
+    ("pair", 7, &[0, 8]),
+    ("option", 6, &[0, 2, 4]),
+    ("attribute", 6, &[0, 1, 2, 4, 6, 8, 12, 16, 18, 20, 21, 22, 23, 24]),
+];
+
+/// How often each field was at fault.
+#[derive(Default)]
+pub struct Fields(BTreeMap<(&'static str, u8, usize), u64>);
+
+impl Fields {
+    fn count(&mut self, what: &'static str, refusal: &Refusal) {
+        let field = (what, refusal.number, refusal.place - refusal.within);
+        *self.0.entry(field).or_default() += 1;
+    }
+
+    /// The field that was at fault least, of those that have to be.
+    pub fn least(&self) -> ((&'static str, u8, usize), u64) {
+        let all = FIELDS.iter().flat_map(|(what, number, at)| at.iter().map(|at| (*what, *number, *at)));
+        let counted = all.map(|field| (field, self.0.get(&field).copied().unwrap_or(0)));
+        counted.min_by_key(|(_, count)| *count).expect("there are fields")
+    }
+}
+
+/// What an assert's refusal is in: the octets of the message tell it.
+pub fn in_assert(m: &[u8], refusal: &Refusal) -> &'static str {
+    match (m[1] & 3, refusal.within) {
+        (1 | 3, 4) => "Zero and Reserved",
+        (0 | 2, 26) => "octets after a plain assert",
+        (3, within) if m[within] & 0x80 == 0 => "source aggregated record",
+        (3, _) => "RP aggregated record",
+        _ => "assert record",
+    }
+}
+
+/// What holds of an answer to octets that were read. `again` reads the first of
+/// them: cut where the field at fault begins, they are refused by 6 there, so the
+/// reading of that record, option or attribute came just as far. Where its first
+/// field is at fault, there is nothing to read before it.
+pub fn claim<T>(
+    run: &mut Run,
+    octets: &Lent,
+    answer: &Answer<T>,
+    what: impl Fn(&Refusal) -> &'static str,
+    again: impl Fn(&[u8]) -> Answer<T>,
+) {
+    let Err(refusal) = answer else {
+        return;
+    };
+    let numbers = format_args!("{refusal:?}");
+    run.tally.claim(INSIDE, numbers, octets, inside(refusal, octets.length()));
+    if !is_of_field(refusal) {
+        return;
+    }
+    run.fields.count(what(refusal), refusal);
+    if refusal.place != refusal.within {
+        let cut = again(&octets.second()[..refusal.place]).err();
+        run.tally.claim(CUT, numbers, octets, cut == Some(Refusal { number: 6, ..*refusal }));
+    }
+}
+
+fn is_of_field(refusal: &Refusal) -> bool {
+    refusal.number == 6 || refusal.number == 7
+}
+
+/// A field's place is not before that of what it belongs to, and not past the
+/// end, unless reading was to begin there. Every other place is as it was.
+fn inside(refusal: &Refusal, end: usize) -> bool {
+    let Refusal { place, within, .. } = *refusal;
+    place == within || is_of_field(refusal) && within < place && place <= end
+}
