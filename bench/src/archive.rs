@@ -72,6 +72,14 @@ pub struct PopcountOwn {
     pub maximum_speed: u16,
 }
 
+/// The attribute is not looked at here.
+#[repr(C)]
+pub struct PopcountReadAnswer {
+    pub refusal: Refusal,
+    _next: usize,
+    _attribute: [u32; 6],
+}
+
 #[repr(C)]
 #[derive(Clone, Copy, Debug, PartialEq, Eq)]
 pub struct SheetCounts {
@@ -132,6 +140,7 @@ extern "C" {
         b: *mut u8,
         room: usize,
     ) -> PackAnswer;
+    fn pim_popcount_read(o: *const u8, n: usize, at: usize) -> PopcountReadAnswer;
     fn pim_popcount_merge(
         own: PopcountOwn,
         e: bool,
@@ -207,6 +216,11 @@ pub fn pack_null_register(entries: &[u8], start: usize, limit: usize, buffer: &m
 #[inline(always)]
 pub fn pack_register_stop(entries: &[u8], start: usize, limit: usize, buffer: &mut [u8]) -> PackAnswer {
     pack(pim_pack_register_stop, entries, start, limit, buffer)
+}
+
+#[inline(always)]
+pub fn popcount_read(octets: &[u8], at: usize) -> PopcountReadAnswer {
+    unsafe { pim_popcount_read(octets.as_ptr(), octets.len(), at) }
 }
 
 #[inline(always)]

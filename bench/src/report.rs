@@ -43,7 +43,8 @@ fn how_measured(run: &Run, passes: usize) -> String {
          Each row also checks that both sides give the same answers and octets. Buffers are not cleared \
          between calls. A train's time is that of all its calls, the last one, which finds nothing left, too; \
          its octets are those of all its messages. At limit {} its calls pass 0, which is read as that \
-         limit; any other limit they pass as it is.\n",
+         limit; any other limit they pass as it is. In a row named refuse the last field of the octets is at \
+         fault, so that all of them are read and the place of that field is found.\n",
         run.date,
         machine(),
         run.compiler,

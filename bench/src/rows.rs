@@ -3,7 +3,7 @@
 use crate::archive::{self, PackAnswer, ReadAnswer};
 use crate::input;
 use crate::measure::{compare, side, Spread, Times};
-use second::{checksum, hello, pack, popcount, read, sheet, Answer, Kind};
+use second::{checksum, hello, pack, popcount, read, sheet, Answer, Kind, Refusal};
 use std::hint::black_box;
 
 /// The usual limit, what a datagram on Ethernet carries, and the largest.
@@ -68,6 +68,7 @@ pub fn measure() -> Measured {
     measured.rows.push(merge());
     measured.rows.push(read_hello());
     measured.rows.push(write_hello());
+    refusals(&mut measured.rows);
     measured
 }
 
@@ -303,11 +304,16 @@ fn checksum_row(family: &str, octets: usize, theirs: impl Fn(&[u8]) -> u16) -> R
     octets_row(family, octets, times)
 }
 
-/// Whether a message's checksum holds.
-fn checksum_holds_row(octets: usize) -> Row {
-    let mut message = input::unsealed(octets);
+fn sealed(mut message: Vec<u8>) -> Vec<u8> {
+    message[2..4].fill(0);
     let sum = checksum::checksum(&message);
     message[2..4].copy_from_slice(&sum.to_be_bytes());
+    message
+}
+
+/// Whether a message's checksum holds.
+fn checksum_holds_row(octets: usize) -> Row {
+    let message = sealed(input::unsealed(octets));
     assert!(archive::checksum_holds(&message) && checksum::checksum(&message) == 0);
     let times = compare(
         &mut side(|| {
@@ -529,4 +535,97 @@ fn write_hello() -> Row {
         }),
     );
     octets_row("write Hello", length, times)
+}
+
+// ---- octets whose last field is at fault: all of them are read, and the place is the last one there is
+
+/// A number and a place.
+type Expected = (u8, usize);
+
+fn refusals(rows: &mut Vec<Row>) {
+    refused_messages(rows);
+    rows.push(refused_hello());
+    rows.push(refused_attribute());
+    rows.push(refused_contributors());
+}
+
+fn refused_messages(rows: &mut Vec<Row>) {
+    // 8 + 66 records of 22 octets, the last of which has its metric from 18 on.
+    let mut records = message(&input::lone_asserts(MANY), 1_480, pack::pack_simple);
+    records.pop();
+    rows.push(refused_asserts("refuse simple, last metric cut", records, (6, 8 + 65 * 22 + 18)));
+    // 8 + 18 + 181 groups of 8 octets.
+    let mut groups = message(&input::one_source_asserts(MANY), 1_480, pack::pack_aggregated);
+    groups[26 + 180 * 8] = 2;
+    rows.push(refused_asserts("refuse aggregated, last group wrong", groups, (7, 26 + 180 * 8)));
+    // 8 + 12 + 12 + 241 sources of 6 octets.
+    let mut sources = message(&input::one_group_asserts(MANY), 1_480, pack::pack_aggregated);
+    sources.pop();
+    rows.push(refused_asserts("refuse aggregated, last source cut", sources, (6, 32 + 240 * 6)));
+    // 4 + 105 pairs of 14 octets, the last of which has its source from 8 on.
+    let mut pairs = message(&input::pairs(MANY), 1_480, pack::pack_null_register);
+    pairs[4 + 104 * 14 + 10..].fill(0);
+    rows.push(refused_pairs("refuse null-register, last source 0", pairs, (7, 4 + 104 * 14 + 8)));
+}
+
+fn refused_asserts(family: &str, message: Vec<u8>, expected: Expected) -> Row {
+    let mut a = vec![0; 16 * MANY];
+    let mut s = vec![0; 16 * MANY];
+    let ours = |m: &[u8]| archive::read_asserts(m, black_box(&mut a)).refusal;
+    let theirs = |m: &[u8]| read::read_asserts(m, black_box(&mut s)).err();
+    refused_row(family, &sealed(message), expected, ours, theirs)
+}
+
+fn refused_pairs(family: &str, message: Vec<u8>, expected: Expected) -> Row {
+    let mut a = vec![0; 8 * MANY];
+    let mut s = vec![0; 8 * MANY];
+    let ours = |m: &[u8]| archive::read_pairs(m, black_box(&mut a)).refusal;
+    let theirs = |m: &[u8]| read::read_pairs(m, black_box(&mut s)).err();
+    refused_row(family, &sealed(message), expected, ours, theirs)
+}
+
+/// Its last value, the generation identifier, begins at 22.
+fn refused_hello() -> Row {
+    let message = sealed(input::HELLO[..25].to_vec());
+    let ours = |m: &[u8]| archive::read_hello(m).refusal;
+    refused_row("refuse Hello, last value cut", &message, (6, 22), ours, |m| hello::read_hello(m).err())
+}
+
+/// Of its 24 octets the last is the time zone.
+fn refused_attribute() -> Row {
+    let attribute = &input::attributes(1)[..23];
+    let ours = |octets: &[u8]| archive::popcount_read(octets, 0).refusal;
+    let theirs = |octets: &[u8]| popcount::read_attribute(octets, 0).err();
+    refused_row("refuse Pop-Count, last value cut", attribute, (6, 23), ours, theirs)
+}
+
+fn refused_contributors() -> Row {
+    let end = 24 * ATTRIBUTES - 1;
+    let contributors = &input::attributes(ATTRIBUTES)[..end];
+    let (a_own, s_own) = own_values();
+    let (mut a, mut s) = ([0; 22], [0; 22]);
+    let ours = |octets: &[u8]| archive::popcount_merge(a_own, true, octets, black_box(&mut a)).refusal;
+    let theirs = |octets: &[u8]| popcount::merge(s_own, octets, true, black_box(&mut s)).err();
+    refused_row("refuse to merge Pop-Count, last value cut", contributors, (6, end), ours, theirs)
+}
+
+fn refused_row(
+    family: &str,
+    octets: &[u8],
+    expected: Expected,
+    mut ours: impl FnMut(&[u8]) -> archive::Refusal,
+    mut theirs: impl FnMut(&[u8]) -> Option<Refusal>,
+) -> Row {
+    let (a, s) = (ours(octets), theirs(octets).expect("the second program refuses"));
+    assert_eq!((a.number, a.place), (s.number, s.place), "{family}");
+    assert_eq!((s.number, s.place), expected, "{family}");
+    let times = compare(
+        &mut side(|| {
+            black_box(ours(black_box(octets)));
+        }),
+        &mut side(|| {
+            black_box(theirs(black_box(octets)));
+        }),
+    );
+    octets_row(family, octets.len(), times)
 }
