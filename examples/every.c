@@ -2,9 +2,9 @@
  * octets and numbers are worked out by hand, none is copied from an output. Sizes, offsets and constants are asserted
  * when this file is compiled.
  *
- * In order: layout; constants; the most entries of a message; messages read; messages written; neighbours and election;
- * counters; Pop-Count attributes; the stored sheet; the checksum; lent memory (NULL, the same memory twice, any
- * alignment).
+ * In order: layout; constants; the most entries of a message; messages read; the field at fault; messages written;
+ * neighbours and election; counters; Pop-Count attributes; the stored sheet; the checksum; lent memory (NULL, the same
+ * memory twice, any alignment).
  *
  * Build and run it from the top of the repository, as C99 or as C++ (.ci/face does both):
  *
@@ -27,8 +27,8 @@
 #define HOLDS(condition) typedef char NAMED(holds_, __LINE__)[(condition) ? 1 : -1]
 #define FIELD(type, field, at, size) HOLDS(offsetof(type, field) == (at) && sizeof(((type *)0)->field) == (size))
 
-/* Whoever changes a size, an offset or a constant that is asserted here raises the version. */
-HOLDS(PIM_VERSION == 4);
+/* Whoever changes a size, an offset, a constant or a place that is asserted here raises the version. */
+HOLDS(PIM_VERSION == 5);
 
 HOLDS(sizeof(size_t) == 8);
 HOLDS(sizeof(bool) == 1);
@@ -477,8 +477,6 @@ static void asserts_read(void)
     m[4] = 0;
     seal(m, 8);
     EXPECT(refused(CALLED(pim_read_asserts(m, 8, entries, sizeof entries)).refusal, PIM_NO_RECORD, 8));
-    seal(m, 29);
-    EXPECT(refused(CALLED(pim_read_asserts(m, 29, entries, sizeof entries)).refusal, PIM_CUT, 8));
     m[1] = 0; /* a plain assert, of which octets 4 to 11 are no group */
     seal(m, sizeof m);
     EXPECT(refused(CALLED(pim_read_asserts(m, sizeof m, entries, sizeof entries)).refusal, PIM_BAD_ADDRESS, 4));
@@ -505,7 +503,7 @@ static void pairs_read(void)
     EXPECT(refused(CALLED(pim_read_asserts(m, sizeof m, entries, sizeof entries)).refusal, PIM_BAD_KIND, 0));
     memset(m + 14, 0, 4); /* source 0: for a Register-Stop only */
     seal(m, sizeof m);
-    EXPECT(refused(CALLED(pim_read_pairs(m, sizeof m, entries, sizeof entries)).refusal, PIM_BAD_ADDRESS, 4));
+    EXPECT(refused(CALLED(pim_read_pairs(m, sizeof m, entries, sizeof entries)).refusal, PIM_BAD_ADDRESS, 12));
     m[1] = 0x10;
     seal(m, sizeof m);
     read = CALLED(pim_read_pairs(m, sizeof m, entries, sizeof entries));
@@ -532,12 +530,259 @@ static void hellos(void)
     h = CALLED(pim_read_hello(m, 4));
     EXPECT(accepted(h.refusal) && h.hello.holdtime == PIM_USUAL_HOLDTIME && !h.hello.has_priority &&
            h.hello.priority == 0 && !h.hello.packing);
-    seal(m, 20); /* the third option without its length */
-    EXPECT(refused(CALLED(pim_read_hello(m, 20)).refusal, PIM_CUT, 18));
     m[11] = 1; /* holdtime again */
     seal(m, sizeof m);
     h = CALLED(pim_read_hello(m, sizeof m));
     EXPECT(refused(h.refusal, PIM_BAD_OPTION, 10) && h.hello.holdtime == 0 && !h.hello.packing);
+}
+
+/* ---- the field at fault */
+
+/* Reads the first n octets, with the checksum put in where they are a message. */
+typedef pim_refusal reading(uint8_t *octets, size_t n);
+
+static void refuses(reading *read, uint8_t *octets, size_t n, unsigned number, size_t place)
+{
+    char what[80];
+
+    if (refused(read(octets, n), number, place))
+        return;
+    snprintf(what, sizeof what, "refusal %u at %lu, of %lu octets", number, (unsigned long)place, (unsigned long)n);
+    fail(__LINE__, what);
+}
+
+/* Good octets, of which the first `from` to `to` are read: in each of these the field at `place` is missing or cut. */
+typedef struct {
+    size_t from, to, place;
+} cut;
+
+static void each_cut(const uint8_t *good, size_t size, const cut *cuts, size_t count, reading *read)
+{
+    uint8_t octets[90];
+    size_t i, n;
+
+    for (i = 0; i < count; i++)
+        for (n = cuts[i].from; n <= cuts[i].to; n++) {
+            memcpy(octets, good, size);
+            refuses(read, octets, n, PIM_CUT, cuts[i].place);
+        }
+}
+
+/* Good octets, of which `count` from number `at` on become `value` and the first n are read. */
+typedef struct {
+    size_t at, count;
+    uint8_t value;
+    size_t n;
+    unsigned number;
+    size_t place;
+} fault;
+
+static void each_fault(const uint8_t *good, size_t size, const fault *faults, size_t count, reading *read)
+{
+    uint8_t octets[90];
+    size_t i;
+
+    for (i = 0; i < count; i++) {
+        const fault *f = &faults[i];
+
+        memcpy(octets, good, size);
+        memset(octets + f->at, f->value, f->count);
+        refuses(read, octets, f->n, f->number, f->place);
+    }
+}
+
+#define EACH(of, good, table, read) each_##of(good, sizeof good, table, sizeof table / sizeof table[0], read)
+
+static pim_refusal read_asserts(uint8_t *m, size_t n)
+{
+    uint8_t entries[16];
+    pim_read_answer read;
+
+    memset(entries, UNTOUCHED, sizeof entries);
+    seal(m, n);
+    read = CALLED(pim_read_asserts(m, n, entries, sizeof entries));
+    EXPECT(read.count == 0 && read.kind == 0 && untouched(entries, 0, sizeof entries));
+    return read.refusal;
+}
+
+static pim_refusal read_pairs(uint8_t *m, size_t n)
+{
+    uint8_t entries[8];
+    pim_read_answer read;
+
+    memset(entries, UNTOUCHED, sizeof entries);
+    seal(m, n);
+    read = CALLED(pim_read_pairs(m, n, entries, sizeof entries));
+    EXPECT(read.count == 0 && read.kind == 0 && untouched(entries, 0, sizeof entries));
+    return read.refusal;
+}
+
+static pim_refusal read_hello(uint8_t *m, size_t n)
+{
+    seal(m, n);
+    return CALLED(pim_read_hello(m, n)).refusal;
+}
+
+static pim_refusal read_assert_record(uint8_t *octets, size_t n)
+{
+    return CALLED(pim_read_record(PIM_ASSERT, octets, n, 3)).refusal;
+}
+
+static pim_refusal read_pair_record(uint8_t *octets, size_t n)
+{
+    return CALLED(pim_read_record(PIM_NULL_REGISTER, octets, n, 3)).refusal;
+}
+
+static void plain_at_fault(void)
+{
+    /* group, source, R word and metric at 4, 12, 18 and 22 */
+    static const uint8_t m[26] = {0x25, 0,    0, 0, 1, 0, 0, 32, 0xe8, 1, 1, 1, 1,
+                                  0,    0x0a, 0, 0, 1, 0, 0, 0,  0x6e, 0, 0, 0, 0x14};
+    static const cut cuts[] = {{4, 11, 4}, {12, 17, 12}, {18, 21, 18}, {22, 25, 22}};
+    static const fault faults[] = {
+        /* a group of another family, with another mask, and 223.1.1.1 */
+        {4, 1, 2, 26, PIM_BAD_ADDRESS, 4},
+        {7, 1, 24, 26, PIM_BAD_ADDRESS, 4},
+        {8, 1, 223, 26, PIM_BAD_ADDRESS, 4},
+        /* a source of another family, of another encoding, and of another family and cut */
+        {12, 1, 2, 26, PIM_BAD_ADDRESS, 12},
+        {13, 1, 1, 26, PIM_BAD_ADDRESS, 12},
+        {12, 1, 2, 17, PIM_CUT, 12},
+        /* source 0, R=0: whole, cut in the metric, without it, cut in the R word */
+        {14, 4, 0, 26, PIM_BAD_ADDRESS, 12},
+        {14, 4, 0, 25, PIM_BAD_ADDRESS, 12},
+        {14, 4, 0, 22, PIM_BAD_ADDRESS, 12},
+        {14, 4, 0, 21, PIM_CUT, 18},
+    };
+
+    EACH(cut, m, cuts, read_asserts);
+    EACH(fault, m, faults, read_asserts);
+}
+
+static void simple_at_fault(void)
+{
+    /* Zero and Reserved at 4 and 5; group, source, R word and metric at 8, 16, 22 and 26, and at 30, 38, 44 and 48 */
+    static const uint8_t m[52] = {0x25, 1, 0, 0, 0, 0, 0, 0,    1,    0, 0, 32,   0xe8, 1, 1, 1,   1,    0,
+                                  0x0a, 0, 0, 1, 0, 0, 0, 0x6e, 0,    0, 0, 0x14, 1,    0, 0, 32,  0xe8, 1,
+                                  1,    2, 1, 0, 0, 0, 0, 0,    0x80, 0, 0, 0x6e, 0,    0, 0, 0x14};
+    static const cut cuts[] = {{4, 4, 4},    {5, 7, 5},    {9, 15, 8},   {16, 21, 16}, {22, 25, 22},
+                               {26, 29, 26}, {31, 37, 30}, {38, 43, 38}, {44, 47, 44}, {48, 51, 48}};
+    static const fault faults[] = {
+        /* in the second record, group and source of another encoding */
+        {31, 1, 1, 52, PIM_BAD_ADDRESS, 30},
+        {39, 1, 1, 52, PIM_BAD_ADDRESS, 38},
+        /* R=0, where the source is 0: whole, cut in the metric, cut in the R word */
+        {44, 1, 0, 52, PIM_BAD_ADDRESS, 38},
+        {44, 1, 0, 51, PIM_BAD_ADDRESS, 38},
+        {44, 1, 0, 47, PIM_CUT, 44},
+    };
+
+    EACH(cut, m, cuts, read_asserts);
+    EACH(fault, m, faults, read_asserts);
+}
+
+/* Zero and Reserved at 4 and 5. R word, metric, source, number and reserved of a source aggregated record at 8, 12, 16,
+ * 22 and 24, its groups at 26 and 34. R word, metric, number and reserved of an RP aggregated record at 42, 46, 50 and
+ * 52; group, number and reserved at 54, 62 and 64, sources at 66 and 72; group, number and reserved at 78, 86, 88. */
+static const uint8_t aggregated_records[90] = {
+    0x25, 3, 0, 0,    0, 0, 0,  0,    0, 0, 0, 0x6e, 0,    0,    0,  0x14, 1, 0, 0x0a, 0,    0, 1, 0,
+    2,    0, 0, 1,    0, 0, 32, 0xe8, 1, 1, 1, 1,    0,    0,    32, 0xe8, 1, 1, 2,    0x80, 0, 0, 0x6e,
+    0,    0, 0, 0x14, 0, 2, 0,  0,    1, 0, 0, 32,   0xe8, 1,    1,  3,    0, 2, 0,    0,    1, 0, 0x0a,
+    0,    0, 1, 1,    0, 0, 0,  0,    0, 1, 0, 0,    32,   0xe8, 1,  1,    4, 0, 0,    0,    0};
+
+static void aggregated_at_fault(void)
+{
+    static const cut cuts[] = {{4, 4, 4},    {5, 7, 5},    {9, 11, 8},   {12, 15, 12}, {16, 21, 16}, {22, 23, 22},
+                               {24, 25, 24}, {26, 33, 26}, {34, 41, 34}, {43, 45, 42}, {46, 49, 46}, {50, 51, 50},
+                               {52, 53, 52}, {54, 61, 54}, {62, 63, 62}, {64, 65, 64}, {66, 71, 66}, {72, 77, 72},
+                               {78, 85, 78}, {86, 87, 86}, {88, 89, 88}};
+    static const fault faults[] = {
+        /* the source of another family, and 0; each group of another family; each source of another encoding */
+        {16, 1, 2, 90, PIM_BAD_ADDRESS, 16},
+        {18, 4, 0, 90, PIM_BAD_ADDRESS, 16},
+        {26, 1, 2, 90, PIM_BAD_ADDRESS, 26},
+        {34, 1, 2, 90, PIM_BAD_ADDRESS, 34},
+        {54, 1, 2, 90, PIM_BAD_ADDRESS, 54},
+        {67, 1, 1, 90, PIM_BAD_ADDRESS, 66},
+        {73, 1, 1, 90, PIM_BAD_ADDRESS, 72},
+        {78, 1, 2, 90, PIM_BAD_ADDRESS, 78},
+        /* a number 0, also where the reserved octets after it are cut */
+        {22, 2, 0, 90, PIM_CUT, 22},
+        {22, 2, 0, 25, PIM_CUT, 22},
+        {50, 2, 0, 90, PIM_CUT, 50},
+        {50, 2, 0, 52, PIM_CUT, 50},
+        /* one group, one group record and one source more than there are */
+        {23, 1, 3, 42, PIM_CUT, 42},
+        {51, 1, 3, 90, PIM_CUT, 90},
+        {87, 1, 1, 90, PIM_CUT, 90},
+    };
+
+    EACH(cut, aggregated_records, cuts, read_asserts);
+    EACH(fault, aggregated_records, faults, read_asserts);
+}
+
+static void pairs_at_fault(void)
+{
+    /* group and source at 4 and 12, and at 18 and 26 */
+    static const uint8_t m[32] = {0x2d, 0, 0, 0, 1, 0,  0,    32, 0xe8, 1, 1, 1, 1,    0, 0x0a, 0,
+                                  0,    1, 1, 0, 0, 32, 0xe8, 1,  1,    2, 1, 0, 0x0a, 0, 0,    2};
+    static const cut cuts[] = {{5, 11, 4}, {12, 17, 12}, {19, 25, 18}, {26, 31, 26}};
+    static const fault faults[] = {
+        /* in the second pair: the group of another family, and 240.1.1.2; the source of another family, 0, 0 and cut */
+        {18, 1, 2, 32, PIM_BAD_ADDRESS, 18}, {22, 1, 240, 32, PIM_BAD_ADDRESS, 18}, {26, 1, 2, 32, PIM_BAD_ADDRESS, 26},
+        {28, 4, 0, 32, PIM_BAD_ADDRESS, 26}, {28, 4, 0, 31, PIM_CUT, 26},
+    };
+
+    EACH(cut, m, cuts, read_pairs);
+    EACH(fault, m, faults, read_pairs);
+}
+
+static void hellos_at_fault(void)
+{
+    /* type, length and value of holdtime at 4, 6 and 8, of the priority at 10, 12 and 14, of an unknown option at 18,
+     * 20 and 22; type and length of the packed assert capability at 25 and 27 */
+    static const uint8_t m[29] = {0x20, 0, 0, 0, 0,  1, 0, 2, 0, 210, 0, 19, 0, 4, 0,
+                                  0,    0, 5, 0, 20, 0, 3, 7, 8, 9,   0, 40, 0, 0};
+    static const cut cuts[] = {{5, 5, 4},    {6, 7, 6},    {8, 9, 8},    {11, 11, 10}, {12, 13, 12}, {14, 17, 14},
+                               {19, 19, 18}, {20, 21, 20}, {22, 24, 22}, {26, 26, 25}, {27, 28, 27}};
+    static const fault faults[] = {
+        /* a value longer than the message */
+        {20, 2, 255, 29, PIM_CUT, 22},
+        /* another length is found at the option, before the value */
+        {7, 1, 3, 8, PIM_BAD_OPTION, 4},
+        {13, 1, 5, 29, PIM_BAD_OPTION, 10},
+        {28, 1, 1, 29, PIM_BAD_OPTION, 25},
+    };
+
+    EACH(cut, m, cuts, read_hello);
+    EACH(fault, m, faults, read_hello);
+}
+
+/* Records read singly, at 3. */
+static void records_at_fault(void)
+{
+    /* group, source, R word and metric at 3, 11, 17 and 21; the first two are a pair */
+    static const uint8_t o[25] = {9,    9, 9, 1, 0, 0, 32, 0xe8, 1, 1, 1, 1,   0,
+                                  0x0a, 0, 0, 1, 0, 0, 0,  0x6e, 0, 0, 0, 0x14};
+    static const cut cuts[] = {{0, 10, 3}, {11, 16, 11}}, assert_cuts[] = {{17, 20, 17}, {21, 24, 21}};
+    static const fault faults[] = {
+        /* the group of another family, the source of another encoding, and 0 */
+        {3, 1, 2, 25, PIM_BAD_ADDRESS, 3},
+        {12, 1, 1, 25, PIM_BAD_ADDRESS, 11},
+        {13, 4, 0, 25, PIM_BAD_ADDRESS, 11},
+    };
+    static const fault assert_faults[] = {
+        /* source 0, R=0: without the metric, cut in the R word */
+        {13, 4, 0, 21, PIM_BAD_ADDRESS, 11},
+        {13, 4, 0, 20, PIM_CUT, 17},
+    };
+
+    EACH(cut, o, cuts, read_pair_record);
+    EACH(fault, o, faults, read_pair_record);
+    EACH(cut, o, cuts, read_assert_record);
+    EACH(fault, o, faults, read_assert_record);
+    EACH(cut, o, assert_cuts, read_assert_record);
+    EACH(fault, o, assert_faults, read_assert_record);
 }
 
 /* ---- messages written */
@@ -957,7 +1202,7 @@ static void attributes_read(void)
     EXPECT(a.options == PIM_POPCOUNT_TRANSIT && a.values.transit == 10 && a.values.stub == 0 && a.values.node == 0);
 
     r = CALLED(pim_popcount_read(attributes, 35, 24));
-    EXPECT(refused(r.refusal, PIM_CUT, 24) && r.next == 0 && !r.attribute.e && r.attribute.mtu == 0);
+    EXPECT(refused(r.refusal, PIM_CUT, 32) && r.next == 0 && !r.attribute.e && r.attribute.mtu == 0);
     EXPECT(refused(CALLED(pim_popcount_read(attributes, 36, SIZE_MAX)).refusal, PIM_CUT, SIZE_MAX));
     EXPECT(refused(CALLED(pim_popcount_read(attributes, 36, 1)).refusal, PIM_BAD_OPTION, 1)); /* type 0x16 */
 }
@@ -1017,12 +1262,52 @@ static void merges(void)
     l = CALLED(pim_popcount_merge(own, false, attributes, sizeof attributes, buffer, 11));
     EXPECT(refused(l.refusal, PIM_NO_ROOM, 0) && l.length == 0);
     l = CALLED(pim_popcount_merge(own, false, attributes, 35, buffer, sizeof buffer));
-    EXPECT(refused(l.refusal, PIM_CUT, 24) && untouched(buffer, 0, sizeof buffer));
+    EXPECT(refused(l.refusal, PIM_CUT, 32) && untouched(buffer, 0, sizeof buffer));
     l = CALLED(pim_popcount_merge(own, false, attributes, sizeof attributes, buffer, sizeof buffer));
     EXPECT(accepted(l.refusal) && l.length == 12 && memcmp(buffer, merged, 12) == 0 &&
            untouched(buffer, 12, sizeof buffer));
     l = CALLED(pim_popcount_merge(own, true, attributes, 0, buffer, sizeof buffer));
     EXPECT(accepted(l.refusal) && l.length == 22 && memcmp(buffer, alone, 22) == 0);
+}
+
+static pim_refusal read_attribute(uint8_t *octets, size_t n)
+{
+    return CALLED(pim_popcount_read(octets, n, 0)).refusal;
+}
+
+/* Merged behind a good contributor of 12 octets. The place counts them too, and they are taken off it. */
+static pim_refusal merge_second(uint8_t *octets, size_t n)
+{
+    uint8_t contributors[12 + 27], buffer[PIM_POPCOUNT_MERGED];
+    pim_length_answer l;
+
+    put(contributors, put(contributors, 0, attributes + 24, 12), octets, n);
+    memset(buffer, UNTOUCHED, sizeof buffer);
+    l = CALLED(pim_popcount_merge(own, true, contributors, 12 + n, buffer, sizeof buffer));
+    EXPECT(l.length == 0 && untouched(buffer, 0, sizeof buffer) && l.refusal.place >= 12);
+    l.refusal.place -= 12;
+    return l.refusal;
+}
+
+static void attributes_at_fault(void)
+{
+    /* all options, an unallocated one, and three octets for it: the length is 6 + 16 + 3 */
+    static const uint8_t o[27] = {0x03, 25, 0x05, 0xdc, 0,  0x11, 0xff, 1, 0, 0, 0, 10, 0, 0,
+                                  0,    5,  8,    0x64, 16, 0x64, 1,    3, 2, 4, 7, 8,  9};
+    /* length, MTU, flags, options; transit, stub, speeds, domain, node, diameter, time zone; what is ignored */
+    static const cut cuts[] = {{1, 1, 1},    {2, 3, 2},    {4, 5, 4},    {6, 7, 6},    {8, 11, 8},
+                               {12, 15, 12}, {16, 17, 16}, {18, 19, 18}, {20, 20, 20}, {21, 21, 21},
+                               {22, 22, 22}, {23, 23, 23}, {24, 26, 24}};
+    static const fault faults[] = {
+        /* F, type and length against the rule are found at the attribute */
+        {0, 1, 0x83, 27, PIM_BAD_OPTION, 0}, {0, 1, 2, 1, PIM_BAD_OPTION, 0},  {1, 1, 5, 2, PIM_BAD_OPTION, 0},
+        {1, 1, 21, 8, PIM_BAD_OPTION, 0},    {7, 1, 0, 27, PIM_BAD_OPTION, 0},
+    };
+
+    EACH(cut, o, cuts, read_attribute);
+    EACH(fault, o, faults, read_attribute);
+    EACH(cut, o, cuts, merge_second);
+    EACH(fault, o, faults, merge_second);
 }
 
 /* ---- the stored sheet */
@@ -1219,6 +1504,12 @@ int main(void)
     asserts_read();
     pairs_read();
     hellos();
+    plain_at_fault();
+    simple_at_fault();
+    aggregated_at_fault();
+    pairs_at_fault();
+    hellos_at_fault();
+    records_at_fault();
     hellos_written();
     plain_and_simple();
     limit_0();
@@ -1236,6 +1527,7 @@ int main(void)
     each_option();
     speeds();
     merges();
+    attributes_at_fault();
     sheets_read();
     sheets_written();
     longest_sheet();
