@@ -24,7 +24,7 @@ use Rattle.octets.specs.declared.Field.the-variants.{Got, Short}
 use Rattle.octets.proofs.Laws.{number-lt}
 use Rattle.format.specs.Reader.{Read, Reader, got, bad, continue, _>>=_, _>>_, give, number, refuse}
 use Rattle.attributes.specs.Options.{bitOf, sizeOf, hasBit, present, sizes, unallocated}
-use Rattle.attributes.specs.Attribute.{isPopCount, lengthAgrees, optional, values, attribute}
+use Rattle.attributes.specs.Attribute.{isPopCount, lengthAgrees, optional, values}
 use Rattle.attributes.specs.Answers.{readBy, sizeFor, optionAt, past, numberOf, valuesAfter, fieldsAfter}
 use Rattle.attributes.specs.declared.read.Attribute.{Attribute}
 use Rattle.attributes.specs.declared.read.Fixed.{Fixed}

@@ -11,7 +11,7 @@ use mathlib.Core.List.{List}
 use lib.Dec.{eqb}
 use lib.ListN.{length}
 use Rattle.records.specs.Records.{AssertRecord, PairRecord, rBit}
-use Rattle.format.specs.Reader.{Read, got, bad, continue, _>>=_, _>>_, give, here, number, refuse}
+use Rattle.format.specs.Reader.{Read, got, continue, _>>=_, _>>_, give, here, number, refuse}
 use Rattle.records.specs.Sizes.{assertSize, pairSize}
 use Rattle.format.specs.Family.{Family}
 use Rattle.format.specs.Address.{groupField, sourceField}

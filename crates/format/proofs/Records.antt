@@ -17,7 +17,7 @@ use Rattle.octets.proofs.Laws.{value-be}
 use Rattle.records.specs.Every.{Every}
 use Rattle.records.specs.Sizes.{groupSize, sourceSize}
 use Rattle.records.specs.Records.{AssertRecord, assert, PairRecord, pair, rBit, GroupRecord, ofGroup, AggregatedRecord, ofSource, ofRp}
-use Rattle.format.specs.Reader.{octets, must, _>>=_}
+use Rattle.format.specs.Reader.{octets, must}
 use Rattle.format.specs.Family.{Family, maskLength, mayBeSource, Lawful}
 use Rattle.format.specs.Address.{groupForm, groupField, groupOctets, sourceForm, sourceField, sourceOctets}
 use Rattle.format.specs.Record.{assertRecord, assertOctets, pairRecord, pairOctets, positive, groupRecord, groupRecordOctets, sourceAggregated, rpAggregated, aggregatedRecord, aggregatedOctets, reserved2}

@@ -14,13 +14,13 @@ use lib.ListN.{length}
 use lib.Dec.{leb}
 use Rattle.records.specs.Records.{rBit, GroupRecord, ofGroup, AggregatedRecord, ofSource, ofRp}
 use Rattle.records.specs.Sizes.{groupRecordSize, groupRecordsSize, aggregatedSize, allSize}
-use Rattle.format.specs.Reader.{Read, got, bad, Reader, _>>=_, _>>_, give, octets, number, times, toEnd}
+use Rattle.format.specs.Reader.{got, Reader, _>>=_, _>>_, give, octets, number, times, toEnd}
 use Rattle.format.specs.Family.{Family}
 use Rattle.format.specs.Address.{groupField, sourceField}
 use Rattle.format.specs.Record.{positive, groupRecord, sourceAggregated, rpAggregated, aggregatedRecord}
 use Rattle.octets.specs.Octets.{numberAt}
 use Rattle.reading.specs.Plain.{skip, plainAddresses, plainGroupRecord, plainGroupRecords, plainAggregated, plainRecords}
-use Rattle.fields.proofs.Skipped.{no-got, continue-back}
+use Rattle.fields.proofs.Skipped.{continue-back}
 use Rattle.counting.proofs.Tallied.{positive-back}
 use Rattle.reading.proofs.Copying.{length-addresses}
 use Rattle.octets.proofs.Laws.{octets-back, number-back}
