@@ -1,5 +1,5 @@
 -- Entries written one after another into a lent buffer, from things that stand one after another in a message.
---     copied-past                       octets copied past those that were written
+--     copied-past, number-into          octets copied past those that were written; a number written into a part
 --     put-one                           one entry, as a list of entries
 --     Left                              what is still to be written gives the whole: left-room, left-step, left-end
 --     Series, series-length             things from a place on, by the first of them: their entries and octets; of one entry each
@@ -13,16 +13,18 @@
 --     ToEnd                             the loop over aggregated records: to-end-start, record-there, record-next, to-end-end
 -- Assumes nothing.
 use Prim.Native.Nat.{ℕ, zero, suc, _+_, _-_, _*_, _≤_, _<_}
-use native.Mathlib.Nat.{mul-add, mul-suc, mul-zero}
+use native.Mathlib.Nat.{mul-add, mul-suc, mul-zero, zero-add}
 use native.Mathlib.Omega.{arith}
 use mathlib.Core.Path.{_≡_, refl, sym, ap, _∙_}
 use mathlib.Core.Bool.{Bool, true, false, cond}
 use mathlib.Core.List.{List, [], _∷_, _++_, map, append-nil}
-use lib.ListN.{length, take, drop, length-append}
+use lib.ListN.{length, take, drop, length-append, length-drop, drop-of-length-le}
+use lib.Seq.{drop-drop, length-take-le}
 use borrow.Author.Tests.{le-leb, lt-leb}
 use borrow.Rule.Slice.PartMut.{putMid}
 use Rattle.octets.specs.Octets.{Octets, numberAt, be, put, copied}
-use Rattle.octets.proofs.Laws.{put-nil, put-put, put-next, length-put, length-be, copied-number}
+use Rattle.octets.specs.Field.{fitted}
+use Rattle.octets.proofs.Laws.{put-nil, put-put, put-next, length-put, length-be, copied-number, number-fits}
 use Rattle.records.specs.Records.{rBit, AssertRecord, assert, ofGroup, AggregatedRecord, ofSource, ofRp, groupEntries, allGroupEntries, entries, allEntries}
 use Rattle.records.specs.Sizes.{groupRecordSize, groupRecordsSize, aggregatedSize, allSize}
 use Rattle.format.specs.Family.{Family}
@@ -43,6 +45,18 @@ pub copied-past : (k : ℕ) (s d : List ℕ) (at end out past start : ℕ) (e : 
 copied-past k s d at end out past start e {m} {x} octet h l there room place before copy =
     let long : length m ≡ length d = ap length before ∙ length-put d start e (omega arith) in
     put-next d start e (be k (numberAt k s at)) before (ap (putMid out (past - out) m) copy ∙ copied-number k s m at end out past octet h l there (rw long room)) place
+
+-- a number written into the part between two places, which comes back as putMid has it
+pub number-into : (k n : ℕ) (d : List ℕ) (out past : ℕ) {x : List ℕ} → past ≡ out + k → past ≤ length d
+    → x ≡ fitted (take (past - out) (drop out d)) 0 (be k n) → putMid out (past - out) d x ≡ put d out (be k n)
+unfolding put
+number-into k n d out past e room h =
+    let m : past - out ≡ k = omega arith in
+    let wide : length (take k (drop out d)) ≡ k = length-take-le k (drop out d) (simp length-drop (omega arith)) in
+    let whole : fitted (take k (drop out d)) 0 (be k n) ≡ be k n =
+    number-fits k (take k (drop out d)) 0 n (omega arith)
+    ∙ rw (length-be k n, zero-add, drop-of-length-le (take k (drop out d)) {i = k} (omega arith), append-nil) refl in
+    ap (putMid out (past - out) d) h ∙ rw (m, whole, length-be k n, drop-drop) refl
 
 -- ---- entries of one size
 
@@ -187,12 +201,10 @@ pub either-there : (isGroup : Bool) (address other w len : ℕ) {g s : ℕ} → 
 either-there true address other w len h k p q = (omega arith, omega arith)
 either-there false address other w len h k p q = (omega arith, omega arith)
 
-pub either-entry : (isGroup : Bool) (f : Family) (o : List ℕ) (address other word : ℕ) {g s : ℕ} → g ≡ cond isGroup address other → s ≡ cond isGroup other address
-    → entryWith true f (numberAt (f .width) o g) (numberAt (f .width) o s) (numberAt 4 o word) (numberAt 4 o (word + 4))
-    ≡ withAddress isGroup (numberAt (f .width) o other) (numberAt 4 o word) (numberAt 4 o (word + 4)) (numberAt (f .width) o address)
-unfolding entryWith
-either-entry true f o address other word p q = rw (p, q)
-either-entry false f o address other word p q = rw (p, q)
+pub either-entry : (isGroup : Bool) (w : ℕ) (o : List ℕ) (address other : ℕ) {g s v v′ m m′ : ℕ} → g ≡ cond isGroup address other → s ≡ cond isGroup other address
+    → v ≡ v′ → m ≡ m′ → assert (numberAt w o g) (numberAt w o s) v m ≡ withAddress isGroup (numberAt w o other) v′ m′ (numberAt w o address)
+either-entry true w o address other p q r t = rw (p, q, r, t)
+either-entry false w o address other p q r t = rw (p, q, r, t)
 
 pub groups-series : (w : ℕ) (o : List ℕ) (v m : ℕ)
     → Series (λ at. groupEntries v m (plainGroupRecord w o at)) (λ at. groupRecordSize w (numberAt 2 o (at + (w + 4))))

@@ -1,5 +1,5 @@
 // The second pass of a reading call: the entries of octets that were checked, written one after another.
-// Octets are copied as they stand; no number is read but the counts.
+// Octets are copied as they stand; no number is read but the counts, and the two words that many entries share.
 // Nothing is refused here: each function knows that its octets are there and that the entries fit.
 // A loop over n things is two functions, the loop and one that calls it with the family as a literal: so the compiler
 // makes a loop for each family.
@@ -8,6 +8,7 @@ use addresses::width;
 use format::r_bit;
 use octets::number16;
 use octets::number32;
+use octets::write32;
 ghost use mathlib.Core.Path.{_≡_};
 ghost use mathlib.Core.Bool.{true, cond};
 ghost use mathlib.Core.List.{_++_};
@@ -15,7 +16,7 @@ ghost use Prim.Native.Nat.{_+_, _≤_, _*_};
 ghost use lib.ListN.{length};
 ghost use Rattle.octets.specs.Octets.{numberAt, be, put};
 ghost use Rattle.records.specs.Sizes.{groupRecordSize, groupRecordsSize, aggregatedSize, allSize};
-ghost use Rattle.records.specs.Records.{groupEntries, allGroupEntries, entries, allEntries};
+ghost use Rattle.records.specs.Records.{assert, groupEntries, allGroupEntries, entries, allEntries};
 ghost use Rattle.format.specs.Family.{familyOf};
 ghost use Rattle.format.specs.Record.{each};
 ghost use Rattle.format.specs.Entry.{assertEntryOctets};
@@ -62,6 +63,35 @@ fn copy_entry(
     if is_assert {
         copy_two(false, m, word, m, word + 4, d, out + 2 * width(ipv6));
     }
+}
+
+// A word at a place where there is room for it.
+fn put_word(d: &mut [u8], out: usize, n: u32)
+    requires { ⌜ out + 4 ≤ length (now d) ⌝ }
+    ensures { λ r. ⌜ now (d .exit) ≡ put (now (d .entry)) out (be 4 n) ⌝ }
+{
+    write32(&mut d[out..out + 4], 0, n);
+}
+
+// An assert entry whose two words are numbers. The compiler does not know that message and entries are apart, and would load
+// octets of the message anew for each entry; numbers stay in registers, and both words are one store.
+fn put_entry(
+    ipv6: bool,
+    m: &[u8],
+    group: usize,
+    source: usize,
+    r_preference: u32,
+    metric: u32,
+    d: &mut [u8],
+    out: usize,
+)
+    requires { ⌜ (group + familyOf ipv6 .width ≤ length (now m)) × (source + familyOf ipv6 .width ≤ length (now m)) × (out + (2 * familyOf ipv6 .width + 8) ≤ length (now d)) ⌝ }
+    ensures { λ r. ⌜ now (d .exit) ≡ put (now (d .entry)) out (assertEntryOctets (familyOf ipv6) (assert (numberAt (familyOf ipv6 .width) (now (m .entry)) group) (numberAt (familyOf ipv6 .width) (now (m .entry)) source) «r_preference» metric)) ⌝ }
+{
+    let words = out + 2 * width(ipv6);
+    copy_two(ipv6, m, group, m, source, d, out);
+    put_word(d, words, r_preference);
+    put_word(d, words + 4, metric);
 }
 
 // n assert records, or n pairs, one after another.
@@ -122,6 +152,8 @@ fn copy_addresses_of(
     ensures { λ r. ⌜ Copied (familyOf ipv6) from ((familyOf ipv6 .width + skip «is_group») * n) (now (d .entry)) start (likeEntries «is_group» (familyOf ipv6 .width) (now (m .entry)) other word from n) (now (d .exit)) r ⌝ }
 {
     let w = width(ipv6);
+    let r_preference = number32(&m[word..word + 4], 0);
+    let metric = number32(&m[word + 4..word + 8], 0);
     let mut left = n;
     let mut at = from;
     let mut out = start;
@@ -129,7 +161,7 @@ fn copy_addresses_of(
         let address = at + either(is_group, 4, 2);
         let group = either(is_group, address, other);
         let source = either(is_group, other, address);
-        copy_entry(ipv6, true, m, group, m, source, word, d, out);
+        put_entry(ipv6, m, group, source, r_preference, metric, d, out);
         at = address + w;
         out += 2 * w + 8;
         left -= 1;
