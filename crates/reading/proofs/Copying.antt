@@ -7,18 +7,19 @@
 --                                       there and the entries fit (turn-there), and the next stands (turn-next); walk-end
 --     records-series, addresses-series, groups-series     the things of a message
 --     length-entry, length-addresses    the length of an entry; the number of addresses
+--     addresses-none, first-fits, others-fit, others-copied     what the function for n addresses promises, by none, or by the first and the others
 --     entry-at, either-there, either-entry     the entry of a record by its numbers; of two addresses the one that is the group, and the one that is the source
 --     fit-inside, copied-inside         what a thing's function asks and promises, by that of what stands in it
 --     group-none, group-some, source-record-is, rp-record-is, size-least     a group record and an aggregated record, by what code tests
 --     ToEnd                             the loop over aggregated records: to-end-start, record-there, record-next, to-end-end
 -- Assumes nothing.
 use Prim.Native.Nat.{ℕ, zero, suc, _+_, _-_, _*_, _≤_, _<_}
-use native.Mathlib.Nat.{mul-add, mul-suc, mul-zero, zero-add}
+use native.Mathlib.Nat.{add-zero, mul-add, mul-suc, mul-zero, zero-add}
 use native.Mathlib.Omega.{arith}
 use mathlib.Core.Path.{_≡_, refl, sym, ap, _∙_}
 use mathlib.Core.Bool.{Bool, true, false, cond}
 use mathlib.Core.List.{List, [], _∷_, _++_, map, append-nil}
-use lib.ListN.{length, take, drop, length-append, length-drop, drop-of-length-le}
+use lib.ListN.{length, take, drop, length-append, length-drop, length-map, drop-of-length-le}
 use lib.Seq.{drop-drop, length-take-le}
 use borrow.Author.Tests.{le-leb, lt-leb}
 use borrow.Rule.Slice.PartMut.{putMid}
@@ -194,6 +195,58 @@ pub length-addresses : (isGroup : Bool) (w : ℕ) (o : List ℕ) (at n : ℕ) �
 unfolding plainAddresses
 length-addresses isGroup w o at zero = refl
 length-addresses isGroup w o at (suc n) = ap suc (length-addresses isGroup w o (at + (w + skip isGroup)) n)
+
+like-length : (isGroup : Bool) (w : ℕ) (o : List ℕ) (other word at n : ℕ) → length (likeEntries isGroup w o other word at n) ≡ n
+like-length isGroup w o other word at n = length-map (plainAddresses isGroup w o at n) _ ∙ length-addresses isGroup w o at n
+
+-- n addresses: none, or the first and k others
+pub addresses-none : (isGroup : Bool) (f : Family) (o : List ℕ) (other word from n : ℕ) (d : List ℕ) (start : ℕ) → n ≡ 0
+    → Copied f from ((f .width + skip isGroup) * n) d start (likeEntries isGroup (f .width) o other word from n) d (record { at = from; out = start })
+unfolding plainAddresses each
+addresses-none isGroup f o other word from n d start e =
+    rw e (record {
+      read = sym (ap (λ (x : ℕ). from + x) (mul-zero (f .width + skip isGroup)) ∙ add-zero from);
+      written = sym (ap (λ (x : ℕ). start + x) (mul-zero (2 * f .width + 8)) ∙ add-zero start);
+      buffer = sym (put-nil d start);
+    })
+
+spans : (s : ℕ) {n k : ℕ} → n ≡ suc k → s * n ≡ s + s * k
+spans s {k = k} e = ap (λ (x : ℕ). s * x) e ∙ span-suc s k
+
+pub first-fits : (isGroup : Bool) (f : Family) (o : List ℕ) (other word from n k start : ℕ) (d : List ℕ) → n ≡ suc k
+    → Fit f o from ((f .width + skip isGroup) * n) d start (likeEntries isGroup (f .width) o other word from n)
+    → (from + (f .width + skip isGroup) ≤ length o) × (start + (2 * f .width + 8) ≤ length d)
+first-fits isGroup f o other word from n k start d e h =
+    let room = rw (like-length isGroup (f .width) o other word from n) at (h .room) in
+    (omega (arith, h .there, spans (f .width + skip isGroup) e), omega (arith, room, spans (2 * f .width + 8) e))
+
+module _ (isGroup : Bool) (f : Family) (o : List ℕ) (other word from n k at out start : ℕ) (d d′ : List ℕ) (e : n ≡ suc k)
+    (next : at ≡ from + (f .width + skip isGroup)) (past : out ≡ start + (2 * f .width + 8)) where
+  pub others-fit : length d′ ≡ length d → Fit f o from ((f .width + skip isGroup) * n) d start (likeEntries isGroup (f .width) o other word from n)
+      → Fit f o at ((f .width + skip isGroup) * k) d′ out (likeEntries isGroup (f .width) o other word at k)
+  others-fit same h =
+      let room = rw (like-length isGroup (f .width) o other word from n) at (h .room) in
+      record {
+        there = omega (arith, h .there, spans (f .width + skip isGroup) e);
+        room = rw (like-length isGroup (f .width) o other word at k) (omega (arith, room, spans (2 * f .width + 8) e, same));
+      }
+
+  pub others-copied : {d″ : List ℕ} {p : Places}
+      → d′ ≡ put d start (assertEntryOctets f (withAddress isGroup (numberAt (f .width) o other) (numberAt 4 o word) (numberAt 4 o (word + 4)) (numberAt (f .width) o (from + skip isGroup))))
+      → Copied f at ((f .width + skip isGroup) * k) d′ out (likeEntries isGroup (f .width) o other word at k) d″ p
+      → Copied f from ((f .width + skip isGroup) * n) d start (likeEntries isGroup (f .width) o other word from n) d″ p
+  unfolding plainAddresses each
+  others-copied first h =
+      let one : AssertRecord = withAddress isGroup (numberAt (f .width) o other) (numberAt 4 o word) (numberAt 4 o (word + 4)) (numberAt (f .width) o (from + skip isGroup)) in
+      let split : likeEntries isGroup (f .width) o other word from n ≡ one ∷ likeEntries isGroup (f .width) o other word at k = rw (e, next) refl in
+      let written = rw (like-length isGroup (f .width) o other word at k) at (h .written) in
+      record {
+        read = omega (arith, h .read, spans (f .width + skip isGroup) e);
+        written = rw (like-length isGroup (f .width) o other word from n) (omega (arith, written, spans (2 * f .width + 8) e));
+        buffer =
+            put-next d start (assertEntryOctets f one) _ first (h .buffer) (omega (arith, length-entry true f one))
+            ∙ ap (λ es. put d start (each (assertEntryOctets f) es)) (sym split);
+      }
 
 -- the address and the other one: which is the group, and which the source
 pub either-there : (isGroup : Bool) (address other w len : ℕ) {g s : ℕ} → address + w ≤ len → other + w ≤ len → g ≡ cond isGroup address other → s ≡ cond isGroup other address

@@ -136,8 +136,8 @@ struct Places {
     out: usize,
 }
 
-// One entry for each of n groups, or of n sources, all with one other address and one word.
-fn copy_addresses_of(
+// One entry for each of n groups, or of n sources, all with one other address and two words, which are read once.
+fn put_addresses(
     ipv6: bool,
     is_group: bool,
     m: &[u8],
@@ -167,6 +167,46 @@ fn copy_addresses_of(
         left -= 1;
     }
     Places { at, out }
+}
+
+// The same, the first entry copied as it stands. The octet of R was held since its test, and words that are read before anything is
+// stored would be kept octet by octet with it.
+fn copy_addresses_of(
+    ipv6: bool,
+    is_group: bool,
+    m: &[u8],
+    from: usize,
+    n: usize,
+    other: usize,
+    word: usize,
+    d: &mut [u8],
+    start: usize,
+) -> Places
+    requires { ⌜ (other + familyOf ipv6 .width ≤ length (now m)) × (word + 8 ≤ length (now m)) × Fit (familyOf ipv6) (now m) from ((familyOf ipv6 .width + skip «is_group») * n) (now d) start (likeEntries «is_group» (familyOf ipv6 .width) (now m) other word from n) ⌝ }
+    ensures { λ r. ⌜ Copied (familyOf ipv6) from ((familyOf ipv6 .width + skip «is_group») * n) (now (d .entry)) start (likeEntries «is_group» (familyOf ipv6 .width) (now (m .entry)) other word from n) (now (d .exit)) r ⌝ }
+{
+    if n == 0 {
+        return Places {
+            at: from,
+            out: start,
+        };
+    }
+    let w = width(ipv6);
+    let address = from + either(is_group, 4, 2);
+    let group = either(is_group, address, other);
+    let source = either(is_group, other, address);
+    copy_entry(ipv6, true, m, group, m, source, word, d, start);
+    put_addresses(
+        ipv6,
+        is_group,
+        m,
+        address + w,
+        n - 1,
+        other,
+        word,
+        d,
+        start + (2 * w + 8),
+    )
 }
 
 fn copy_addresses(
