@@ -41,10 +41,14 @@ fn left(n: usize, at: usize) -> usize
     n - at
 }
 
+// A reader tests its place against the last one from which its field fits: of one slice that is the same for every place.
 pub fn read8(s: &[u8], at: usize) -> Field
     ensures { λ r. ⌜ fieldOf r ≡ number 1 (now (s .entry)) at ⌝ }
 {
-    if left(s.len(), at) < 1 {
+    if s.len() < 1 {
+        return Field::Short { place: at };
+    }
+    if s.len() - 1 < at {
         return Field::Short { place: at };
     }
     Field::Got {
@@ -56,7 +60,10 @@ pub fn read8(s: &[u8], at: usize) -> Field
 pub fn read16(s: &[u8], at: usize) -> Field
     ensures { λ r. ⌜ fieldOf r ≡ number 2 (now (s .entry)) at ⌝ }
 {
-    if left(s.len(), at) < 2 {
+    if s.len() < 2 {
+        return Field::Short { place: at };
+    }
+    if s.len() - 2 < at {
         return Field::Short { place: at };
     }
     let a = wide(s[at]);
@@ -70,7 +77,10 @@ pub fn read16(s: &[u8], at: usize) -> Field
 pub fn read32(s: &[u8], at: usize) -> Field
     ensures { λ r. ⌜ fieldOf r ≡ number 4 (now (s .entry)) at ⌝ }
 {
-    if left(s.len(), at) < 4 {
+    if s.len() < 4 {
+        return Field::Short { place: at };
+    }
+    if s.len() - 4 < at {
         return Field::Short { place: at };
     }
     let a = wide(s[at]);

@@ -10,12 +10,17 @@ use Rattle.octets.proofs.read32.Tie as tie
 
 returns : tie.Need-returns
 returns c =
-    let a = c .before .before .before .args in
+    let a = c .before .before .args in
     field-short 4 (now (a .s)) (a .at) (omega arith)
 
 returns-2 : tie.Need-returns-2
-unfolding value
 returns-2 c =
+    let a = c .before .before .before .args in
+    field-short 4 (now (a .s)) (a .at) (omega arith)
+
+returns-3 : tie.Need-returns-3
+unfolding value
+returns-3 c =
     let a = c .before .before .before .before .before .before .before .before .before .before .before .args in
     field-got 4 (now (a .s)) (a .at) (omega arith) (omega arith)
 
@@ -23,14 +28,9 @@ pub read32-spec : {M : Type 1} → statement M
 read32-spec =
     tie.close
     (tie.spec
-    (λ c κs. search needs)
     returns
     (λ c. search needs)
-    (λ c κs. search needs)
-    (λ c. search needs)
-    (λ c. search needs)
-    (λ c κs. search needs)
-    (λ c. search needs)
+    returns-2
     (λ c. search needs)
     (λ c κs. search needs)
     (λ c. search needs)
@@ -38,9 +38,15 @@ read32-spec =
     (λ c κs. search needs)
     (λ c. search needs)
     (λ c. search needs)
+    (λ c κs. search needs)
+    (λ c. search needs)
+    (λ c. search needs)
+    (λ c κs. search needs)
     (λ c. search needs)
     (λ c. search needs)
     (λ c. search needs)
     (λ c. search needs)
     (λ c. search needs)
-    returns-2)
+    (λ c. search needs)
+    (λ c. search needs)
+    returns-3)

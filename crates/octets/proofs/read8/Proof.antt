@@ -10,16 +10,21 @@ use Rattle.octets.proofs.read8.Tie as tie
 
 returns : tie.Need-returns
 returns c =
-    let a = c .before .before .before .args in
+    let a = c .before .before .args in
     field-short 1 (now (a .s)) (a .at) (omega arith)
 
 returns-2 : tie.Need-returns-2
-unfolding value
 returns-2 c =
+    let a = c .before .before .before .args in
+    field-short 1 (now (a .s)) (a .at) (omega arith)
+
+returns-3 : tie.Need-returns-3
+unfolding value
+returns-3 c =
     let a = c .before .before .before .before .before .args in
     field-got 1 (now (a .s)) (a .at) (omega arith) (omega arith)
 
 pub read8-spec : {M : Type 1} → statement M
 read8-spec =
     tie.close
-    (tie.spec (λ c κs. search needs) returns (λ c. search needs) (λ c κs. search needs) (λ c. search needs) returns-2)
+    (tie.spec returns (λ c. search needs) returns-2 (λ c. search needs) (λ c κs. search needs) (λ c. search needs) returns-3)
