@@ -3,17 +3,18 @@
 --     number-none, number-skipped                 the number past the end is 0; the number in k octets is checked as octets
 --     formed, part-form .. formed-back            a field of a form that ends in an address of w octets, as groups and sources are
 --     Comes, form-no, form-yes                    a field by a test of its octets, and what a check that made the test answers
+--     native-is                                   the family and 00, as one number
 --     groupTest, group-form .. group-back         a group: the address is tested by its first octet
 --     sourceTest, source-form .. source-back      a source: its first octet decides, or whether the address is 0
 --     address-is, address-short                   either, by a flag
 -- Assumes nothing.
-use Prim.Native.Nat.{ℕ, suc, _+_, _-_, _/_, _^_, _≤_}
+use Prim.Native.Nat.{ℕ, suc, _+_, _-_, _*_, _/_, _^_, _≤_, _<_}
 use native.Mathlib.Omega.{arith}
 use native.Mathlib.Nat.{add-comm, zero-div}
 use mathlib.Core.Path.{_≡_, refl, sym, ap, _∙_}
 use mathlib.Core.Bool.{Bool, true, false, _&&_, cond}
 use mathlib.Core.List.{List}
-use borrow.Author.Tests.{eq-eqb, ne-eqb}
+use borrow.Author.Tests.{eq-eqb, ne-eqb, eqb-true, eqb-false}
 use lib.Dec.{eqb}
 use lib.ListN.{length, getD, take, drop, length-drop}
 use lib.Seq.{take-add, take-all, drop-drop, getD-drop, length-take-le, drop-at}
@@ -117,6 +118,17 @@ module _ (w j : ℕ) (test : List ℕ → Bool) (o : List ℕ) (at : ℕ) where
       passed : {x : List ℕ} {m : ℕ} (b : Bool) (y : List ℕ) (l : ℕ) → cond b (got y l) (bad 7 at) ≡ got x m → (y ≡ x) × (l ≡ m)
       passed true y l p = (cc, cc)
       passed false y l p = absurd (no-got p)
+
+-- ---- how an address begins
+
+-- two octets as one number, the first the low one
+pub native-is : (a b f : ℕ) → a < 256 → f < 256 → eqb (a + b * 256) f ≡ (eqb a f && eqb b 0)
+native-is a b f low small = go (eqb a f) (eqb b 0) refl refl
+  where
+    go : (p q : Bool) → eqb a f ≡ p → eqb b 0 ≡ q → eqb (a + b * 256) f ≡ (p && q)
+    go true true i j = eq-eqb (a + b * 256) f (omega (arith, eqb-true a f i, eqb-true b 0 j))
+    go true false i j = ne-eqb (a + b * 256) f (λ e. eqb-false b 0 j (omega (arith, e, low, small)))
+    go false q i j = ne-eqb (a + b * 256) f (λ e. eqb-false a f i (omega (arith, e, low, small)))
 
 -- ---- groups
 

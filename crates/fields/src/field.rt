@@ -12,7 +12,7 @@ ghost use mathlib.Core.Path.{_≡_};
 ghost use mathlib.Core.Bool.{_&&_};
 ghost use Prim.Native.Nat.{_+_, _≤_};
 ghost use lib.Dec.{eqb};
-ghost use lib.ListN.{length};
+ghost use lib.ListN.{length, getD};
 ghost use Rattle.octets.specs.Octets.{numberAt};
 ghost use Rattle.records.specs.Sizes.{groupSize, sourceSize};
 ghost use Rattle.format.specs.Reader.{octets};
@@ -49,6 +49,15 @@ pub fn octets_check(m: &[u8], at: usize, k: usize) -> Checked
     Checked::Next(at + k)
 }
 
+// Whether octets begin as every encoded address of a family does, with the family and 00. Both are tested as one number, the first
+// octet the low one, as the machine has them: so the compiler compares two octets at once.
+fn is_native(ipv6: bool, x: &[u8]) -> bool
+    requires { ⌜ 2 ≤ length (now x) ⌝ }
+    ensures { λ r. ⌜ r ≡ (eqb (getD (now (x .entry)) 0 0) (familyOf ipv6 .family) && eqb (getD (now (x .entry)) 1 0) 0) ⌝ }
+{
+    (x[0] as usize) + (x[1] as usize) * 256 == family_number(ipv6) as usize
+}
+
 // The octets of a group that is allowed: the family, 00, a flags octet, the mask length, a multicast address.
 pub fn is_group(ipv6: bool, g: &[u8]) -> bool
     ensures { λ r. ⌜ r ≡ (eqb (length (now (g .entry))) (groupSize (familyOf ipv6 .width)) && groupForm (familyOf ipv6) (now (g .entry))) ⌝ }
@@ -56,10 +65,7 @@ pub fn is_group(ipv6: bool, g: &[u8]) -> bool
     if g.len() != width(ipv6) + 4 {
         return false;
     }
-    if g[0] != family_number(ipv6) {
-        return false;
-    }
-    if g[1] != 0 {
+    if !is_native(ipv6, g) {
         return false;
     }
     if g[3] != mask_length(ipv6) {
@@ -88,10 +94,7 @@ pub fn is_source(ipv6: bool, s: &[u8], zero_allowed: bool) -> bool
     if s.len() != width(ipv6) + 2 {
         return false;
     }
-    if s[0] != family_number(ipv6) {
-        return false;
-    }
-    if s[1] != 0 {
+    if !is_native(ipv6, s) {
         return false;
     }
     if s[2] != 0 {

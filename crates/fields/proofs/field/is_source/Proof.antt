@@ -1,9 +1,9 @@
 -- `fields::field::is_source` meets its contract: of a source's octets, its tests are those of `sourceTest`, which `source-form` makes the definition's.
 -- Assumes nothing.
 use native.Mathlib.Omega.{arith}
-use mathlib.Core.Path.{_≡_, ap, _∙_}
-use mathlib.Core.Bool.{_&&_}
-use borrow.Author.Tests.{eq-eqb, ne-eqb}
+use mathlib.Core.Path.{_≡_, sym, ap, _∙_}
+use mathlib.Core.Bool.{Bool, _&&_}
+use borrow.Author.Tests.{eq-eqb, ne-eqb, not-true, not-false}
 use borrow.Author.Needs.{needs}
 use denote.Ref.{now}
 use lib.Dec.{eqb}
@@ -34,46 +34,43 @@ returns : tie.Need-returns
 returns c = rw (← (c .before .width .ensures .0), ne-eqb _ _ (c .if1 .taken))
 
 returns-2 : tie.Need-returns-2
-returns-2 c = rw (asked (c .before .before .before), ← (c .before .family-number .ensures), ne-eqb _ _ (c .if2 .taken))
+returns-2 c = rw (asked (c .before .before), ← (c .before .is-native .ensures), not-true (c .before .is-native .result) (c .if2 .taken))
+
+abbrev past : tie.Else2 → tie.Else1
+past c = c .before .before
+
+-- past the family and 00 the address decides
+left : (c : tie.Else2)
+    → (eqb (length (now (start (past c) .args .s))) (sourceSize (familyOf (start (past c) .args .ipv6) .width)) && sourceForm (familyOf (start (past c) .args .ipv6)) (start (past c) .args .zero-allowed) (now (start (past c) .args .s)))
+    ≡ mayBeSource (familyOf (start (past c) .args .ipv6)) (start (past c) .args .zero-allowed) (numberAt (familyOf (start (past c) .args .ipv6) .width) (now (start (past c) .args .s)) 2)
+left c =
+    let a = start (past c) .args in
+    let f = familyOf (a .ipv6) in
+    asked (past c)
+    ∙ ap (λ (b : Bool). b && mayBeSource f (a .zero-allowed) (numberAt (f .width) (now (a .s)) 2)) (sym (c .before .is-native .ensures) ∙ not-false (c .before .is-native .result) (c .if2 .left))
 
 returns-3 : tie.Need-returns-3
 returns-3 c =
     let e = c .before .before in
-    rw (asked (e .before .before .before), ← (e .before .family-number .ensures), eq-eqb _ _ (e .if2 .left), ne-eqb _ _ (c .if3 .taken))
-
-abbrev past : tie.Else3 → tie.Else1
-past c = c .before .before .before .before .before
-
--- past those tests the address decides
-left : (c : tie.Else3)
-    → (eqb (length (now (start (past c) .args .s))) (sourceSize (familyOf (start (past c) .args .ipv6) .width)) && sourceForm (familyOf (start (past c) .args .ipv6)) (start (past c) .args .zero-allowed) (now (start (past c) .args .s)))
-    ≡ mayBeSource (familyOf (start (past c) .args .ipv6)) (start (past c) .args .zero-allowed) (numberAt (familyOf (start (past c) .args .ipv6) .width) (now (start (past c) .args .s)) 2)
-left c =
-    let e = c .before .before in
-    rw (asked (past c), ← (e .before .family-number .ensures), eq-eqb _ _ (e .if2 .left), eq-eqb _ _ (c .if3 .left))
-
-returns-4 : tie.Need-returns-4
-returns-4 c =
-    let e = c .before .before in
     let a = start (past e) .args in
-    rw (left e) (source-first (a .ipv6) (a .zero-allowed) (now (a .s)) (λ i. c .before .shared-slice-known4 .given i .fits) (long (past e)) (c .if4 .taken))
+    rw (left e) (source-first (a .ipv6) (a .zero-allowed) (now (a .s)) (λ i. c .before .shared-slice-known2 .given i .fits) (long (past e)) (c .if3 .taken))
 
 zero-at-requires : tie.Need-zero-at-requires
 zero-at-requires c κs = omega (arith, long (past (c .before .before)))
+
+returns-4 : tie.Need-returns-4
+returns-4 c =
+    let z = c .before in
+    let e = z .before .before .before in
+    let a = start (past e) .args in
+    rw (left e) (source-zero (a .ipv6) (a .zero-allowed) _ (z .zero-at .ensures) (c .if4 .taken))
 
 returns-5 : tie.Need-returns-5
 returns-5 c =
     let z = c .before in
     let e = z .before .before .before in
     let a = start (past e) .args in
-    rw (left e) (source-zero (a .ipv6) (a .zero-allowed) _ (z .zero-at .ensures) (c .if5 .taken))
-
-returns-6 : tie.Need-returns-6
-returns-6 c =
-    let z = c .before in
-    let e = z .before .before .before in
-    let a = start (past e) .args in
-    rw (left e) (source-other (a .ipv6) (a .zero-allowed) _ (z .zero-at .ensures) (c .if5 .left))
+    rw (left e) (source-other (a .ipv6) (a .zero-allowed) _ (z .zero-at .ensures) (c .if4 .left))
 
 pub is-source-spec : {M : Type 1} → statement M
 is-source-spec =
@@ -82,13 +79,10 @@ is-source-spec =
     (λ c κs. search needs)
     (λ c. search needs)
     returns
-    (λ c. search needs)
     (λ c κs. search needs)
     returns-2
     (λ c. search needs)
     returns-3
-    (λ c. search needs)
-    returns-4
     zero-at-requires
-    returns-5
-    returns-6)
+    returns-4
+    returns-5)
