@@ -1,4 +1,4 @@
-// What several calls answer with: that nothing is refused, and how many octets were written.
+// What several calls answer with: that nothing is refused, or what is; and how many octets were written.
 use format::Refusal;
 use format::Writing;
 ghost use mathlib.Core.Path.{_≡_};
@@ -18,6 +18,17 @@ pub(crate) fn accepted() -> Refusal
     Refusal {
         number: 0,
         place: 0,
+    }
+}
+
+// A refusal as it is, put together from its two fields. Copied whole, what lies between them in memory is copied with them, by loads
+// that wait for the narrower stores before; of short octets that is a quarter of a call.
+pub(crate) fn refused(refusal: Refusal) -> Refusal
+    ensures { λ r. ⌜ r ≡ refusal ⌝ }
+{
+    Refusal {
+        number: refusal.number,
+        place: refusal.place,
     }
 }
 

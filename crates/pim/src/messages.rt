@@ -2,6 +2,7 @@
 use crate::answers::LengthAnswer;
 use crate::answers::accepted;
 use crate::answers::length_answer;
+use crate::answers::refused;
 use format::Named;
 use format::Record;
 use format::Refusal;
@@ -154,7 +155,7 @@ fn hello_answer(h: HelloRead) -> HelloAnswer
             hello,
         },
         HelloRead::Refused(refusal) => HelloAnswer {
-            refusal,
+            refusal: refused(refusal),
             hello: Hello {
                 holdtime: 0,
                 has_priority: false,

@@ -2,6 +2,7 @@
 use crate::answers::LengthAnswer;
 use crate::answers::accepted;
 use crate::answers::length_answer;
+use crate::answers::refused;
 use format::Refusal;
 use popcount::Attribute;
 use popcount::AttributeRead;
@@ -55,7 +56,7 @@ fn attribute_answer(a: AttributeRead) -> AttributeAnswer
             attribute,
         },
         AttributeRead::Refused(refusal) => AttributeAnswer {
-            refusal,
+            refusal: refused(refusal),
             next: 0,
             attribute: no_attribute(),
         },

@@ -35,8 +35,8 @@ returns c =
 
 returns-2 : tie.Need-returns-2
 unfolding helloAnswer told
-returns-2 c = rw (c .before .h2 .given .1)
+returns-2 c = rw (c .before .before .h2 .given .1, c .refused .ensures)
 
 pub hello-answer-spec : {M : Type 1} → statement M
 hello-answer-spec =
-    tie.close (tie.spec (λ c. search needs) (λ c κs. search needs) (λ c. search needs) returns returns-2)
+    tie.close (tie.spec (λ c. search needs) (λ c κs. search needs) (λ c. search needs) (λ c κs. search needs) returns returns-2)

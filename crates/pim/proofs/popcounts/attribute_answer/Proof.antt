@@ -12,8 +12,8 @@ returns c = rw (c .before .before .a .given .1, c .accepted .ensures)
 
 returns-2 : tie.Need-returns-2
 unfolding attributeAnswer readBy
-returns-2 c = rw (c .before .before .a2 .given .1, c .no-attribute .ensures)
+returns-2 c = rw (c .before .before .before .a2 .given .1, c .before .refused .ensures, c .no-attribute .ensures)
 
 pub attribute-answer-spec : {M : Type 1} → statement M
 attribute-answer-spec =
-    tie.close (tie.spec (λ c. search needs) (λ c κs. search needs) (λ c. search needs) (λ c κs. search needs) returns returns-2)
+    tie.close (tie.spec (λ c. search needs) (λ c κs. search needs) (λ c. search needs) (λ c κs. search needs) (λ c κs. search needs) returns returns-2)
