@@ -169,8 +169,8 @@ fn put_addresses(
     Places { at, out }
 }
 
-// The same, the first entry copied as it stands. The octet of R was held since its test, and words that are read before anything is
-// stored would be kept octet by octet with it.
+// The same, the first entry copied as it stands. The first octet of the words was read already, for R; until something is stored, the
+// compiler keeps it and would read the words octet by octet.
 fn copy_addresses_of(
     ipv6: bool,
     is_group: bool,
