@@ -49,8 +49,8 @@ pub fn octets_check(m: &[u8], at: usize, k: usize) -> Checked
     Checked::Next(at + k)
 }
 
-// Whether octets begin as every encoded address of a family does, with the family and 00. Both are tested as one number, the first
-// octet the low one, as the machine has them: so the compiler compares two octets at once.
+// Whether octets begin as every encoded address of a family does, with the family and 00 for its native encoding. Both are tested as one
+// number, the first octet the low one, as the machine has them: so the compiler compares two octets at once.
 fn is_native(ipv6: bool, x: &[u8]) -> bool
     requires { ⌜ 2 ≤ length (now x) ⌝ }
     ensures { λ r. ⌜ r ≡ (eqb (getD (now (x .entry)) 0 0) (familyOf ipv6 .family) && eqb (getD (now (x .entry)) 1 0) 0) ⌝ }

@@ -22,7 +22,7 @@ pub(crate) fn accepted() -> Refusal
 }
 
 // A refusal as it is, put together from its two fields. Copied whole, what lies between them in memory is copied with them, by loads
-// that wait for the narrower stores before; of short octets that is a quarter of a call.
+// that wait for the narrower stores before. Where the octets that are refused are few, that is much of a call.
 pub(crate) fn refused(refusal: Refusal) -> Refusal
     ensures { λ r. ⌜ r ≡ refusal ⌝ }
 {
