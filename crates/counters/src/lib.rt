@@ -4,7 +4,9 @@
 // start.rt       counters to begin with
 // sums.rt        the totals of one direction and kind, with a message more
 // calls.rt       by value: the answer, and the counters after it; on counters that are lent: a thin function over it
+// lend.rt        counters by value, lent to `count` for the call
 mod calls;
+mod lend;
 mod start;
 mod sums;
 
@@ -12,7 +14,9 @@ pub use calls::added;
 pub use calls::count;
 use format::Refusal;
 pub use format::kind_number;
+pub use lend::counted;
 pub use start::none;
+pub use sums::saturating;
 
 // How many messages, and how many records they had.
 #[repr(C)]

@@ -10,7 +10,7 @@ ghost use Rattle.counters.specs.Counting.{sum, moreIf, moreAt, moreIn};
 const GREATEST: u64 = 0xffff_ffff_ffff_ffff;
 
 // A sum that stays at the maximum.
-fn saturating(a: u64, b: u64) -> u64
+pub fn saturating(a: u64, b: u64) -> u64
     ensures { λ r. ⌜ r ≡ sum a b ⌝ }
 {
     if GREATEST - a < b {

@@ -2,7 +2,7 @@
 --     zero-cut .. start-some             Zero, Reserved, and that a record begins
 --     tallied-skipped .. count-joined    records counted to the end, one by one or all at once
 --     plain-bad, plain-more, plain-end   a plain assert, by what its check found
---     packed-bad, packed-on, start-room  packed asserts of either form, by what their start was found to be
+--     simple-is, joined-is, packed-bad, packed-on, start-room  packed asserts of either form, by what their start was found to be
 --     records-none-left, records-left    whether a record begins
 -- Assumes nothing.
 use Prim.Native.Nat.{ℕ, zero, suc, _+_, _≤_, _<_}
@@ -182,11 +182,11 @@ joined-last (got a n) r = sym (joined-count (r n))
 joined-last (bad n p) r = refl
 
 module _ (f : Family) (o : List ℕ) where
-  simple-is : tallied length (continue (packedStart o 4) (λ u next. toEnd (length o) (assertRecord f) o next)) ≡ tallied length (assertsBody f Simple o 4)
+  pub simple-is : tallied length (continue (packedStart o 4) (λ u next. toEnd (length o) (assertRecord f) o next)) ≡ tallied length (assertsBody f Simple o 4)
   unfolding assertsBody
   simple-is = ap (tallied length) (packed-body (assertRecord f) o)
 
-  joined-is : tallied recordsCount (continue (packedStart o 4) (λ u next. toEnd (length o) (aggregatedRecord f) o next)) ≡ tallied length (assertsBody f Aggregated o 4)
+  pub joined-is : tallied recordsCount (continue (packedStart o 4) (λ u next. toEnd (length o) (aggregatedRecord f) o next)) ≡ tallied length (assertsBody f Aggregated o 4)
   unfolding assertsBody _>>_ _>>=_ give
   joined-is = ap (tallied recordsCount) (packed-body (aggregatedRecord f) o) ∙ joined-last (zeroReserved o 4) (λ n. records (aggregatedRecord f) o n)
 

@@ -154,8 +154,8 @@ fn hello_of(h: Heard) -> Hello
     }
 }
 
-// A Hello's options, from octet 4 on.
-fn hello_options(m: &[u8]) -> HelloRead
+// A Hello's options, from octet 4 on: for a caller that has read the header.
+pub fn hello_options(m: &[u8]) -> HelloRead
     ensures says { λ r. ⌜ told r ≡ helloOptions (now (m .entry)) ⌝ }
     ensures zero { λ r. ⌜ unannounced r ⌝ }
 {

@@ -1,4 +1,4 @@
-// The one function that lends counters: it lends its own copy for the call, and hands it back as the call left it.
+// A message counted by `counters::counted`, which lends the counters: what it refuses is said, and the counters go on.
 use counters::Answer;
 use counters::Counters;
 use counters::Direction;
@@ -17,8 +17,8 @@ fn said(answer: Answer) {
 pub(crate) fn counted(c: Counters, direction: Direction, kind: u8, records: u64) -> Counters
     ensures { λ r. ⌜ r ≡ counting c direction kind records .counters ⌝ }
 {
-    let mut lent = c;
-    let answer = counters::count(&mut lent, direction, kind, records);
+    let after = counters::counted(c, direction, kind, records);
+    let answer = after.answer;
     said(answer);
-    lent
+    after.counters
 }

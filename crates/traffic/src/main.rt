@@ -1,8 +1,8 @@
 // Counts traffic: messages of every kind that are received, records read singly out of the body that is handed back, and messages
-// that are packed to be sent. Each is counted on counters that the program lends, and all counters are printed at the end. The
+// that are packed to be sent. Each is counted on counters that are lent, and all counters are printed at the end. The
 // messages and entries are made by hand; what is expected, in the file stdout, is worked out by hand from 01, the rule book.
 //
-// lend.rt         the counters lent to `counters::count`
+// lend.rt         a message counted, on counters that are lent; what is refused is said
 // receive.rt      a message received: its records, then counted
 // received.rt     messages of each kind, and damaged ones
 // sent.rt         messages packed, then counted

@@ -52,7 +52,7 @@ use Rattle.counters.proofs.Answer as N
 use Rattle.counters.proofs.Answer.Laws as N′
 use Rattle.counters.proofs.CountersAfter as R
 use Rattle.counters.proofs.CountersAfter.Laws as R′
-use Rattle.counters.proofs.Machine.{mach, mach-d, typed, typed-d, counters-own, names, says-both}
+use Rattle.counters.proofs.Machine.{mach, mach-d, Told, Held, typed, typed-d, counters-own, names, says-both}
 use Rattle.counters.proofs.calls.added as added
 use Rattle.counters.proofs.calls.added.Symbol as added-def
 use Rattle.counters.proofs.calls.added.Symbol.{name as #counters·added}
@@ -67,13 +67,6 @@ Arg = RefT Counters × (Direction × (ℕ × (ℕ × Unit {0})))
 
 abbrev stayed : Stays (count.ended .signature .params) (count.ended .kept)
 stayed = (stay-ref (0 ∷ []) tt (plain (λ _. T.the-row)), (stay-none (λ _. D.the-row) yes, (stay-none (λ _. u8) yes, (stay-none (λ _. u64) yes, tt))))
-
--- the two equations that both contracts state, of an answer and of the counters then
-abbrev Told : Counters → Direction → ℕ → ℕ → CountersAfter → Type 0
-Told h d k n r = answerOf (r .answer) ≡ counting h d k n .answer
-
-abbrev Held : Counters → Direction → ℕ → ℕ → CountersAfter → Type 0
-Held h d k n r = r .counters ≡ counting h d k n .counters
 
 module _ {M : Type 1} (𝓤 : URA M) (H : Heap 𝓤) (A : Atoms 𝓤) (at-mem : Memory → SProp 𝓤) (run : Routine → Fun 𝓤) where
   -- the contract that the proof cites
