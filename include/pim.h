@@ -35,7 +35,7 @@
  * one field of 8 octets, a source one of 6. Every other place is said with its call.
  *
  * Contents, in order: version; sizes and limits; kinds, numbers and lengths; messages read; messages written;
- * neighbours and election; counters; Pop-Count attributes; the stored sheet; the checksum.
+ * neighbours and election; counters; the report of a file; Pop-Count attributes; the stored sheet; the checksum.
  */
 #ifndef PIM_H
 #define PIM_H
@@ -53,8 +53,9 @@ extern "C" {
 /* Each change of this file that a caller can notice raises it: a name, a layout, a number, a size, or what a call does.
  * It is no version of the protocol. 2: counters and rows are lent, names of Pop-Count begin pim_popcount_, the sheet's
  * counts are pim_sheet_counts. 3: pim_write_hello, and PIM_LONGEST_HELLO. 4: limit 0 is 556, before it was 1480.
- * 5: 6 and 7 in reading are placed at the field, before it was at the record, the option or the attribute. */
-#define PIM_VERSION 5
+ * 5: 6 and 7 in reading are placed at the field, before it was at the record, the option or the attribute. 6: the
+ * report of a file, pim_report, and pim_tally_none to pim_tally_mean. */
+#define PIM_VERSION 6
 
 /* ---- sizes and limits, in octets where nothing else is said */
 
@@ -69,6 +70,8 @@ extern "C" {
 #define PIM_USUAL_HOLDTIME 105    /* seconds, of a Hello that has none */
 #define PIM_LONGEST_HELLO 22      /* the longest that is written */
 #define PIM_ROWS 16               /* rows of a neighbour table, and neighbours of a sheet at most */
+#define PIM_NUMBERS 15            /* of enum pim_number, 0 to 14 */
+#define PIM_LONGEST_LEFT 65536    /* what pim_tally_octets leaves at most */
 #define PIM_POPCOUNT_SHORTEST 8   /* a Pop-Count attribute without options */
 #define PIM_POPCOUNT_LONGEST 257  /* the longest that can be read */
 #define PIM_POPCOUNT_MERGED 22    /* the longest that merging writes */
@@ -345,6 +348,58 @@ pim_counters pim_counters_none(void);
  * at the 64-bit maximum. The answer is the refusal itself, its number 0 where the call counted.
  * Refuses 4 at 0, for a number that is no kind. */
 pim_refusal pim_count(pim_counters *counters, bool received, uint8_t kind, uint64_t records);
+
+/* ---- the report of a file of messages */
+
+/* A file holds messages, each preceded by its length in 16 bits. The length is that of the message alone, and may be
+ * any number. A message counts as accepted exactly if the call that reads its kind (pim_read_asserts, pim_read_pairs or
+ * pim_read_hello) accepts it with room enough. Any other one counts under the number of that call's refusal, or of
+ * pim_header's, which is 1 to 7 or 13 and never 8. Its place is not kept. */
+
+/* 216 octets. What came of messages. */
+typedef struct {
+    pim_by_kind accepted;          /* messages that were accepted, and their records: entries, of a Hello none */
+    uint64_t refused[PIM_NUMBERS]; /* messages that were refused, by enum pim_number; [0] counts none */
+} pim_tally;
+
+/* Of no message. */
+pim_tally pim_tally_none(void);
+
+/* One message more, of n octets at m, accepted or refused: an image can keep its own report so. Each number stays at
+ * the 64-bit maximum. Like the other calls of this part it refuses nothing. */
+pim_tally pim_tally_message(pim_tally tally, const uint8_t *m, size_t n);
+
+/* 224 octets */
+typedef struct {
+    pim_tally tally;
+    size_t used; /* octets, from the first on: the messages that were counted, with their lengths */
+} pim_tally_answer;
+
+/* The messages more that stand whole at o, from its first octet on, each with its length before it. What is left after
+ * `used`, PIM_LONGEST_LEFT octets at most, is the start of a length or of a message: a file can be read in pieces of
+ * any size, what is left of one standing before the next. Where nothing is left after the last piece, the file is
+ * whole. */
+pim_tally_answer pim_tally_octets(pim_tally tally, const uint8_t *o, size_t n);
+
+/* 16 octets */
+typedef struct {
+    uint64_t numerator, denominator;
+} pim_fraction;
+
+/* The mean of records over the accepted messages that are packed, of any kind but PIM_HELLO and PIM_ASSERT, in lowest
+ * terms; 0/1 where there is no such message. Both sums stay at the 64-bit maximum. */
+pim_fraction pim_tally_mean(pim_tally tally);
+
+/* 240 octets */
+typedef struct {
+    pim_tally tally;
+    pim_fraction mean;
+    bool whole; /* false where the file is cut: it ends in a length, or in a message */
+} pim_report_answer;
+
+/* The report of a file of n octets: its whole messages from the first on, their mean, and whether the file is whole.
+ * An empty file is. Nothing of a message that is cut is counted. */
+pim_report_answer pim_report(const uint8_t *file, size_t n);
 
 /* ---- Pop-Count attributes (RFC 6807) */
 

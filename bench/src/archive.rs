@@ -101,6 +101,36 @@ pub struct SheetAnswer {
     pub table: Table,
 }
 
+#[repr(C)]
+#[derive(Clone, Copy, Debug, PartialEq, Eq)]
+pub struct Totals {
+    pub messages: u64,
+    pub records: u64,
+}
+
+/// The kinds, which the header names one by one, in their order.
+#[repr(C)]
+#[derive(Clone, Copy, Debug, PartialEq, Eq)]
+pub struct Tally {
+    pub accepted: [Totals; 6],
+    pub refused: [u64; 15],
+}
+
+#[repr(C)]
+#[derive(Clone, Copy, Debug, PartialEq, Eq)]
+pub struct Fraction {
+    pub numerator: u64,
+    pub denominator: u64,
+}
+
+#[repr(C)]
+#[derive(Clone, Copy, Debug, PartialEq, Eq)]
+pub struct ReportAnswer {
+    pub tally: Tally,
+    pub mean: Fraction,
+    pub whole: bool,
+}
+
 type Pack = unsafe extern "C" fn(*const u8, usize, usize, usize, *mut u8, usize) -> PackAnswer;
 
 extern "C" {
@@ -140,6 +170,7 @@ extern "C" {
         b: *mut u8,
         room: usize,
     ) -> PackAnswer;
+    fn pim_report(file: *const u8, n: usize) -> ReportAnswer;
     fn pim_popcount_read(o: *const u8, n: usize, at: usize) -> PopcountReadAnswer;
     fn pim_popcount_merge(
         own: PopcountOwn,
@@ -216,6 +247,11 @@ pub fn pack_null_register(entries: &[u8], start: usize, limit: usize, buffer: &m
 #[inline(always)]
 pub fn pack_register_stop(entries: &[u8], start: usize, limit: usize, buffer: &mut [u8]) -> PackAnswer {
     pack(pim_pack_register_stop, entries, start, limit, buffer)
+}
+
+#[inline(always)]
+pub fn report(file: &[u8]) -> ReportAnswer {
+    unsafe { pim_report(file.as_ptr(), file.len()) }
 }
 
 #[inline(always)]

@@ -1,6 +1,6 @@
 //! The inputs, the same in every run.
 
-use second::hello::Hello;
+use second::hello::{write_hello, Hello};
 use second::neighbours::{Neighbour, Table, ROWS};
 use second::rng::Rng;
 
@@ -175,3 +175,35 @@ pub const HELLO: [u8; 30] = [
 
 /// What the Hello that is written says: all that it can.
 pub const SAID: Hello = Hello { holdtime: 105, priority: Some(5), packing: true };
+
+/// Hellos as routers send them: every fourth or so is the one above, the others say what can be written.
+pub fn hellos(count: usize) -> Vec<Vec<u8>> {
+    let mut rng = Rng::new(8);
+    (0..count).map(|_| if rng.one_in(4) { HELLO.to_vec() } else { written_hello(&mut rng) }).collect()
+}
+
+fn written_hello(rng: &mut Rng) -> Vec<u8> {
+    let priority = rng.one_in(2).then(|| rng.next_u32());
+    let mut message = vec![0; 22];
+    let length = write_hello(Hello { priority, packing: rng.one_in(2), ..SAID }, &mut message);
+    message.truncate(length.expect("the buffer is long enough"));
+    message
+}
+
+/// The least octets of a file.
+const FILE: usize = 1_000_000;
+
+/// A file of messages, each with its length before it. They are those of the trains, the train drawn anew for
+/// each message; one that is at its end begins again.
+pub fn file(trains: &[Vec<Vec<u8>>]) -> Vec<u8> {
+    let mut rng = Rng::new(9);
+    let mut trains: Vec<_> = trains.iter().map(|train| train.iter().cycle()).collect();
+    let mut file = Vec::with_capacity(FILE + 1_500);
+    while file.len() < FILE {
+        let train = rng.below(trains.len());
+        let message = trains[train].next().expect("a train has messages");
+        file.extend_from_slice(&(message.len() as u16).to_be_bytes());
+        file.extend_from_slice(message);
+    }
+    file
+}

@@ -44,7 +44,9 @@ fn how_measured(run: &Run, passes: usize) -> String {
          between calls. A train's time is that of all its calls, the last one, which finds nothing left, too; \
          its octets are those of all its messages. At limit {} its calls pass 0, which is read as that \
          limit; any other limit they pass as it is. In a row named refuse the last field of the octets is at \
-         fault, so that all of them are read and the place of that field is found.\n",
+         fault, so that all of them are read and the place of that field is found. A row named report reads a \
+         file in memory, of good messages, each after its length; 1,000 divided by its ns/octet is megabytes \
+         a second.\n",
         run.date,
         machine(),
         run.compiler,

@@ -3,7 +3,7 @@
 use crate::archive::{self, PackAnswer, ReadAnswer};
 use crate::input;
 use crate::measure::{compare, side, Spread, Times};
-use second::{checksum, hello, pack, popcount, read, sheet, Answer, Kind, Refusal};
+use second::{checksum, hello, pack, popcount, read, report, sheet, Answer, Kind, Refusal};
 use std::hint::black_box;
 
 /// The usual limit, what a datagram on Ethernet carries, and the largest.
@@ -68,6 +68,7 @@ pub fn measure() -> Measured {
     measured.rows.push(merge());
     measured.rows.push(read_hello());
     measured.rows.push(write_hello());
+    reports(&mut measured.rows);
     refusals(&mut measured.rows);
     measured
 }
@@ -535,6 +536,65 @@ fn write_hello() -> Row {
         }),
     );
     octets_row("write Hello", length, times)
+}
+
+// ---- the report of a file
+
+/// Files of all packed kinds at two limits, and one of the short messages.
+fn reports(rows: &mut Vec<Row>) {
+    for limit in [pack::USUAL_LIMIT, 1_480] {
+        let trains = [
+            messages(&input::lone_asserts(MANY), limit, pack::pack_simple),
+            messages(&input::mixed_asserts(MANY), limit, pack::pack_aggregated),
+            messages(&input::pairs(MANY), limit, pack::pack_null_register),
+            messages(&input::pairs(MANY), limit, pack::pack_register_stop),
+        ];
+        rows.push(report_row(&format!("report, packed at {}", thousands(limit)), &input::file(&trains)));
+    }
+    let asserts = messages(&input::lone_asserts(MANY), pack::LEAST_LIMIT, pack::pack_assert);
+    rows.push(report_row("report, Hellos and asserts", &input::file(&[input::hellos(MANY), asserts])));
+}
+
+/// The train of a list.
+fn messages(list: &[u8], limit: usize, pack: SecondPack) -> Vec<Vec<u8>> {
+    let pack = |list: &[u8], start: usize, limit: usize, buffer: &mut [u8]| {
+        pack(list, start, limit, buffer).expect("the list is good")
+    };
+    whole_train(list, limit, &mut vec![0; limit], &pack).into_iter().map(|(message, _)| message).collect()
+}
+
+fn report_row(family: &str, file: &[u8]) -> Row {
+    let theirs = report::report(file);
+    assert_eq!(archive::report(file), archive_report(&theirs), "{family}");
+    assert!(theirs.whole && theirs.tally.refused == [0; 15], "{family}: all messages are good");
+    let times = compare(
+        &mut side(|| {
+            black_box(archive::report(black_box(file)));
+        }),
+        &mut side(|| {
+            black_box(report::report(black_box(file)));
+        }),
+    );
+    Row {
+        family: family.to_string(),
+        size: "1 megabyte".to_string(),
+        octets: file.len(),
+        records: theirs.tally.accepted.iter().map(|count| count.records as usize).sum(),
+        looked_at: None,
+        passes: vec![times],
+    }
+}
+
+/// The same report in the archive's form.
+fn archive_report(report: &report::Report) -> archive::ReportAnswer {
+    let report::Report { tally, mean, whole } = *report;
+    let accepted =
+        tally.accepted.map(|count| archive::Totals { messages: count.messages, records: count.records });
+    archive::ReportAnswer {
+        tally: archive::Tally { accepted, refused: tally.refused },
+        mean: archive::Fraction { numerator: mean.numerator, denominator: mean.denominator },
+        whole,
+    }
 }
 
 // ---- octets whose last field is at fault: all of them are read, and the place is the last one there is

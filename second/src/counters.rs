@@ -9,6 +9,14 @@ pub struct Count {
     pub records: u64,
 }
 
+impl Count {
+    /// Adds one message and its records; a number stays at its maximum.
+    pub(crate) fn add(&mut self, records: u64) {
+        self.messages = self.messages.saturating_add(1);
+        self.records = self.records.saturating_add(records);
+    }
+}
+
 #[derive(Clone, Copy, Debug, PartialEq, Eq)]
 pub enum Direction {
     Sent,
@@ -31,7 +39,6 @@ pub fn add(counters: &mut Counters, direction: Direction, kind: u8, records: u64
     let Some(count) = counts.get_mut(usize::from(kind)) else {
         return refuse(4, 0);
     };
-    count.messages = count.messages.saturating_add(1);
-    count.records = count.records.saturating_add(records);
+    count.add(records);
     Ok(())
 }

@@ -27,7 +27,7 @@ const PACKED_ASSERT_OPTION: usize = 4;
 
 /// The known options seen so far.
 #[derive(Default)]
-struct Seen {
+pub(crate) struct Seen {
     holdtime: Option<u16>,
     priority: Option<u32>,
     packing: bool,
@@ -37,6 +37,17 @@ pub fn read_hello(m: &[u8]) -> Answer<Hello> {
     if header(m)? != Kind::Hello {
         return refuse(4, 0);
     }
+    let seen = check_options(m)?;
+    Ok(Hello {
+        holdtime: seen.holdtime.unwrap_or(DEFAULT_HOLDTIME),
+        priority: seen.priority,
+        packing: seen.packing,
+    })
+}
+
+/// The known options of a Hello whose header was checked.
+#[inline]
+pub(crate) fn check_options(m: &[u8]) -> Answer<Seen> {
     let mut seen = Seen::default();
     let mut rest = &m[4..];
     while !rest.is_empty() {
@@ -45,11 +56,7 @@ pub fn read_hello(m: &[u8]) -> Answer<Hello> {
             Err(fault) => return Err(fault.refusal(m.len() - rest.len(), rest)),
         }
     }
-    Ok(Hello {
-        holdtime: seen.holdtime.unwrap_or(DEFAULT_HOLDTIME),
-        priority: seen.priority,
-        packing: seen.packing,
-    })
+    Ok(seen)
 }
 
 /// One option; what follows it.

@@ -9,6 +9,7 @@ pub mod neighbours;
 pub mod pack;
 pub mod popcount;
 pub mod read;
+pub mod report;
 pub mod rng;
 pub mod sheet;
 

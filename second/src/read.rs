@@ -202,7 +202,8 @@ fn pair_record(octets: &[u8], zero_source: bool) -> Result<PairRecord, Fault> {
     Ok(PairRecord { group, source })
 }
 
-fn check_plain(m: &[u8]) -> Answer<usize> {
+#[inline]
+pub(crate) fn check_plain(m: &[u8]) -> Answer<usize> {
     assert_record(&m[4..]).map_err(|fault| fault.refusal(4, &m[4..]))?;
     if m.len() > 4 + ASSERT {
         return refuse(6, 4 + ASSERT);
@@ -227,12 +228,14 @@ fn check_zero(m: &[u8]) -> Answer<()> {
     Ok(())
 }
 
-fn check_simple(m: &[u8]) -> Answer<usize> {
+#[inline]
+pub(crate) fn check_simple(m: &[u8]) -> Answer<usize> {
     check_zero(m)?;
     check_records::<ASSERT, _>(m, 8, assert_record)
 }
 
-fn check_pairs(m: &[u8], zero_source: bool) -> Answer<usize> {
+#[inline]
+pub(crate) fn check_pairs(m: &[u8], zero_source: bool) -> Answer<usize> {
     if m.len() == 4 {
         return refuse(5, 4);
     }
@@ -256,7 +259,7 @@ fn check_records<const N: usize, T>(
     Ok(good)
 }
 
-fn check_aggregated(m: &[u8]) -> Answer<usize> {
+pub(crate) fn check_aggregated(m: &[u8]) -> Answer<usize> {
     check_zero(m)?;
     let mut rest = &m[8..];
     let mut count = 0;

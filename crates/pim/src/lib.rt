@@ -7,6 +7,7 @@
 // packs.rt        the packing calls
 // tables.rt       the neighbour table and the election
 // totals.rt       the counters
+// reports.rt      the report of a file
 // popcounts.rt    Pop-Count attributes
 // stored.rt       the stored sheet
 // sums.rt         the checksum
@@ -14,6 +15,7 @@ mod answers;
 mod messages;
 mod packs;
 mod popcounts;
+mod reports;
 mod stored;
 mod sums;
 mod tables;

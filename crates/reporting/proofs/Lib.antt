@@ -4,3 +4,4 @@ pub mod Accepted
 pub mod Exact
 pub mod Divisors
 pub mod Reports
+pub mod Numbers

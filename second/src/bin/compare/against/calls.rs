@@ -105,6 +105,26 @@ pub fn count(counters: &mut Lent<Counters>, received: bool, kind: u8, records: u
     unsafe { pim_count(counters.pointer_mut(), received, kind, records) }
 }
 
+pub fn tally_none() -> Tally {
+    unsafe { pim_tally_none() }
+}
+
+pub fn tally_message(tally: Tally, m: &Lent) -> Tally {
+    unsafe { pim_tally_message(tally, m.pointer(), m.length()) }
+}
+
+pub fn tally_octets(tally: Tally, octets: &Lent) -> TallyAnswer {
+    unsafe { pim_tally_octets(tally, octets.pointer(), octets.length()) }
+}
+
+pub fn tally_mean(tally: Tally) -> Fraction {
+    unsafe { pim_tally_mean(tally) }
+}
+
+pub fn report(file: &Lent) -> ReportAnswer {
+    unsafe { pim_report(file.pointer(), file.length()) }
+}
+
 pub fn popcount_read(octets: &Lent, at: usize) -> PopcountReadAnswer {
     unsafe { pim_popcount_read(octets.pointer(), octets.length(), at) }
 }

@@ -7,6 +7,7 @@ use second::hello::Hello;
 use second::neighbours::{Neighbour, Table, ROWS};
 use second::popcount::{Attribute, Own};
 use second::read::Record;
+use second::report::{Fraction, Report, Tally};
 use second::{Answer, Kind, Refusal};
 use std::cmp::Ordering;
 use std::fmt::Debug;
@@ -23,6 +24,10 @@ impl Answered for u16 {}
 impl Answered for u8 {}
 impl Answered for ffi::Table {}
 impl Answered for ffi::Counters {}
+impl Answered for ffi::Tally {}
+impl Answered for ffi::TallyAnswer {}
+impl Answered for ffi::Fraction {}
+impl Answered for ffi::ReportAnswer {}
 
 impl Answered for ffi::Refusal {
     fn number(&self) -> Option<u8> {
@@ -215,6 +220,31 @@ pub fn counters(form: &ffi::Counters) -> Counters {
 /// The answer is the refusal itself; the counters are in lent memory.
 pub fn counted(answer: Answer<()>) -> ffi::Refusal {
     answer.err().map(refusal).unwrap_or_default()
+}
+
+pub fn tally_form(tally: &Tally) -> ffi::Tally {
+    ffi::Tally { accepted: by_kind(&tally.accepted), refused: tally.refused }
+}
+
+/// The tally that the C form holds.
+pub fn tally(form: &ffi::Tally) -> Tally {
+    Tally { accepted: counts_by_kind(&form.accepted), refused: form.refused }
+}
+
+pub fn tallied(tally: &Tally, used: usize) -> ffi::TallyAnswer {
+    ffi::TallyAnswer { tally: tally_form(tally), used }
+}
+
+pub fn mean(mean: Fraction) -> ffi::Fraction {
+    ffi::Fraction { numerator: mean.numerator, denominator: mean.denominator }
+}
+
+pub fn report(report: &Report) -> ffi::ReportAnswer {
+    ffi::ReportAnswer {
+        tally: tally_form(&report.tally),
+        mean: mean(report.mean),
+        whole: u8::from(report.whole),
+    }
 }
 
 pub fn attribute(answer: Answer<(Attribute, usize)>) -> ffi::PopcountReadAnswer {

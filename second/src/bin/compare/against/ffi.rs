@@ -119,6 +119,27 @@ records! {
         received: ByKind,
     }
 
+    Tally: 216 {
+        accepted: ByKind,
+        refused: [u64; 15],
+    }
+
+    TallyAnswer: 224 {
+        tally: Tally,
+        used: usize,
+    }
+
+    Fraction: 16 {
+        numerator: u64,
+        denominator: u64,
+    }
+
+    ReportAnswer: 240 {
+        tally: Tally,
+        mean: Fraction,
+        whole: u8,
+    }
+
     PopcountValues: 16 {
         transit: u32,
         stub: u32,
@@ -244,6 +265,12 @@ extern "C" {
 
     pub fn pim_counters_none() -> Counters;
     pub fn pim_count(counters: *mut Counters, received: bool, kind: u8, records: u64) -> Refusal;
+
+    pub fn pim_tally_none() -> Tally;
+    pub fn pim_tally_message(tally: Tally, m: *const u8, n: usize) -> Tally;
+    pub fn pim_tally_octets(tally: Tally, o: *const u8, n: usize) -> TallyAnswer;
+    pub fn pim_tally_mean(tally: Tally) -> Fraction;
+    pub fn pim_report(file: *const u8, n: usize) -> ReportAnswer;
 
     pub fn pim_popcount_read(o: *const u8, n: usize, at: usize) -> PopcountReadAnswer;
     pub fn pim_popcount_compare_speeds(a: u16, b: u16) -> u8;

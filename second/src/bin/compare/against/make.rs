@@ -1,10 +1,11 @@
-//! What the calls are given: messages, lists, tables, counters, attributes and
-//! sheets, good and damaged.
+//! What the calls are given: messages, files of them, lists, tables, counters,
+//! tallies, attributes and sheets, good and damaged.
 
 use second::checksum::checksum;
 use second::counters::{Count, Counters};
 use second::neighbours::{Neighbour, Table, ROWS};
 use second::popcount::Own;
+use second::report::Tally;
 use second::rng::Rng;
 use second::sheet::write_sheet;
 
@@ -262,6 +263,20 @@ pub fn zero_sources() -> Vec<Vec<u8>> {
     ]
 }
 
+/// Short messages that are refused: by 1 to 7 in turn, and by 13.
+pub fn refused_messages() -> Vec<Vec<u8>> {
+    vec![
+        vec![0x20; 3],
+        message(0x30, 0, &[]),
+        vec![0x20, 0, 0, 0],
+        message(0x21, 0, &[]),
+        message(0x2D, 0x10, &[]),
+        message(0x20, 0, &[0, 1, 0]),
+        message(0x25, 0, &assert_record([SOURCES[1], SOURCES[1], 110, 20])),
+        message(0x20, 0, &[0, 1, 0, 3]),
+    ]
+}
+
 /// Other values for an octet.
 pub fn other_values(rng: &mut Rng, old: u8) -> [u8; 9] {
     let random = rng.next_u32() as u8;
@@ -350,6 +365,21 @@ fn random_option(rng: &mut Rng) -> Vec<u8> {
     [&option.to_be_bytes()[..], &length.to_be_bytes(), &value].concat()
 }
 
+/// Cut, or one octet changed; mostly with a right checksum.
+pub fn damaged(rng: &mut Rng, m: &[u8]) -> Vec<u8> {
+    let mut m = m.to_vec();
+    if rng.one_in(2) {
+        m.truncate(rng.below(m.len() + 1));
+    } else {
+        let at = rng.below(m.len());
+        m[at] = pick(rng, &[0, 1, 2, 0x20, 0xE0, 0xFF]);
+    }
+    if !rng.one_in(4) {
+        seal(&mut m);
+    }
+    m
+}
+
 /// Messages as long as they may be, or nearly.
 pub fn large_messages(rng: &mut Rng) -> Vec<Vec<u8>> {
     let records: Vec<u8> = (0..2977).flat_map(|_| assert_record(fresh_entry(rng))).collect();
@@ -367,6 +397,47 @@ pub fn large_messages(rng: &mut Rng) -> Vec<Vec<u8>> {
         message(0x2D, 0x00, &register),
         message(0x2D, 0x10, &register),
     ]
+}
+
+// ---- files of messages
+
+/// Each message with its length before it, as far as 16 bits say it.
+pub fn file(messages: &[Vec<u8>]) -> Vec<u8> {
+    messages.iter().flat_map(|m| [&(m.len() as u16).to_be_bytes()[..], m].concat()).collect()
+}
+
+/// Octets of any number that begin as a Hello with an unknown option, which
+/// goes to the end.
+pub fn hello_of(length: usize) -> Vec<u8> {
+    let value = vec![7; length.saturating_sub(8)];
+    let option = [&[0x77, 0x77][..], &(value.len() as u16).to_be_bytes(), &value].concat();
+    let mut m = message(0x20, 0, &option);
+    m.truncate(length);
+    seal(&mut m);
+    m
+}
+
+/// A message for a file: one of a list, damaged or not; one of random records,
+/// options or fields; a long one; any octets, or none.
+pub fn any_message(rng: &mut Rng, list: &[Vec<u8>]) -> Vec<u8> {
+    let one = &list[rng.below(list.len())];
+    let length = rng.below(12);
+    match rng.below(12) {
+        0..=4 => one.clone(),
+        5 => damaged(rng, one),
+        6 => random_aggregated(rng),
+        7 => random_hello(rng),
+        8 => random_fields(rng),
+        9 => random_message(rng),
+        10 => hello_of(length * pick(rng, &[1, 50, 100])),
+        _ => octets(rng, length / 2),
+    }
+}
+
+/// A file of fewer messages than a number.
+pub fn any_file(rng: &mut Rng, list: &[Vec<u8>], bound: usize) -> Vec<u8> {
+    let messages: Vec<Vec<u8>> = (0..rng.below(bound)).map(|_| any_message(rng, list)).collect();
+    file(&messages)
 }
 
 // ---- neighbours and counters
@@ -485,6 +556,41 @@ pub fn counters(rng: &mut Rng) -> Counters {
         *count = Count { messages: total(rng), records: total(rng) };
     }
     counters
+}
+
+// ---- tallies
+
+/// A tally of any numbers, also of those that no message is counted under.
+pub fn tally(rng: &mut Rng) -> Tally {
+    let mut tally = Tally::default();
+    tally.accepted.fill_with(|| Count { messages: total(rng), records: total(rng) });
+    tally.refused.fill_with(|| total(rng));
+    tally
+}
+
+/// A tally whose packed messages, and their records, have given sums. The other
+/// numbers are any.
+pub fn tally_of(rng: &mut Rng, messages: u64, records: u64) -> Tally {
+    let mut tally = tally(rng);
+    let (messages, records) = (parts(rng, messages), parts(rng, records));
+    for (i, count) in tally.accepted[2..].iter_mut().enumerate() {
+        *count = Count { messages: messages[i], records: records[i] };
+    }
+    tally
+}
+
+/// Four numbers with a sum, in any order; often some of them are 0.
+fn parts(rng: &mut Rng, sum: u64) -> [u64; 4] {
+    let mut parts = [0; 4];
+    let mut left = sum;
+    for _ in 0..3 {
+        let any = rng.next_u64() % left.max(1);
+        let part = pick(rng, &[0, left, left / 2, any]);
+        parts[rng.below(4)] += part;
+        left -= part;
+    }
+    parts[rng.below(4)] += left;
+    parts
 }
 
 // ---- Pop-Count

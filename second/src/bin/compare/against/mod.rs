@@ -10,27 +10,31 @@ mod least;
 mod lent;
 mod make;
 mod neighbours;
+mod outcomes;
 mod pack;
 mod places;
 mod popcount;
 mod read;
+mod report;
 mod sheet;
 mod tally;
 mod trains;
 
 use crate::options::Options;
 use lent::Lent;
+use outcomes::Outcomes;
 use places::Fields;
 use second::rng::Rng;
 use std::process::ExitCode;
 use tally::Tally;
 
-/// A run: the random numbers, what was counted, which fields were at fault, and
-/// how often random parts are run.
+/// A run: the random numbers, what was counted, which fields were at fault, what
+/// came of the files reported, and how often random parts are run.
 pub struct Run {
     rng: Rng,
     tally: Tally,
     fields: Fields,
+    outcomes: Outcomes,
     rounds: usize,
 }
 
@@ -54,6 +58,7 @@ pub fn all(options: Options) -> ExitCode {
         rng: Rng::new(options.seed),
         tally: Tally::new(options),
         fields: Fields::default(),
+        outcomes: Outcomes::default(),
         rounds: options.rounds,
     };
     for subject in [
@@ -65,10 +70,11 @@ pub fn all(options: Options) -> ExitCode {
         least::compare,
         neighbours::compare,
         counters::compare,
+        report::compare,
         popcount::compare,
         sheet::compare,
     ] {
         subject(&mut run);
     }
-    run.tally.report(&run.fields)
+    run.tally.report(&run.fields, &run.outcomes)
 }

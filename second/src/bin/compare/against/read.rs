@@ -95,7 +95,7 @@ fn random(run: &mut Run, small: &[Vec<u8>]) {
     for make in kinds {
         let m = make(&mut run.rng);
         message(run, &m);
-        let damaged = damage(run, &m);
+        let damaged = make::damaged(&mut run.rng, &m);
         message(run, &damaged);
         let (kind, at) = (make::pick(&mut run.rng, &KINDS), run.below(m.len() + 2));
         record(run, kind, &m, at);
@@ -104,27 +104,12 @@ fn random(run: &mut Run, small: &[Vec<u8>]) {
     message(run, &make::sealed(&joined));
 }
 
-/// Cut, or one octet changed; mostly with a right checksum.
-fn damage(run: &mut Run, m: &[u8]) -> Vec<u8> {
-    let mut m = m.to_vec();
-    if run.rng.one_in(2) {
-        m.truncate(run.below(m.len() + 1));
-    } else {
-        let at = run.below(m.len());
-        m[at] = make::pick(&mut run.rng, &[0, 1, 2, 0x20, 0xE0, 0xFF]);
-    }
-    if !run.rng.one_in(4) {
-        make::seal(&mut m);
-    }
-    m
-}
-
 fn large(run: &mut Run) {
     for m in make::large_messages(&mut run.rng) {
         message(run, &m);
         message(run, &make::sealed(&[&m[..], &[0; 14]].concat()));
         for _ in 0..60 {
-            let damaged = damage(run, &m);
+            let damaged = make::damaged(&mut run.rng, &m);
             message(run, &damaged);
         }
     }

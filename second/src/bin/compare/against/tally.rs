@@ -2,13 +2,14 @@
 
 use super::expect::Answered;
 use super::lent::{Lent, Memory};
+use super::outcomes::Outcomes;
 use super::places::Fields;
 use crate::options::Options;
 use std::fmt::{Arguments, Debug};
 use std::process::{exit, ExitCode};
 
 /// The calls of `pim.h`, in its order.
-const CALLS: [&str; 29] = [
+const CALLS: [&str; 34] = [
     "pim_header",
     "pim_body",
     "pim_read_record",
@@ -30,6 +31,11 @@ const CALLS: [&str; 29] = [
     "pim_elect_among",
     "pim_counters_none",
     "pim_count",
+    "pim_tally_none",
+    "pim_tally_message",
+    "pim_tally_octets",
+    "pim_tally_mean",
+    "pim_report",
     "pim_popcount_read",
     "pim_popcount_compare_speeds",
     "pim_popcount_merge",
@@ -41,7 +47,7 @@ const CALLS: [&str; 29] = [
 ];
 
 // What is claimed of the first implementation beside the single calls: of its
-// whole trains, of its Hellos, and of its places in reading.
+// whole trains, of its Hellos, of its places in reading, and of its reports.
 pub const UNPACKED: &str = "train unpacks to its list";
 pub const LEAST: &str = "train is the least (brute force)";
 pub const LARGER_LIMIT: &str = "larger limit, no longer train";
@@ -49,11 +55,17 @@ pub const USUAL: &str = "limit 0 gives the train at 556";
 pub const READ_BACK: &str = "Hello reads back as what was said";
 pub const INSIDE: &str = "place in its record, or as it was";
 pub const CUT: &str = "cut where that field begins: 6";
+pub const AS_READ: &str = "counted as its reading call says";
+pub const ALL_COUNTED: &str = "all messages accepted or refused";
+pub const LEFT: &str = "65,536 octets left at most";
+pub const IN_PIECES: &str = "file in pieces, the same report";
 
-const CLAIMS: [&str; 7] = [UNPACKED, LEAST, LARGER_LIMIT, USUAL, READ_BACK, INSIDE, CUT];
+const CLAIMS: [&str; 11] =
+    [UNPACKED, LEAST, LARGER_LIMIT, USUAL, READ_BACK, INSIDE, CUT, AS_READ, ALL_COUNTED, LEFT, IN_PIECES];
 
 const NUMBERS: usize = 14;
 const COMPARISONS_LEAST: u64 = 200_000;
+const OUTCOMES_LEAST: u64 = 500;
 
 pub struct Tally {
     options: Options,
@@ -90,7 +102,7 @@ impl Tally {
         }
     }
 
-    /// One claim about the train of a list, about a Hello or about a place.
+    /// One claim about the train of a list, a Hello, a place or a report.
     pub fn claim(&mut self, claim: &'static str, numbers: Arguments, lent: &Lent, holds: bool) {
         if !holds {
             self.differ(claim, numbers, &[lent], &"does not hold", &"holds");
@@ -124,7 +136,7 @@ impl Tally {
     }
 
     /// Prints the tables; a failure if something was not compared.
-    pub fn report(&self, fields: &Fields) -> ExitCode {
+    pub fn report(&self, fields: &Fields, outcomes: &Outcomes) -> ExitCode {
         print_rows(&CALLS, &self.calls);
         print_rows(&CLAIMS, &self.claims);
         println!("{:<34}{:>10}", "accepted", self.numbers[0]);
@@ -133,8 +145,11 @@ impl Tally {
         }
         println!("{:<34}{:>10}", "calls lent NULL, with length 0", self.nulls);
         println!("{:<34}{:>10}", "faults at the rarest field", fields.least().1);
+        for (outcome, count) in outcomes.rows() {
+            println!("{outcome:<34}{count:>10}");
+        }
         println!("{} comparisons, 0 differences", self.comparisons());
-        let gaps = self.gaps(fields);
+        let gaps = self.gaps(fields, outcomes);
         for gap in &gaps {
             println!("failed: {gap}");
         }
@@ -146,7 +161,7 @@ impl Tally {
     }
 
     /// What should have been compared and was not.
-    fn gaps(&self, fields: &Fields) -> Vec<String> {
+    fn gaps(&self, fields: &Fields, outcomes: &Outcomes) -> Vec<String> {
         let calls = CALLS.iter().zip(&self.calls).chain(CLAIMS.iter().zip(&self.claims));
         let mut gaps: Vec<String> = calls
             .filter(|(_, count)| **count == 0)
@@ -157,6 +172,9 @@ impl Tally {
         }
         if let ((what, number, field), 0) = fields.least() {
             gaps.push(format!("refusal {number} never occurred at octet {field} of {what}"));
+        }
+        for (outcome, count) in outcomes.rows().iter().filter(|(_, count)| *count < OUTCOMES_LEAST) {
+            gaps.push(format!("{outcome} came {count} times, fewer than {OUTCOMES_LEAST}"));
         }
         if self.nulls == 0 {
             gaps.push("NULL was never lent".to_string());
