@@ -13,7 +13,8 @@ use format::Kind;
 ghost use mathlib.Core.Path.{_≡_};
 ghost use Rattle.format.specs.Values.{kindNumber};
 ghost use Rattle.counters.specs.Counting.{noneByKind, moreAt};
-ghost use Rattle.reporting.specs.Tallies.{noTally, onceMore, tallied};
+ghost use Rattle.reporting.specs.Answers.{judgedBy};
+ghost use Rattle.reporting.specs.Tallies.{noTally, onceMore, more, tallied};
 
 // Counts of no message.
 pub fn none() -> Tally
@@ -64,13 +65,19 @@ fn with_refused(t: Tally, number: u8) -> Tally
     next
 }
 
+// What came of one message more, counted.
+pub(crate) fn with_verdict(t: Tally, v: Verdict) -> Tally
+    ensures { λ r. ⌜ r ≡ more t (judgedBy v) ⌝ }
+{
+    match v {
+        Verdict::Accepted { kind, records } => with_accepted(t, kind, records as u64),
+        Verdict::Refused(refusal) => with_refused(t, refusal.number),
+    }
+}
+
 // The counts with one message more, accepted or refused.
 pub fn with_message(t: Tally, m: &[u8]) -> Tally
     ensures { λ r. ⌜ r ≡ tallied t (now (m .entry)) ⌝ }
 {
-    let j = judged(m);
-    match j {
-        Verdict::Accepted { kind, records } => with_accepted(t, kind, records as u64),
-        Verdict::Refused(refusal) => with_refused(t, refusal.number),
-    }
+    with_verdict(t, judged(m))
 }

@@ -3,7 +3,8 @@ use crate::Report;
 use crate::Taken;
 use crate::Tally;
 use crate::counts::none;
-use crate::counts::with_message;
+use crate::counts::with_verdict;
+use crate::judge::judged;
 use crate::means::mean;
 use octets::number16;
 ghost use mathlib.Core.Path.{_≡_};
@@ -21,7 +22,8 @@ pub fn with_octets(t: Tally, o: &[u8]) -> Taken
             return Taken { tally, used: at };
         }
         let end = at + 2 + n;
-        tally = with_message(tally, &o[at + 2..end]);
+        let v = judged(&o[at + 2..end]);
+        tally = with_verdict(tally, v);
         at = end;
     }
     Taken { tally, used: at }

@@ -1,11 +1,12 @@
 -- `reporting::file::with_octets` meets its contract: what is left from the present place on gives what all of it gives.
 -- Assumes nothing.
 use Prim.Native.Nat.{_-_}
-use mathlib.Core.Path.{refl}
+use mathlib.Core.Path.{refl, ap, _∙_}
 use native.Mathlib.Omega.{arith}
 use borrow.Author.Needs.{needs}
 use denote.Ref.{now}
 use lib.ListN.{length}
+use Rattle.reporting.specs.Tallies.{more, tallied}
 use Rattle.reporting.proofs.Files.{Along, along-start, along-next, along-end}
 use Rattle.reporting.proofs.file.with_octets.Statement.{statement}
 use Rattle.reporting.proofs.file.with_octets.Tie as tie
@@ -25,10 +26,11 @@ returns c =
     along-end _ (now (l .before .before .args .o)) (l .loop .tally) (l .loop .at) (l .loop .inv) (omega (arith, c .if1 .taken, c .before .number16 .ensures, c .before .before .loop-test .taken))
 
 loop-again : tie.Need-loop-again Inv-loop μ-loop
+unfolding tallied
 loop-again c =
-    let n = c .before .before .before in
+    let n = c .before .before .before .before in
     let l = n .before .before in
-    along-next _ (now (l .before .before .args .o)) (l .loop .tally) (l .loop .at) (l .loop .inv) (n .number16 .ensures) refl (omega (arith, c .before .before .if1 .left, n .before .loop-test .taken)) (c .with-message .ensures)
+    along-next _ (now (l .before .before .args .o)) (l .loop .tally) (l .loop .at) (l .loop .inv) (n .number16 .ensures) refl (omega (arith, c .before .before .before .if1 .left, n .before .loop-test .taken)) (c .with-verdict .ensures ∙ ap (more (l .loop .tally)) (c .before .judged .ensures))
 
 returns-2 : tie.Need-returns-2 Inv-loop μ-loop
 returns-2 c =
@@ -53,6 +55,7 @@ with-octets-spec =
     (λ c. search needs)
     (λ c. search needs)
     (λ c. search needs)
+    (λ c κs. search needs)
     (λ c κs. search needs)
     (λ c. search needs)
     loop-again
