@@ -13,8 +13,7 @@ use format::Kind;
 ghost use mathlib.Core.Path.{_≡_};
 ghost use Rattle.format.specs.Values.{kindNumber};
 ghost use Rattle.counters.specs.Counting.{noneByKind, moreAt};
-ghost use Rattle.reporting.specs.Answers.{judgedBy};
-ghost use Rattle.reporting.specs.Tallies.{noTally, onceMore, more, tallied};
+ghost use Rattle.reporting.specs.Tallies.{noTally, onceMore, tallied};
 
 // Counts of no message.
 pub fn none() -> Tally
@@ -40,38 +39,23 @@ fn received(accepted: ByKind) -> Counters
     }
 }
 
-// One accepted message more, and its records.
-fn with_accepted(t: Tally, kind: Kind, records: u64) -> Tally
-    ensures { λ r. ⌜ r ≡ record { accepted = moreAt (kindNumber kind) records (t .accepted); refused = t .refused } ⌝ }
+// One accepted message more of a kind, and its records.
+pub(crate) fn with_accepted(accepted: ByKind, kind: Kind, records: u64) -> ByKind
+    ensures { λ r. ⌜ r ≡ moreAt (kindNumber kind) records accepted ⌝ }
 {
-    let c = received(t.accepted);
+    let c = received(accepted);
     let after = counters::counted(c, Direction::Received, kind_number(kind), records);
     let all = after.counters;
-    let accepted = all.received;
-    let refused = t.refused;
-    Tally { accepted, refused }
+    all.received
 }
 
-// One refused message more.
-fn with_refused(t: Tally, number: u8) -> Tally
-    ensures { λ r. ⌜ r ≡ record { accepted = t .accepted; refused = onceMore number (t .refused) } ⌝ }
+// One message more that was refused by a number.
+pub(crate) fn count_refused(refused: &mut [u64], number: u8)
+    ensures { λ r. ⌜ now (refused .exit) ≡ onceMore number (now (refused .entry)) ⌝ }
 {
     let n = number as usize;
-    if NUMBERS <= n {
-        return t;
-    }
-    let mut next = t;
-    next.refused[n] = saturating(t.refused[n], 1);
-    next
-}
-
-// What came of one message more, counted.
-pub(crate) fn with_verdict(t: Tally, v: Verdict) -> Tally
-    ensures { λ r. ⌜ r ≡ more t (judgedBy v) ⌝ }
-{
-    match v {
-        Verdict::Accepted { kind, records } => with_accepted(t, kind, records as u64),
-        Verdict::Refused(refusal) => with_refused(t, refusal.number),
+    if n < refused.len() {
+        refused[n] = saturating(refused[n], 1);
     }
 }
 
@@ -79,5 +63,14 @@ pub(crate) fn with_verdict(t: Tally, v: Verdict) -> Tally
 pub fn with_message(t: Tally, m: &[u8]) -> Tally
     ensures { λ r. ⌜ r ≡ tallied t (now (m .entry)) ⌝ }
 {
-    with_verdict(t, judged(m))
+    let mut accepted = t.accepted;
+    let mut refused = t.refused;
+    let v = judged(m);
+    match v {
+        Verdict::Accepted { kind, records } => {
+            accepted = with_accepted(accepted, kind, records as u64);
+        }
+        Verdict::Refused(refusal) => count_refused(&mut refused, refusal.number),
+    }
+    Tally { accepted, refused }
 }
