@@ -6,7 +6,7 @@
 use Prim.Native.Nat.{ℕ, zero, suc, _+_, _-_, _*_, _/_, _%_, _≤_, _<_}
 use native.Mathlib.Omega.{arith}
 use native.Mathlib.Nat.{zero-mul, mul-zero, mul-one, mul-assoc, mul-comm, mul-left-comm, mul-add, mul-sub, mod-lt, mod-def, div-add-mod, div-eq-of-eq-mul-right, eq-of-mul-eq-mul-left}
-use mathlib.Core.Path.{_≡_, refl, sym, ap, _∙_}
+use mathlib.Core.Path.{_≡_, refl, sym, ap, subst, _∙_}
 use mathlib.Core.Bool.{Bool, true, false, cond}
 use borrow.Author.Tests.{eqb-true, eqb-false, eq-eqb, ne-eqb}
 use lib.Dec.{eqb}
@@ -153,3 +153,20 @@ module _ (a b : ℕ) (some : b ≡ 0 → ⊥) where
       (rw (over, under)
       (ap (λ (n : ℕ). left .times * n) (sym (right .is)) ∙ mul-left-comm (left .times) (gcd a b) (right .times) ∙ sym (mul-assoc (gcd a b) (left .times) (right .times))
       ∙ ap (λ (n : ℕ). n * right .times) (left .is)))
+
+pub lowest-none : (a : ℕ) → lowest a 0 ≡ record { numerator = 0; denominator = 1 }
+unfolding lowest
+lowest-none a = refl
+
+pub lowest-terms : (a b : ℕ) → InLowestTerms (lowest a b)
+lowest-terms a b = go (eqb b 0) refl
+  where
+    whole : InLowestTerms (record { numerator = 0; denominator = 1 })
+    whole = record { positive = omega arith; common = λ d x y. only-one d (y .times) (y .is) }
+
+    go : (t : Bool) → eqb b 0 ≡ t → InLowestTerms (lowest a b)
+    go true e = subst (λ (n : ℕ). InLowestTerms (lowest a n)) (sym (eqb-true b 0 e)) (subst InLowestTerms (sym (lowest-none a)) whole)
+    go false e = some-lowest a b (eqb-false b 0 e)
+
+pub lowest-equal : (a b : ℕ) → (b ≡ 0 → ⊥) → lowest a b .numerator * b ≡ a * lowest a b .denominator
+lowest-equal = some-equal

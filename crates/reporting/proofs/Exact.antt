@@ -227,7 +227,7 @@ none-fits = record {
 -- ---- a file
 
 -- a message adds no more than its octets to a count, so no count is more than the octets of the file
-total-few : (count : Outcome Found → ℕ) → ((m : List ℕ) → count (judged m) ≤ 2 + length m) → (k : ℕ) (o : List ℕ) → total count (split k o .messages) ≤ length o
+pub total-few : (count : Outcome Found → ℕ) → ((m : List ℕ) → count (judged m) ≤ 2 + length m) → (k : ℕ) (o : List ℕ) → total count (split k o .messages) ≤ length o
 unfolding split none before total
 total-few count few zero o = omega arith
 total-few count few (suc k) o = go (leb (2 + lengthOf o) (length o)) refl (total-few count few k (drop (2 + lengthOf o) o))

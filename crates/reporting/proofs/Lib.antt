@@ -5,3 +5,4 @@ pub mod Exact
 pub mod Divisors
 pub mod Reports
 pub mod Numbers
+pub mod Totals

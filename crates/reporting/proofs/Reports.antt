@@ -1,5 +1,4 @@
 -- The report of a lent file, by what its parts give.
---     left-within     what is left is part of the file
 --     reported        the report
 -- Assumes nothing.
 use Prim.Native.Nat.{ℕ, zero, suc, _+_, _-_, _^_, _<_, _≤_}
@@ -10,7 +9,7 @@ use mathlib.Core.List.{List, [], _∷_, foldl}
 use borrow.Author.Tests.{leb-true, eqb-true, eqb-false, eq-eqb, ne-eqb}
 use lib.Dec.{eqb, leb}
 use lib.ListN.{length, take, drop, length-drop}
-use Rattle.reporting.specs.File.{File, before, none, lengthOf, split, fileOf}
+use Rattle.reporting.specs.File.{fileOf}
 use Rattle.reporting.specs.Tallies.{noTally, tallied, tallyOf}
 use Rattle.reporting.specs.Fraction.{meanOf}
 use Rattle.reporting.specs.Report.{takenFrom, reportOf}
@@ -18,21 +17,8 @@ use Rattle.reporting.specs.declared.Tally.{Tally}
 use Rattle.reporting.specs.declared.Taken.{Taken}
 use Rattle.reporting.specs.declared.Fraction.{Fraction}
 use Rattle.reporting.specs.declared.Report.{Report}
+use Rattle.reporting.proofs.Files.{left-within}
 use Rattle.reporting.proofs.Exact.{exact}
-
-split-left : (k : ℕ) (o : List ℕ) → length (split k o .left) ≤ length o
-unfolding split none before
-split-left zero o = omega arith
-split-left (suc k) o = go (leb (2 + lengthOf o) (length o)) (split-left k (drop (2 + lengthOf o) o))
-  where
-    go : (b : Bool) → length (split k (drop (2 + lengthOf o) o) .left) ≤ length (drop (2 + lengthOf o) o)
-        → length (cond b (before (take (lengthOf o) (drop 2 o)) (split k (drop (2 + lengthOf o) o))) (none o) .left) ≤ length o
-    go true again = omega (arith, again, length-drop (2 + lengthOf o) o)
-    go false again = omega arith
-
-pub left-within : (o : List ℕ) → length (fileOf o .left) ≤ length o
-unfolding fileOf
-left-within o = split-left (length o) o
 
 -- all octets are used exactly if none is left
 all-used : (n l : ℕ) → l ≤ n → eqb (n - l) n ≡ eqb l 0
