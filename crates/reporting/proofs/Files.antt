@@ -3,20 +3,20 @@
 --     Along, along-start, along-next, along-end   the invariant of the loop over a file
 --     file-append              files one after another
 --     file-piece, file-made, file-cut   messages with their lengths before them, and the start of one
---     left-short, left-within, left-drop, file-joins   what is left, and that nothing is lost
+--     left-short, left-within, left-drop, left-few, file-joins   what is left, and that nothing is lost
 -- Assumes nothing.
 use Prim.Native.Nat.{ℕ, zero, suc, _+_, _-_, _≤_, _<_, _^_}
 use native.Mathlib.Omega.{arith}
-use mathlib.Core.Path.{_≡_, refl, sym, ap, _∙_}
+use mathlib.Core.Path.{_≡_, refl, sym, ap, subst, _∙_}
 use mathlib.Core.Bool.{Bool, true, false, cond}
 use mathlib.Core.List.{List, [], _∷_, _++_, foldl, append-assoc}
 use borrow.Author.Tests.{leb-true, leb-false, le-leb, lt-leb}
-use lib.ListN.{length, take, drop, length-drop, length-append, take-append-drop}
+use lib.ListN.{length, take, drop, length-drop, length-append, length-take, take-append-drop}
 use lib.Seq.{length-take-le, take-append-le, drop-append-le, take-append-seam, drop-append-seam, take-take, drop-drop, take-at, drop-at}
-use native.Mathlib.Nat.{sub-self}
+use native.Mathlib.Nat.{sub-self, pow-le-pow-right}
 use lib.Dec.{leb}
 use Rattle.octets.specs.Octets.{Octets, numberAt, value, be}
-use Rattle.octets.proofs.Laws.{octets-drop, length-be, value-be, part-octets}
+use Rattle.octets.proofs.Laws.{octets-take, octets-drop, length-be, value-be, value-lt, part-octets}
 use Rattle.records.specs.Every.{Every}
 use Rattle.format.specs.Record.{each}
 use Rattle.reporting.specs.declared.Tally.{Tally}
@@ -247,6 +247,16 @@ split-drop (suc k) o = go (leb (2 + lengthOf o) (length o)) refl (split-drop k (
 pub left-drop : (o : List ℕ) → drop (length o - length (fileOf o .left)) o ≡ fileOf o .left
 unfolding fileOf
 left-drop o = split-drop (length o) o
+
+-- it is less than a length and a message of the most octets that 16 bits can say
+pub left-few : (o : List ℕ) → Octets o → length (fileOf o .left) ≤ 65536
+unfolding lengthOf numberAt
+left-few o h =
+    let l = fileOf o .left in
+    let octets : Octets l = subst Octets (left-drop o) (octets-drop (length o - length l) o h) in
+    let long : length (take 2 l) ≤ 2 = omega (arith, length-take 2 l) in
+    let power : 256 ^ length (take 2 l) ≤ 256 ^ 2 = pow-le-pow-right {n = 256} (omega arith) long in
+    omega (arith, left-short o, value-lt (take 2 l) (octets-take 2 l octets), power)
 
 -- the messages, with their lengths, and what is left are the file
 split-joins : (k : ℕ) (o : List ℕ) → Octets o → each pieceOf (split k o .messages) ++ split k o .left ≡ o

@@ -44,7 +44,7 @@ use Rattle.reporting.specs.declared.Fraction.{Fraction}
 use Rattle.reporting.specs.declared.Report.{Report}
 use Rattle.reporting.proofs.Judged.{FewIn, records-few, judged-kind, judged-none}
 use Rattle.reporting.proofs.Numbers.{Ruled, ruled}
-use Rattle.reporting.proofs.Files.{follow, file-append, file-made, file-cut, file-joins, none-there, left-short, left-drop}
+use Rattle.reporting.proofs.Files.{follow, file-append, file-made, file-cut, file-joins, none-there, left-short, left-few, left-drop}
 use Rattle.reporting.proofs.Exact.{counts-at, counts-long, counts-same, total-few, exact}
 use Rattle.reporting.proofs.Divisors.{lowest-terms, lowest-equal, lowest-none}
 
@@ -387,6 +387,7 @@ e4 = record {
   all = λ c r. ap (λ (t : Tally). acceptedIn (t .accepted) + refusedIn (t .refused)) (tally-of c r) ∙ all-counted (fileOf (c .file) .messages);
   joins = file-joins;
   leaves = left-short;
+  few = left-few;
   mean = λ c r. subst Mean (sym (r .answers)) (mean-is (c .file) (r .short));
   cut = cut-is;
   sums = sums-are;

@@ -131,6 +131,7 @@ pub record E4 : Type 0 where
   -- these, with their lengths, and what is left are the file; no message stands whole in what is left
   pub joins : (o : List ℕ) → Octets o → each pieceOf (fileOf o .messages) ++ fileOf o .left ≡ o
   pub leaves : (o : List ℕ) → length (fileOf o .left) < 2 + lengthOf (fileOf o .left)
+  pub few : (o : List ℕ) → Octets o → length (fileOf o .left) ≤ 65536
   -- "as a fraction in lowest terms"
   pub mean : (c : ReportCall) → Reports c → Mean (c .answer)
   -- "A file cut in a length or message ends the report with the whole messages before it": a whole file, and the start of one message more
