@@ -3,8 +3,8 @@
  * when this file is compiled.
  *
  * In order: layout; constants; the most entries of a message; messages read; the field at fault; messages written;
- * neighbours and election; counters; Pop-Count attributes; the stored sheet; the checksum; lent memory (NULL, the same
- * memory twice, any alignment).
+ * neighbours and election; counters; the report of a file; Pop-Count attributes; the stored sheet; the checksum; lent
+ * memory (NULL, the same memory twice, any alignment).
  *
  * Build and run it from the top of the repository, as C99 or as C++ (.ci/face does both):
  *
@@ -28,7 +28,7 @@
 #define FIELD(type, field, at, size) HOLDS(offsetof(type, field) == (at) && sizeof(((type *)0)->field) == (size))
 
 /* Whoever changes a size, an offset, a constant or a place that is asserted here raises the version. */
-HOLDS(PIM_VERSION == 5);
+HOLDS(PIM_VERSION == 6);
 
 HOLDS(sizeof(size_t) == 8);
 HOLDS(sizeof(bool) == 1);
@@ -120,6 +120,23 @@ HOLDS(sizeof(pim_counters) == 192);
 FIELD(pim_counters, sent, 0, 96);
 FIELD(pim_counters, received, 96, 96);
 
+HOLDS(sizeof(pim_tally) == 216);
+FIELD(pim_tally, accepted, 0, 96);
+FIELD(pim_tally, refused, 96, 120);
+
+HOLDS(sizeof(pim_tally_answer) == 224);
+FIELD(pim_tally_answer, tally, 0, 216);
+FIELD(pim_tally_answer, used, 216, 8);
+
+HOLDS(sizeof(pim_fraction) == 16);
+FIELD(pim_fraction, numerator, 0, 8);
+FIELD(pim_fraction, denominator, 8, 8);
+
+HOLDS(sizeof(pim_report_answer) == 240);
+FIELD(pim_report_answer, tally, 0, 216);
+FIELD(pim_report_answer, mean, 216, 16);
+FIELD(pim_report_answer, whole, 232, 1);
+
 HOLDS(sizeof(pim_popcount_values) == 16);
 FIELD(pim_popcount_values, transit, 0, 4);
 FIELD(pim_popcount_values, stub, 4, 4);
@@ -178,6 +195,8 @@ HOLDS(PIM_R_BIT == 0xffffffffu - 0x7fffffffu);
 HOLDS(PIM_USUAL_HOLDTIME == 105);
 HOLDS(PIM_LONGEST_HELLO == 4 + (2 + 2 + 2) + (2 + 2 + 4) + (2 + 2));
 HOLDS(PIM_ROWS == 16);
+HOLDS(PIM_NUMBERS == PIM_BAD_SHEET + 1);
+HOLDS(PIM_LONGEST_LEFT == 2 + 0xffff - 1);
 HOLDS(PIM_POPCOUNT_SHORTEST == 2 + 6);
 HOLDS(PIM_POPCOUNT_LONGEST == 2 + 255);
 HOLDS(PIM_POPCOUNT_MERGED == 2 + 6 + 4 + 4 + 2 + 2 + 1 + 1);
@@ -1178,6 +1197,139 @@ static void counters(void)
         }
 }
 
+/* ---- the report of a file */
+
+/* A Hello of holdtime 30; example 1; example 2, which is it with another last octet; a length 0; two pairs; a Hello
+ * whose holdtime has one octet. Each is a whole message. */
+static const uint8_t class_file[] = {
+    0,    10,   0x20, 0x00, 0xdf, 0xde, 0x00, 0x01, 0x00, 0x02, 0x00, 0x1e, 0,    30,   0x25, 0x01, 0xe5, 0x58, 0x00,
+    0x00, 0x00, 0x00, 0x01, 0x00, 0x00, 0x20, 0xe8, 0x01, 0x01, 0x01, 0x01, 0x00, 0x0a, 0x00, 0x00, 0x01, 0x00, 0x00,
+    0x00, 0x6e, 0x00, 0x00, 0x00, 0x14, 0,    30,   0x25, 0x01, 0xe5, 0x58, 0x00, 0x00, 0x00, 0x00, 0x01, 0x00, 0x00,
+    0x20, 0xe8, 0x01, 0x01, 0x01, 0x01, 0x00, 0x0a, 0x00, 0x00, 0x01, 0x00, 0x00, 0x00, 0x6e, 0x00, 0x00, 0x00, 0x15,
+    0,    0,    0,    32,   0x2d, 0x00, 0x3e, 0x61, 0x01, 0x00, 0x00, 0x20, 0xe6, 0x21, 0x22, 0x23, 0x01, 0x00, 0x0a,
+    0x24, 0x25, 0x26, 0x01, 0x00, 0x00, 0x20, 0xe7, 0x31, 0x32, 0x33, 0x01, 0x00, 0x0a, 0x34, 0x35, 0x36, 0,    8,
+    0x20, 0x00, 0xdf, 0xfd, 0x00, 0x01, 0x00, 0x01};
+
+/* A tally is 27 numbers of 64 bits, one after another: two for each kind, then one for each number from 0 on. Of each
+ * message of the file: where it ends, and what it adds to which of the 27. */
+typedef struct {
+    size_t end;
+    size_t count, records; /* the number that is one more, and the records that the next one is more */
+} a_message;
+
+enum { NUMBER_0 = 12 };
+
+static const a_message in_class[6] = {
+    {12, 2 * PIM_HELLO, 0},          {44, 2 * PIM_SIMPLE, 1},
+    {76, NUMBER_0 + PIM_BAD_CHECKSUM, 0}, {78, NUMBER_0 + PIM_BAD_LENGTH, 0},
+    {112, 2 * PIM_NULL_REGISTER, 2}, {122, NUMBER_0 + PIM_BAD_OPTION, 0}};
+
+/* The tally of the messages that end within the first n octets. */
+static bool tallied(const pim_tally *tally, size_t n)
+{
+    uint64_t all[27], expected[27] = {0};
+    size_t i;
+
+    for (i = 0; i < 6 && in_class[i].end <= n; i++) {
+        expected[in_class[i].count]++;
+        if (in_class[i].count < NUMBER_0)
+            expected[in_class[i].count + 1] += in_class[i].records;
+    }
+    memcpy(all, tally, sizeof all);
+    return memcmp(all, expected, sizeof all) == 0;
+}
+
+static bool is_fraction(pim_fraction f, uint64_t numerator, uint64_t denominator)
+{
+    return f.numerator == numerator && f.denominator == denominator;
+}
+
+/* The file cut after every octet: records are 1 in one packed message once example 1 is there, 3 in two with the pairs. */
+static void reports(void)
+{
+    size_t n;
+
+    for (n = 0; n <= sizeof class_file; n++) {
+        pim_report_answer r = CALLED(pim_report(class_file, n));
+        bool whole = n == 0;
+        size_t i;
+
+        for (i = 0; i < 6; i++)
+            whole = whole || in_class[i].end == n;
+        EXPECT(tallied(&r.tally, n));
+        EXPECT(r.whole == whole);
+        EXPECT(n < 44 ? is_fraction(r.mean, 0, 1) : n < 112 ? is_fraction(r.mean, 1, 1) : is_fraction(r.mean, 3, 2));
+    }
+}
+
+/* The same message by message, and in pieces of every size, what is left of one standing before the next. */
+static void pieces(void)
+{
+    pim_tally t = CALLED(pim_tally_none());
+    size_t i, size;
+
+    EXPECT(tallied(&t, 0));
+    for (i = 0; i < 6; i++) {
+        size_t from = i == 0 ? 0 : in_class[i - 1].end;
+
+        t = CALLED(pim_tally_message(t, class_file + from + 2, in_class[i].end - from - 2));
+        EXPECT(tallied(&t, in_class[i].end));
+    }
+    for (size = 1; size <= sizeof class_file; size++) {
+        uint8_t piece[sizeof class_file];
+        size_t left = 0, read;
+        pim_tally_answer a;
+
+        a.tally = CALLED(pim_tally_none());
+        for (read = 0; read < sizeof class_file;) {
+            size_t more = sizeof class_file - read < size ? sizeof class_file - read : size;
+
+            memcpy(piece + left, class_file + read, more);
+            read += more;
+            a = CALLED(pim_tally_octets(a.tally, piece, left + more));
+            EXPECT(tallied(&a.tally, read));
+            left += more - a.used;
+            memmove(piece, piece + a.used, left);
+        }
+        EXPECT(left == 0);
+        EXPECT(is_fraction(CALLED(pim_tally_mean(a.tally)), 3, 2));
+    }
+}
+
+/* Numbers stay at the maximum, 2^64 - 1, which 5 divides. */
+static void tallies_full(void)
+{
+    uint64_t all[27], after[27];
+    pim_tally t;
+    size_t i;
+
+    memset(all, 0xff, sizeof all);
+    memcpy(&t, all, sizeof t);
+    for (i = 0; i < 6; i++) {
+        size_t from = i == 0 ? 0 : in_class[i - 1].end;
+
+        t = CALLED(pim_tally_message(t, class_file + from + 2, in_class[i].end - from - 2));
+    }
+    memcpy(after, &t, sizeof after);
+    EXPECT(memcmp(after, all, sizeof all) == 0);
+    EXPECT(is_fraction(CALLED(pim_tally_mean(t)), 1, 1));
+    t = CALLED(pim_tally_none());
+    t.accepted.hello.messages = 7; /* neither hello nor assert counts in the mean */
+    t.accepted.assert_.messages = t.accepted.assert_.records = 5;
+    EXPECT(is_fraction(CALLED(pim_tally_mean(t)), 0, 1));
+    t.accepted.simple.messages = 1;
+    t.accepted.simple.records = 2;
+    EXPECT(is_fraction(CALLED(pim_tally_mean(t)), 2, 1));
+    t.accepted.aggregated.messages = 2;
+    t.accepted.aggregated.records = 60;
+    t.accepted.register_stop.messages = 1;
+    t.accepted.register_stop.records = 4;
+    EXPECT(is_fraction(CALLED(pim_tally_mean(t)), 33, 2));
+    t.accepted.null_register.messages = 1;
+    t.accepted.null_register.records = UINT64_MAX;
+    EXPECT(is_fraction(CALLED(pim_tally_mean(t)), UINT64_MAX / 5, 1));
+}
+
 /* ---- Pop-Count attributes */
 
 /* All eight options: MTU 1500, flags S and P, transit 10, stub 5, 100 x 10^2 and 100 x 10^4 kbit/s, domain 1, node 3,
@@ -1431,6 +1583,9 @@ static void nothing_to_read(void)
         EXPECT(packed(CALLED(pack[i](NULL, 0, 0, 60, b, sizeof b)), 0, 0));
     EXPECT(accepted(CALLED(pim_pack_both(NULL, 0, 0, 60, b, sizeof b, c, sizeof c)).refusal));
     EXPECT(refused(CALLED(pim_elect_among(NULL, 0)).refusal, PIM_ABSENT, 0));
+    EXPECT(CALLED(pim_tally_message(CALLED(pim_tally_none()), NULL, 0)).refused[PIM_BAD_LENGTH] == 1);
+    EXPECT(CALLED(pim_tally_octets(CALLED(pim_tally_none()), NULL, 0)).used == 0);
+    EXPECT(CALLED(pim_report(NULL, 0)).whole);
     EXPECT(refused(CALLED(pim_popcount_read(NULL, 0, 0)).refusal, PIM_CUT, 0));
     EXPECT(refused(CALLED(pim_check_sheet(NULL, 0)).refusal, PIM_BAD_SHEET, 0));
     EXPECT(refused(CALLED(pim_read_sheet(NULL, 0, b, sizeof b, c, sizeof c)).refusal, PIM_BAD_SHEET, 0));
@@ -1523,6 +1678,9 @@ int main(void)
     elections();
     elections_among();
     counters();
+    reports();
+    pieces();
+    tallies_full();
     attributes_read();
     each_option();
     speeds();
