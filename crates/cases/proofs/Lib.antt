@@ -5,3 +5,4 @@ pub mod Cuts
 pub mod Given
 pub mod Calls
 pub mod Hellos
+pub mod Reports

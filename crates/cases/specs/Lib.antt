@@ -5,3 +5,4 @@ pub mod Faults
 pub mod Cuts
 pub mod Calls
 pub mod Hellos
+pub mod Reports
