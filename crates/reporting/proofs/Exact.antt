@@ -1,5 +1,5 @@
 -- One message at a time comes to the totals of all messages.
---     of, of-more                        the totals of one kind
+--     of-by, by-of                       the totals of one kind, and of each
 --     counts-at, counts-long, counts-same  a count for each number
 --     Fits                               counts that 64 bits hold
 --     fold-plus                          messages one after another: each number stays at the 64-bit maximum
@@ -25,19 +25,11 @@ use Rattle.counters.specs.declared.Totals.{Totals}
 use Rattle.counters.specs.declared.ByKind.{ByKind}
 use Rattle.reporting.specs.Judging.{judged}
 use Rattle.reporting.specs.File.{File, before, none, lengthOf, split, fileOf}
-use Rattle.reporting.specs.Tallies.{messagesBy, recordsBy, refusalsBy, total, totalsOf, byKind, countsFrom, numbers, tallyOf, noTally, onceMore, more, tallied}
+use Rattle.reporting.specs.Tallies.{messagesBy, recordsBy, refusalsBy, total, totalsOf, byKind, of, countsFrom, numbers, tallyOf, noTally, onceMore, more, tallied}
 use Rattle.reporting.specs.declared.Tally.{Tally}
 use Rattle.reporting.proofs.Judged.{FewIn, records-few}
 
 -- ---- one kind
-
-abbrev pub of : Kind → ByKind → Totals
-of Hello b = b .hello
-of Assert b = b .assert
-of Simple b = b .simple
-of Aggregated b = b .aggregated
-of NullRegister b = b .«null_register»
-of RegisterStop b = b .«register_stop»
 
 of-more : (k : Kind) (x n : ℕ) (b : ByKind) → of k (moreAt x n b) ≡ moreIf (eqb x (kindNumber k)) n (of k b)
 unfolding moreAt
@@ -55,6 +47,19 @@ of-none Simple = (refl, refl)
 of-none Aggregated = (refl, refl)
 of-none NullRegister = (refl, refl)
 of-none RegisterStop = (refl, refl)
+
+pub of-by : (k : Kind) (f : Kind → Totals) → of k (byKind f) ≡ f k
+unfolding byKind
+of-by Hello f = refl
+of-by Assert f = refl
+of-by Simple f = refl
+of-by Aggregated f = refl
+of-by NullRegister f = refl
+of-by RegisterStop f = refl
+
+by-of : (t : ByKind) → t ≡ byKind (λ k. of k t)
+unfolding byKind
+by-of t = refl
 
 -- ---- one number
 
@@ -171,18 +176,8 @@ plus t ms = record {
 }
 
 plus-none : (t : Tally) → Fits t → t ≡ plus t []
-unfolding byKind total
-plus-none t f = λ i. record {
-  accepted = record {
-    hello = kind Hello i;
-    assert = kind Assert i;
-    simple = kind Simple i;
-    aggregated = kind Aggregated i;
-    «null_register» = kind NullRegister i;
-    «register_stop» = kind RegisterStop i;
-  };
-  refused = rows i;
-}
+unfolding total
+plus-none t f = λ i. record { accepted = (by-of (t .accepted) ∙ (λ j. byKind (λ k. kind k j))) i; refused = rows i }
   where
     kind : (k : Kind) → of k (t .accepted) ≡ record { messages = sum (of k (t .accepted) .messages) 0; records = sum (of k (t .accepted) .records) 0 }
     kind k = λ i. record { messages = sym (sum-zero _ (f .messages k)) i; records = sym (sum-zero _ (f .records k)) i }

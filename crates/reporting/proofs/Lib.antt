@@ -5,4 +5,4 @@ pub mod Exact
 pub mod Divisors
 pub mod Reports
 pub mod Numbers
-pub mod Totals
+pub mod Claims

@@ -24,7 +24,7 @@ use Rattle.checksum.specs.Sum.{holds}
 use Rattle.hello.specs.Options.{Said, nothing, optionValue, option, options}
 use Rattle.hello.specs.Hello.{Hello as HelloSaid, helloOptions, helloBody, readHello}
 use Rattle.reporting.specs.Judging.{entriesIn, judgedAs, judged}
-use Rattle.reporting.specs.Totals.{ofMessage}
+use Rattle.reporting.specs.Claims.{ofMessage}
 
 -- ---- readers
 

@@ -5,7 +5,7 @@
 --     lowest                   a fraction in lowest terms
 --     together, packedTotals   messages and records of two kinds, and of the four packed ones
 --     meanOf                   the mean
--- That `lowest` is in lowest terms and equals the quotient is said in Totals.antt. Assumes nothing: these are definitions.
+-- That `lowest` is in lowest terms and equals the quotient is said in Claims.antt. Assumes nothing: these are definitions.
 use Prim.Native.Nat.{ℕ, zero, suc, _*_, _/_, _%_, _<_}
 use mathlib.Core.Path.{_≡_}
 use mathlib.Core.Bool.{cond}

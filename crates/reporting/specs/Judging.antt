@@ -2,7 +2,7 @@
 --     entriesIn     the kind and the number of entries that a message unpacks to
 --     judgedAs      by its kind, that of the header: what the reading call of that kind accepts, or its refusal
 --     judged        by the message alone
--- That this is what the reading calls answer is said in Totals.antt. Assumes nothing: these are definitions.
+-- That this is what the reading calls answer is said in Claims.antt. Assumes nothing: these are definitions.
 use Prim.Native.Nat.{ℕ}
 use mathlib.Core.List.{List}
 use lib.ListN.{length}

@@ -4,4 +4,4 @@ pub mod File
 pub mod Tallies
 pub mod Fraction
 pub mod Report
-pub mod Totals
+pub mod Claims

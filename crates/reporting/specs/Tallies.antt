@@ -1,6 +1,7 @@
 -- The totals of messages (02, E4): "the count of accepted messages by kind, of their records by kind, of refusals by number".
 --     messagesBy, recordsBy, refusalsBy     what one message adds to a count
 --     total                                 a count over messages
+--     byKind, of                            totals of each kind, and of one
 --     tallyOf                               all counts of some messages
 --     noTally, tallied                      counts to begin with, and one message more: each number stays at the 64-bit maximum
 -- Assumes nothing: these are definitions.
@@ -52,6 +53,15 @@ byKind f = record {
   «null_register» = f NullRegister;
   «register_stop» = f RegisterStop;
 }
+
+-- those of one kind
+abbrev pub of : Kind → ByKind → Totals
+of Hello t = t .hello
+of Assert t = t .assert
+of Simple t = t .simple
+of Aggregated t = t .aggregated
+of NullRegister t = t .«null_register»
+of RegisterStop t = t .«register_stop»
 
 -- a count for each of k numbers from n on
 unfoldable pub countsFrom : (ℕ → ℕ) → ℕ → ℕ → List ℕ

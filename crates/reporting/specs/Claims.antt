@@ -7,7 +7,7 @@
 --     ReportCall, Reports           a call of `report_of` as its caller sees it, and that it keeps its contract
 --     Messages, Pieces              calls of `with_message` one after another; calls of `with_octets`, what is left of one before the next
 --     Mean, E4                      the claims
--- The theorem is in proofs/Totals.antt. Assumes nothing: these are definitions.
+-- The theorem is in proofs/Claims.antt. Assumes nothing: these are definitions.
 use Prim.Native.Nat.{ℕ, _+_, _*_, _^_, _<_, _≤_}
 use mathlib.Core.Path.{_≡_}
 use mathlib.Core.Bool.{Bool, true, false, _&&_, _||_}
@@ -29,7 +29,7 @@ use Rattle.counters.specs.declared.ByKind.{ByKind}
 use Rattle.reporting.specs.Judging.{judged}
 use Rattle.reporting.specs.Answers.{heardOf}
 use Rattle.reporting.specs.File.{File, lengthOf, fileOf, pieceOf}
-use Rattle.reporting.specs.Tallies.{countsFrom, numbers, noTally, tallied}
+use Rattle.reporting.specs.Tallies.{byKind, of, countsFrom, numbers, noTally, tallied}
 use Rattle.reporting.specs.Fraction.{InLowestTerms, meanOf}
 use Rattle.reporting.specs.Report.{takenFrom, reportOf}
 use Rattle.reporting.specs.declared.Tally.{Tally}
@@ -78,14 +78,7 @@ bothTotals a b = record { messages = a .messages + b .messages; records = a .rec
 
 unfoldable pub bothTallies : Tally → Tally → Tally
 bothTallies t u = record {
-  accepted = record {
-    hello = bothTotals (t .accepted .hello) (u .accepted .hello);
-    assert = bothTotals (t .accepted .assert) (u .accepted .assert);
-    simple = bothTotals (t .accepted .simple) (u .accepted .simple);
-    aggregated = bothTotals (t .accepted .aggregated) (u .accepted .aggregated);
-    «null_register» = bothTotals (t .accepted .«null_register») (u .accepted .«null_register»);
-    «register_stop» = bothTotals (t .accepted .«register_stop») (u .accepted .«register_stop»);
-  };
+  accepted = byKind (λ k. bothTotals (of k (t .accepted)) (of k (u .accepted)));
   refused = countsFrom (λ n. getD (t .refused) n 0 + getD (u .refused) n 0) numbers 0;
 }
 

@@ -34,10 +34,10 @@ use Rattle.counters.specs.declared.ByKind.{ByKind}
 use Rattle.reporting.specs.Judging.{entriesIn, judgedAs, judged}
 use Rattle.reporting.specs.Answers.{heardOf}
 use Rattle.reporting.specs.File.{File, lengthOf, none, fileOf, pieceOf}
-use Rattle.reporting.specs.Tallies.{messagesBy, recordsBy, refusalsBy, total, totalsOf, byKind, countsFrom, numbers, tallyOf, noTally, tallied}
+use Rattle.reporting.specs.Tallies.{messagesBy, recordsBy, refusalsBy, total, totalsOf, byKind, of, countsFrom, numbers, tallyOf, noTally, tallied}
 use Rattle.reporting.specs.Fraction.{InLowestTerms, lowest, together, packedTotals, meanOf}
 use Rattle.reporting.specs.Report.{takenFrom, reportOf}
-use Rattle.reporting.specs.Totals.{ofMessage, Enough, ByItsCall, acceptedIn, refusedIn, packedMessages, packedRecords, bothTotals, bothTallies, ReportCall, Reports, Messages, Pieces, Mean, E4}
+use Rattle.reporting.specs.Claims.{ofMessage, Enough, ByItsCall, acceptedIn, refusedIn, packedMessages, packedRecords, bothTotals, bothTallies, ReportCall, Reports, Messages, Pieces, Mean, E4}
 use Rattle.reporting.specs.declared.Tally.{Tally}
 use Rattle.reporting.specs.declared.Taken.{Taken}
 use Rattle.reporting.specs.declared.Fraction.{Fraction}
@@ -45,7 +45,7 @@ use Rattle.reporting.specs.declared.Report.{Report}
 use Rattle.reporting.proofs.Judged.{FewIn, records-few, judged-kind, judged-none}
 use Rattle.reporting.proofs.Numbers.{Ruled, ruled}
 use Rattle.reporting.proofs.Files.{follow, file-append, file-made, file-cut, file-joins, none-there, left-short, left-few, left-drop}
-use Rattle.reporting.proofs.Exact.{counts-at, counts-long, counts-same, total-few, exact}
+use Rattle.reporting.proofs.Exact.{of-by, counts-at, counts-long, counts-same, total-few, exact}
 use Rattle.reporting.proofs.Divisors.{lowest-terms, lowest-equal, lowest-none}
 
 -- ---- what a reading call answers
@@ -250,22 +250,16 @@ unfolding total
 total-append count [] b = sym (zero-add _)
 total-append count (m ∷ a) b = let e = total-append count a b in omega (arith, e)
 
+both-totals : (k : Kind) (a b : List (List ℕ)) → totalsOf (a ++ b) k ≡ bothTotals (totalsOf a k) (totalsOf b k)
+unfolding totalsOf bothTotals
+both-totals k a b = λ i. record { messages = total-append (messagesBy k) a b i; records = total-append (recordsBy k) a b i }
+
 tally-append : (a b : List (List ℕ)) → tallyOf (a ++ b) ≡ bothTallies (tallyOf a) (tallyOf b)
-unfolding tallyOf bothTallies totalsOf bothTotals byKind
-tally-append a b = λ i. record {
-  accepted = record {
-    hello = kind Hello i;
-    assert = kind Assert i;
-    simple = kind Simple i;
-    aggregated = kind Aggregated i;
-    «null_register» = kind NullRegister i;
-    «register_stop» = kind RegisterStop i;
-  };
-  refused = rows i;
-}
+unfolding tallyOf bothTallies
+tally-append a b = λ i. record { accepted = byKind (λ k. kind k i); refused = rows i }
   where
-    kind : (k : Kind) → totalsOf (a ++ b) k ≡ bothTotals (totalsOf a k) (totalsOf b k)
-    kind k = λ i. record { messages = total-append (messagesBy k) a b i; records = total-append (recordsBy k) a b i }
+    kind : (k : Kind) → totalsOf (a ++ b) k ≡ bothTotals (of k (byKind (totalsOf a))) (of k (byKind (totalsOf b)))
+    kind k = both-totals k a b ∙ ap (λ (t : Totals). bothTotals t (totalsOf b k)) (sym (of-by k (totalsOf a))) ∙ ap (bothTotals (of k (byKind (totalsOf a)))) (sym (of-by k (totalsOf b)))
 
     one-at : (ms : List (List ℕ)) (n : ℕ) → n < numbers → getD (countsFrom (λ n. total (refusalsBy n) ms) numbers 0) n 0 ≡ total (refusalsBy n) ms
     one-at ms n h = counts-at (λ n. total (refusalsBy n) ms) numbers 0 n h ∙ ap (λ (x : ℕ). total (refusalsBy x) ms) (zero-add n)
