@@ -1,5 +1,5 @@
 /* One small lab on the bench: Hellos written and heard, a router elected, asserts packed and read back, counted,
- * Pop-Count attributes merged, the sheet kept, and one damaged message refused.
+ * Pop-Count attributes merged, the sheet kept, one damaged message refused, and the image's own report.
  *
  * Build and run it from the top of the repository:
  *
@@ -430,6 +430,26 @@ static void show_refusal(const message_train *train)
     printf("damaged message: refused %u at %zu\n", (unsigned)read.refusal.number, read.refusal.place);
 }
 
+/* ---- the image's own report */
+
+/* Every message of the train, and three octets of its first one, which are too few for a message. */
+static void report(const message_train *train)
+{
+    pim_tally tally = pim_tally_none();
+    pim_totals totals;
+    pim_fraction mean;
+    size_t i;
+
+    for (i = 0; i < train->count; i++)
+        tally = pim_tally_message(tally, train->octets[i], train->lengths[i]);
+    tally = pim_tally_message(tally, train->octets[0], 3);
+    totals = tally.accepted.aggregated;
+    mean = pim_tally_mean(tally);
+    printf("report: aggregated %" PRIu64 " messages, %" PRIu64 " records; mean %" PRIu64 "/%" PRIu64
+           "; refused by 1: %" PRIu64 "\n",
+           totals.messages, totals.records, mean.numerator, mean.denominator, tally.refused[PIM_BAD_LENGTH]);
+}
+
 int main(void)
 {
     uint8_t asserts[PIM_ASSERT_ENTRY * ASSERTS];
@@ -445,6 +465,7 @@ int main(void)
     merge();
     keep(asserts, sizeof asserts, &table);
     show_refusal(&train);
+    report(&train);
 
     if (fflush(stdout) != 0 || ferror(stdout))
         fail("the output cannot be written");

@@ -1219,10 +1219,12 @@ typedef struct {
 
 enum { NUMBER_0 = 12 };
 
-static const a_message in_class[6] = {
-    {12, 2 * PIM_HELLO, 0},          {44, 2 * PIM_SIMPLE, 1},
-    {76, NUMBER_0 + PIM_BAD_CHECKSUM, 0}, {78, NUMBER_0 + PIM_BAD_LENGTH, 0},
-    {112, 2 * PIM_NULL_REGISTER, 2}, {122, NUMBER_0 + PIM_BAD_OPTION, 0}};
+static const a_message in_class[6] = {{12, 2 * PIM_HELLO, 0},
+                                      {44, 2 * PIM_SIMPLE, 1},
+                                      {76, NUMBER_0 + PIM_BAD_CHECKSUM, 0},
+                                      {78, NUMBER_0 + PIM_BAD_LENGTH, 0},
+                                      {112, 2 * PIM_NULL_REGISTER, 2},
+                                      {122, NUMBER_0 + PIM_BAD_OPTION, 0}};
 
 /* The tally of the messages that end within the first n octets. */
 static bool tallied(const pim_tally *tally, size_t n)
