@@ -1,7 +1,7 @@
 -- A Hello message, read and written (01, "Octets of a message" and "Neighbours and election"; 02, E1): the table of kinds has octet 0
 -- "0x20", octet 1 "ignored", body "options".
 --     Hello, helloOf             what a Hello says: "Holdtime is type 1, length 2 (absent: 105 s); DR priority type 19"
---     helloOptions               the options from octet 4 to the end
+--     helloOptions, optionsFine  the options from octet 4 to the end; only whether they are refused
 --     readHello                  the call: 1, 2, 3, 4 of the header, then the options in octet order
 --     saidIn, helloMessage       the message of a Hello: each option that it has
 --     writeHello                 the call: 8, or the message at the front of the buffer
@@ -36,6 +36,12 @@ unfoldable pub helloOptions : List ℕ → Outcome Hello
 helloOptions o = do
   s ← from 4 (options (length o) nothing) o
   gives (helloOf s)
+
+-- what they say left out
+unfoldable pub optionsFine : List ℕ → Outcome (Unit {0})
+optionsFine o = do
+  helloOptions o
+  gives tt
 
 -- "kind not one that the call reads": 4
 unfoldable pub helloBody : Kind → List ℕ → Outcome Hello

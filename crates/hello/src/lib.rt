@@ -1,32 +1,31 @@
-// Reading Hellos: holdtime, DR priority and the packing capability out of a Hello's options. First one
-// option, field by field; then the options up to the end; then the whole message, which is the public
-// call. It is total; what it answers is a definition of specs/. The known options are in table.rt, and
-// Hellos are written in write.rt.
+// Reading Hellos: holdtime, DR priority and the packing capability out of a Hello's options. First the options
+// up to the end, by the places of their values; then what these say; then the whole message, which is the public
+// call. It is total; what it answers is a definition of specs/. The known options, and reading one, are in
+// table.rt; Hellos are written in write.rt.
 mod table;
 mod write;
 
 use format::Kind;
 use format::Refusal;
 use headers::Headed;
-use octets::Field;
-use table::Heard;
-use table::is_against;
-use table::option_named;
-use table::said_with;
+use table::Step;
+use table::ValuePlaces;
+use table::option;
 pub use write::write_hello;
 ghost use mathlib.Core.Path.{_≡_};
 ghost use mathlib.Core.Bool.{cond};
+ghost use lib.Dec.{eqb};
 ghost use lib.ListN.{length};
-ghost use Rattle.octets.specs.Field.{fieldOf, placeOf};
-ghost use Rattle.format.specs.Reader.{bad, from};
-ghost use Rattle.hello.specs.Options.{nothing, option, options};
-ghost use Rattle.hello.specs.Hello.{holdtimeOf, helloOf, helloOptions, readHello};
-ghost use Rattle.hello.specs.Answers.{ifGiven, saidBy, stepped, heard, helloBy, zeroPriority, told, unannounced};
+ghost use Rattle.octets.specs.Octets.{numberAt};
+ghost use Rattle.format.specs.Reader.{from};
+ghost use Rattle.hello.specs.Options.{nothing, options};
+ghost use Rattle.hello.specs.Hello.{holdtimeOf, helloOf, helloOptions, optionsFine, readHello};
+ghost use Rattle.hello.specs.Answers.{ifPlaced, saidAt, heard, helloBy, zeroPriority, told, unannounced, checked};
 
-// What reading options finds.
+// What reading options finds. A refusal stands as its two fields, as in Step.
 enum OptionsRead {
-    All(Heard),
-    Refused(Refusal),
+    All(ValuePlaces),
+    Bad { number: u8, place: usize },
 }
 
 // What a Hello says: the priority is 0 where none is announced.
@@ -44,125 +43,88 @@ pub enum HelloRead {
     Refused(Refusal),
 }
 
-// What reading one option finds.
-enum Step {
-    // What is said now, and the place past the option.
-    Next(Heard, usize),
-    Bad(Refusal),
-}
-
-// A refusal, by 01's number and the place.
-fn bad(number: u8, place: usize) -> Step
-    ensures { λ r. ⌜ r ≡ Step.Bad (record { number = number; place = place }) ⌝ }
-{
-    Step::Bad(Refusal { number, place })
-}
-
-// A field that is cut: 6, at the place that its reader found.
-fn cut(f: Field) -> Step
-    ensures { λ r. ⌜ stepped r ≡ bad 6 (placeOf (fieldOf f)) ⌝ }
-{
-    bad(6, octets::place(f))
-}
-
-// An option: 6 is at the field that is cut, and 13, before the value is looked at, at the option's first octet.
-fn option(m: &[u8], at: usize, h: Heard) -> Step
-    ensures { λ r. ⌜ stepped r ≡ option (saidBy h) (now (m .entry)) at ⌝ }
-{
-    let t = octets::read16(m, at);
-    let Field::Got {
-        value: kind,
-        next: length_at,
-    } = t
-    else {
-        return cut(t);
-    };
-    let l = octets::read16(m, length_at);
-    let Field::Got {
-        value: len,
-        next: value_at,
-    } = l
-    else {
-        return cut(l);
-    };
-    let k = option_named(kind);
-    if is_against(m, at, k, len, h) {
-        return bad(13, at);
-    }
-    let v = octets::skip(m, value_at, len as usize);
-    let Field::Got { value: _, next } = v else {
-        return cut(v);
-    };
-    Step::Next(said_with(m, value_at, k, h), next)
+// What checking a Hello's options finds.
+pub enum OptionsChecked {
+    Fine,
+    Refused(Refusal),
 }
 
 // The options from a place to the end of the octets.
 fn options(m: &[u8], start: usize) -> OptionsRead
-    ensures { λ r. ⌜ heard r ≡ from start (options (length (now (m .entry))) nothing) (now (m .entry)) ⌝ }
+    ensures { λ r. ⌜ heard (now (m .entry)) r ≡ from start (options (length (now (m .entry))) nothing) (now (m .entry)) ⌝ }
 {
-    let mut h = Heard {
-        has_holdtime: false,
+    let mut p = ValuePlaces {
         holdtime: 0,
-        has_priority: false,
         priority: 0,
-        packing: false,
+        packing: 0,
     };
     let mut at = start;
     while at < m.len() {
-        let s = option(m, at, h);
+        let s = option(m, at, p);
         match s {
-            Step::Next(said, next) => {
-                h = said;
+            Step::Next(places, next) => {
+                p = places;
                 at = next;
             }
-            Step::Bad(r) => return OptionsRead::Refused(r),
+            Step::Bad { number, place } => return OptionsRead::Bad { number, place },
         }
     }
-    OptionsRead::All(h)
+    OptionsRead::All(p)
 }
 
-// The holdtime, 105 s where it is absent.
-fn holdtime_of(given: bool, n: u16) -> u16
-    ensures { λ r. ⌜ r ≡ holdtimeOf (ifGiven given n) ⌝ }
+// The holdtime with its value at a place, 105 s where it is absent.
+fn holdtime_of(m: &[u8], at: usize) -> u16
+    ensures { λ r. ⌜ r ≡ holdtimeOf (ifPlaced at (numberAt 2 (now (m .entry)) at)) ⌝ }
 {
-    if given {
-        return n;
+    if at == 0 {
+        return 105;
     }
-    105
+    octets::number16(m, at) as u16
 }
 
-// The priority, 0 where none is announced.
-fn priority_of(given: bool, n: u32) -> u32
-    ensures { λ r. ⌜ r ≡ cond given n 0 ⌝ }
+// The priority with its value at a place, 0 where none is announced.
+fn priority_of(m: &[u8], at: usize) -> u32
+    ensures { λ r. ⌜ r ≡ cond (eqb at 0) 0 (numberAt 4 (now (m .entry)) at) ⌝ }
 {
-    if given {
-        return n;
+    if at == 0 {
+        return 0;
     }
-    0
+    octets::number32(m, at)
 }
 
 // What the options say, with what was not announced filled in.
-fn hello_of(h: Heard) -> Hello
-    ensures says { λ r. ⌜ helloBy r ≡ helloOf (saidBy h) ⌝ }
+fn hello_of(m: &[u8], p: ValuePlaces) -> Hello
+    ensures says { λ r. ⌜ helloBy r ≡ helloOf (saidAt (now (m .entry)) p) ⌝ }
     ensures zero { λ r. ⌜ zeroPriority r ⌝ }
 {
     Hello {
-        holdtime: holdtime_of(h.has_holdtime, h.holdtime),
-        has_priority: h.has_priority,
-        priority: priority_of(h.has_priority, h.priority),
-        packing: h.packing,
+        holdtime: holdtime_of(m, p.holdtime),
+        has_priority: p.priority != 0,
+        priority: priority_of(m, p.priority),
+        packing: p.packing != 0,
     }
 }
 
-// A Hello's options, from octet 4 on: for a caller that has read the header.
-pub fn hello_options(m: &[u8]) -> HelloRead
+// A Hello's options, from octet 4 on.
+fn hello_options(m: &[u8]) -> HelloRead
     ensures says { λ r. ⌜ told r ≡ helloOptions (now (m .entry)) ⌝ }
     ensures zero { λ r. ⌜ unannounced r ⌝ }
 {
     let all = options(m, 4);
     match all {
-        OptionsRead::All(h) => HelloRead::Is(hello_of(h)),
-        OptionsRead::Refused(r) => HelloRead::Refused(r),
+        OptionsRead::All(p) => HelloRead::Is(hello_of(m, p)),
+        OptionsRead::Bad { number, place } => HelloRead::Refused(Refusal { number, place }),
+    }
+}
+
+// The same for a caller that has read the header and does not ask what they say.
+pub fn check_options(m: &[u8]) -> OptionsChecked
+    ensures { λ r. ⌜ checked r ≡ optionsFine (now (m .entry)) ⌝ }
+{
+    let all = options(m, 4);
+    match all {
+        OptionsRead::All(_) => OptionsChecked::Fine,
+        OptionsRead::Bad { number, place } => OptionsChecked::Refused(Refusal { number, place }),
     }
 }
 

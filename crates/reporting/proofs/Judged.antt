@@ -1,6 +1,7 @@
 -- What comes of a message, by its parts.
 --     by-entries      a message of a kind, by its body counted
 --     by-said         a Hello, by its options
+--     by-checked      the same where what they say is not asked
 --     judged-kind     what its header accepts is judged by its kind
 --     judged-none     what its header refuses is refused so
 --     records-few     an accepted message has no more records than octets
@@ -22,7 +23,7 @@ use Rattle.format.specs.declared.Kind.the-variants.{Hello, Assert, Simple, Aggr
 use Rattle.counting.specs.Counts.{tallied}
 use Rattle.counting.proofs.Few.{Few, few-asserts, few-pairs}
 use Rattle.headers.proofs.Headers.{header-room}
-use Rattle.hello.specs.Hello.{Hello as HelloSaid, helloOptions, helloBody, readHello}
+use Rattle.hello.specs.Hello.{Hello as HelloSaid, helloOptions, optionsFine, helloBody, readHello}
 use Rattle.reporting.specs.Judging.{entriesIn, judgedAs, judged}
 use Rattle.reporting.specs.Answers.{countOf, heardOf}
 
@@ -42,6 +43,15 @@ by-pairs k m h e = rw (e, h) (by-entries k (pairsBody ipv4 k m 4))
 pub by-said : (m : List ℕ) → header m ≡ gives Hello → heardOf (helloOptions m) ≡ judgedAs Hello m
 unfolding heardOf judgedAs readHello _>>=_ helloBody
 by-said m h = rw h refl
+
+heard-fine : (x : Outcome HelloSaid) → heardOf (x >> gives (tt {0})) ≡ heardOf x
+unfolding heardOf _>>_
+heard-fine (gives h) = refl
+heard-fine (refuses n p) = refl
+
+pub by-checked : (m : List ℕ) → header m ≡ gives Hello → heardOf (optionsFine m) ≡ judgedAs Hello m
+unfolding optionsFine
+by-checked m h = heard-fine (helloOptions m) ∙ by-said m h
 
 pub judged-kind : (m : List ℕ) (k : Kind) → header m ≡ gives k → judged m ≡ judgedAs k m
 unfolding judged _>>=_

@@ -7,12 +7,12 @@ use format::Kind;
 use format::Refusal;
 use headers::Headed;
 use headers::header;
-use hello::HelloRead;
-use hello::hello_options;
+use hello::OptionsChecked;
+use hello::check_options;
 ghost use mathlib.Core.Path.{_≡_};
 ghost use Rattle.format.specs.Outcome.{gives};
 ghost use Rattle.format.specs.Header.{header as headerOf};
-ghost use Rattle.hello.specs.Answers.{told};
+ghost use Rattle.hello.specs.Answers.{checked};
 ghost use Rattle.counting.specs.Counts.{counted};
 ghost use Rattle.reporting.specs.Judging.{judged, judgedAs};
 ghost use Rattle.reporting.specs.Answers.{judgedBy, countOf, heardOf};
@@ -36,15 +36,15 @@ fn by_count(kind: Kind, c: Counted) -> Verdict
 }
 
 // A Hello has no records.
-fn by_options(h: HelloRead) -> Verdict
-    ensures { λ r. ⌜ judgedBy r ≡ heardOf (told h) ⌝ }
+fn by_options(h: OptionsChecked) -> Verdict
+    ensures { λ r. ⌜ judgedBy r ≡ heardOf (checked h) ⌝ }
 {
     match h {
-        HelloRead::Is(_) => Verdict::Accepted {
+        OptionsChecked::Fine => Verdict::Accepted {
             kind: Kind::Hello,
             records: 0,
         },
-        HelloRead::Refused(refusal) => Verdict::Refused(refusal),
+        OptionsChecked::Refused(refusal) => Verdict::Refused(refusal),
     }
 }
 
@@ -53,7 +53,7 @@ fn judged_as(kind: Kind, m: &[u8]) -> Verdict
     ensures { λ r. ⌜ (headerOf (now (m .entry)) ≡ gives kind → judgedBy r ≡ judgedAs kind (now (m .entry))) ⌝ }
 {
     match kind {
-        Kind::Hello => by_options(hello_options(m)),
+        Kind::Hello => by_options(check_options(m)),
         Kind::Assert => by_count(kind, count_asserts(false, kind, m)),
         Kind::Simple => by_count(kind, count_asserts(false, kind, m)),
         Kind::Aggregated => by_count(kind, count_asserts(false, kind, m)),

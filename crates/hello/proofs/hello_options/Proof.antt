@@ -13,15 +13,15 @@ returns : tie.Need-returns
 unfolding heard told
 returns c =
     let r = c .before .before .before .before in
-    let a = r .before .before .args in
-    (ap gives (c .hello-of .ensures .0) ∙ sym (hello-all (now (a .m)) (sym (r .options .ensures) ∙ ap heard (c .before .before .all .given .1))), c .hello-of .ensures .1)
+    let o = now (r .before .before .args .m) in
+    (ap gives (c .hello-of .ensures .0) ∙ sym (hello-all o (sym (r .options .ensures) ∙ ap (heard o) (c .before .before .all .given .1))), c .hello-of .ensures .1)
 
 returns-2 : tie.Need-returns-2
 unfolding heard told
 returns-2 c =
     let r = c .before .before .before in
-    let a = r .before .before .args in
-    (sym (hello-cut (now (a .m)) (sym (r .options .ensures) ∙ ap heard (c .before .all2 .given .1))), tt)
+    let o = now (r .before .before .args .m) in
+    (sym (hello-cut o (sym (r .options .ensures) ∙ ap (heard o) (c .before .all2 .given .1))), tt)
 
 pub hello-options-spec : {M : Type 1} → statement M
 hello-options-spec =

@@ -8,19 +8,19 @@ use borrow.Author.Needs.{needs}
 use denote.Ref.{now}
 use lib.ListN.{length}
 use Rattle.hello.specs.Options.{nothing}
-use Rattle.hello.specs.Answers.{ifGiven, saidBy, stepped, heard}
+use Rattle.hello.specs.Answers.{ifPlaced, saidAt, stepped, heard}
 use Rattle.hello.proofs.SoFar.{SoFar, so-far-start, so-far-next, so-far-bad, so-far-end, option-next}
 use Rattle.hello.proofs.options.Statement.{statement}
 use Rattle.hello.proofs.options.Tie as tie
 
 abbrev Inv-loop : tie.InvT-loop
-Inv-loop m start h₀ at₀ h at = SoFar m start (saidBy h) at
+Inv-loop m start p₀ at₀ p at = SoFar m start (saidAt m p) at
 
 abbrev μ-loop : tie.MeasureT-loop
-μ-loop m start h₀ at₀ h at = length m - at
+μ-loop m start p₀ at₀ p at = length m - at
 
 loop-holds : tie.Need-loop-holds Inv-loop μ-loop
-unfolding nothing saidBy ifGiven
+unfolding nothing saidAt ifPlaced
 loop-holds c =
     let a = c .before .args in
     so-far-start (now (a .m)) (a .start)
@@ -29,20 +29,25 @@ loop-less : tie.Need-loop-less Inv-loop μ-loop
 unfolding stepped
 loop-less c =
     let r = c .before .before .before in
-    let a = r .before .before .before .before .args in
-    omega (arith, option-next (saidBy (r .before .before .loop .h)) (now (a .m)) (r .before .before .loop .at) (sym (r .option .ensures) ∙ ap stepped (c .before .s .given .1)))
+    let l = r .before .before in
+    let o = now (l .before .before .args .m) in
+    omega (arith, option-next (saidAt o (l .loop .p)) o (l .loop .at) (sym (r .option .ensures) ∙ ap (stepped o) (c .before .s .given .1)))
 
 loop-again : tie.Need-loop-again Inv-loop μ-loop
 unfolding stepped
 loop-again c =
     let r = c .before .before .before in
-    so-far-next (r .before .before .loop .inv) (r .before .loop-test .taken) (sym (r .option .ensures) ∙ ap stepped (c .before .s .given .1))
+    let l = r .before .before in
+    let o = now (l .before .before .args .m) in
+    so-far-next (l .loop .inv) (r .before .loop-test .taken) (sym (r .option .ensures) ∙ ap (stepped o) (c .before .s .given .1))
 
 returns : tie.Need-returns Inv-loop μ-loop
 unfolding stepped heard
 returns c =
     let r = c .before .before .before in
-    sym (so-far-bad (r .before .before .loop .inv) (r .before .loop-test .taken) (sym (r .option .ensures) ∙ ap stepped (c .before .s2 .given .1)))
+    let l = r .before .before in
+    let o = now (l .before .before .args .m) in
+    sym (so-far-bad (l .loop .inv) (r .before .loop-test .taken) (sym (r .option .ensures) ∙ ap (stepped o) (c .before .s2 .given .1)))
 
 returns-2 : tie.Need-returns-2 Inv-loop μ-loop
 unfolding heard

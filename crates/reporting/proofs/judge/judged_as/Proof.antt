@@ -6,7 +6,7 @@ use denote.Ref.{now}
 use Rattle.format.specs.Outcome.{gives}
 use Rattle.reporting.specs.Judging.{judgedAs}
 use Rattle.reporting.specs.Answers.{countOf, heardOf}
-use Rattle.reporting.proofs.Judged.{by-asserts, by-pairs, by-said}
+use Rattle.reporting.proofs.Judged.{by-asserts, by-pairs, by-checked}
 use Rattle.reporting.proofs.judge.judged_as.Statement.{statement}
 use Rattle.reporting.proofs.judge.judged_as.Tie as tie
 
@@ -16,7 +16,7 @@ returns c h =
     let t = c .before .before in
     let s = t .before .before .before in
     let k = t .enum-told .given .1 in
-    c .by-options .ensures ∙ ap heardOf (c .before .hello-options .ensures .0) ∙ by-said (now (s .args .m)) (h ∙ ap gives k) ∙ ap (λ x. judgedAs x (now (s .args .m))) (sym k)
+    c .by-options .ensures ∙ ap heardOf (c .before .check-options .ensures) ∙ by-checked (now (s .args .m)) (h ∙ ap gives k) ∙ ap (λ x. judgedAs x (now (s .args .m))) (sym k)
 
 returns-2 : tie.Need-returns-2
 unfolding judgedAs
