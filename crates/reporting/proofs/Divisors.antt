@@ -1,7 +1,9 @@
 -- Laws of divisors.
---     gcd-end, gcd-step                 Euclid's rule
---     gcd-left, gcd-right, gcd-greatest the greatest common divisor divides both, and what divides both divides it
---     lowest-terms, lowest-equal        a fraction in lowest terms is so, and equals the quotient
+--     gcd-end, gcd-step               Euclid's rule
+--     divides-back, divides-rest      a number, another and the remainder have the same common divisors
+--     euclid-divides, euclid-greatest what the rule ends at divides both, and what divides both divides it
+--     gcd-above                       over a number above 0 it is above 0
+--     lowest-some, lowest-none, lowest-terms, lowest-equal   a fraction in lowest terms is so, and equals the quotient
 -- Assumes nothing.
 use Prim.Native.Nat.{ℕ, zero, suc, _+_, _-_, _*_, _/_, _%_, _≤_, _<_}
 use native.Mathlib.Omega.{arith}

@@ -1,5 +1,5 @@
 -- What comes of a message, by its parts.
---     by-entries      a message of a kind, by its body counted
+--     by-asserts, by-pairs   a message of a kind, by its body counted
 --     by-said         a Hello, by its options
 --     by-checked      the same where what they say is not asked
 --     judged-kind     what its header accepts is judged by its kind

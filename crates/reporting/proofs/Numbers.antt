@@ -1,6 +1,6 @@
 -- By which numbers messages are refused: 1 to 7 and 13.
 --     Numbered, Numbers     what a reader comes to, and a reader: whatever it refuses by is one of these
---     numbered              a message
+--     Ruled, ruled          what a call comes to, and a message
 -- Each reader's law has the lines of its definition. Assumes nothing.
 use Prim.Native.Nat.{ℕ, zero, suc, _+_, _/_}
 use mathlib.Core.Path.{_≡_, refl, sym, subst}

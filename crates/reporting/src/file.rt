@@ -14,6 +14,7 @@ use octets::number16;
 ghost use mathlib.Core.Path.{_≡_};
 ghost use Rattle.reporting.specs.Report.{takenFrom, reportOf};
 
+// The two parts of a tally as one again, and how many octets were taken.
 fn taken(accepted: ByKind, refused: [u64; NUMBERS], used: usize) -> Taken
     ensures { λ r. ⌜ r ≡ record { tally = record { accepted = accepted; refused = refused }; used = used } ⌝ }
 {
