@@ -15,7 +15,7 @@ use Rattle.reporting.specs.Report.{takenFrom}
 use Rattle.reporting.specs.declared.Tally.{Tally}
 use Rattle.reporting.specs.declared.Taken.{Taken}
 use Rattle.reporting.proofs.Files.{left-within, left-drop, left-few}
-use Rattle.report.specs.Input.{leftOf}
+use Rattle.reporting.specs.File.{fileOf}
 
 module _ (d : List ℕ) (from n i : ℕ) (room : from + n ≤ length d) (less : i < n) where
   pub moved-stands : getD (paste d 0 (drop from d) i) (from + i) 0 ≡ getD (drop from d) i 0
@@ -46,14 +46,14 @@ module _ (d : List ℕ) (from n i : ℕ) (room : from + n ≤ length d) (less : 
 
 pub record Left (b : List ℕ) (n used : ℕ) : Type 0 where
   pub within : used ≤ n
-  pub stands : take (n - used) (drop used b) ≡ leftOf (take n b)
+  pub stands : take (n - used) (drop used b) ≡ fileOf (take n b) .left
   pub few : n - used ≤ 65536
 
 pub left-of : (b : List ℕ) (n : ℕ) (t : Tally) {a : Taken} → Octets b → n ≤ length b → a ≡ takenFrom t (take n b) → Left b n (a .used)
-unfolding takenFrom leftOf
+unfolding takenFrom
 left-of b n t {a} octets room is =
     let p = take n b in
-    let l = length (leftOf p) in
+    let l = length (fileOf p .left) in
     let long : length p ≡ n = length-take-le n b room in
     let used : a .used ≡ length p - l = ap (λ (x : Taken). x .used) is in
     let small : l ≤ length p = left-within p in
@@ -68,7 +68,7 @@ left-of b n t {a} octets room is =
       few = omega (arith, left-few p (octets-take n b octets), used, long, small);
     }
 
-pub moved-front : (b : List ℕ) (n used : ℕ) {e : List ℕ} → n ≤ length b → Left b n used → e ≡ paste b 0 (drop used b) (n - used) → take (n - used) e ≡ leftOf (take n b)
+pub moved-front : (b : List ℕ) (n used : ℕ) {e : List ℕ} → n ≤ length b → Left b n used → e ≡ paste b 0 (drop used b) (n - used) → take (n - used) e ≡ fileOf (take n b) .left
 moved-front b n used room l is =
     let k : n - used ≡ 0 + (n - used) = omega arith in
     ap (take (n - used)) is ∙ ap (λ (x : ℕ). take x (paste b 0 (drop used b) (n - used))) k

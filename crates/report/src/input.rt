@@ -6,8 +6,8 @@ ghost use mathlib.Core.Path.{_≡_};
 ghost use Prim.Native.Nat.{_+_, _≤_};
 ghost use lib.ListN.{length, take, drop};
 ghost use lib.Seq.{paste};
+ghost use Rattle.reporting.specs.File.{fileOf};
 ghost use Rattle.reporting.specs.Report.{takenFrom};
-ghost use Rattle.report.specs.Input.{leftOf};
 
 // How standard input ends.
 pub(crate) enum Ending {
@@ -55,7 +55,7 @@ fn to_front(buf: &mut [u8], from: usize, n: usize)
 fn count_piece(t: Tally, buf: &mut [u8], n: usize) -> Counted
     requires { ⌜ n ≤ length (now buf) ⌝ }
     ensures tally { λ r. ⌜ r .tally ≡ takenFrom t (take n (now (buf .entry))) .tally ⌝ }
-    ensures left { λ r. ⌜ take (r .left) (now (buf .exit)) ≡ leftOf (take n (now (buf .entry))) ⌝ }
+    ensures left { λ r. ⌜ take (r .left) (now (buf .exit)) ≡ fileOf (take n (now (buf .entry))) .left ⌝ }
     ensures few { λ r. ⌜ (r .left ≤ n) × (r .left ≤ 65536) ⌝ }
     ensures long { λ r. ⌜ length (now (buf .exit)) ≡ length (now (buf .entry)) ⌝ }
 {
