@@ -23,7 +23,10 @@
  * one, and with it nothing is promised.
  *
  * Numbers in messages, entries and sheets are big-endian; numbers in records are plain numbers of this machine.
- * Addresses are IPv4, 10.0.0.1 being 0x0a000001.
+ * Addresses are IPv4, 10.0.0.1 being 0x0a000001. A group lies in 224.0.0.0/4. A source does not, and it is not
+ * 255.255.255.255, wherever a source stands: in messages, entries and sheets. 0 stands for no source, and is allowed
+ * with R, in a PIM_REGISTER_STOP and in the pairs of a sheet. An address of a neighbour, or of our own router, is no
+ * source; it is any address but 0.
  *
  * Every answer of a call that can refuse has a `refusal`, or is one. Its `number` is 0 where the call did what it says,
  * and `place` is then 0 too. Else it is one of the fourteen numbers, and `place` says where. The other fields of a
@@ -54,8 +57,9 @@ extern "C" {
  * It is no version of the protocol. 2: counters and rows are lent, names of Pop-Count begin pim_popcount_, the sheet's
  * counts are pim_sheet_counts. 3: pim_write_hello, and PIM_LONGEST_HELLO. 4: limit 0 is 556, before it was 1480.
  * 5: 6 and 7 in reading are placed at the field, before it was at the record, the option or the attribute. 6: the
- * report of a file, pim_report, and pim_tally_none to pim_tally_mean. */
-#define PIM_VERSION 6
+ * report of a file, pim_report, and pim_tally_none to pim_tally_mean. 7: a source in 224.0.0.0/4, and 255.255.255.255,
+ * is refused in messages, entries and sheets. */
+#define PIM_VERSION 7
 
 /* ---- sizes and limits, in octets where nothing else is said */
 
@@ -181,8 +185,8 @@ typedef struct {
  * Refuses 1, 2, 3, 4 at 0; then, in the message's order, 5 at 4 for Zero and at 8 where there is no record, 6 and 7 at
  * the field: Zero at 4, Reserved at 5, octets after a plain assert where they begin, at 26. The two reserved octets
  * after a number are a field of their own, looked at after the number. A source that is 0 where R is 0 is 7 at the
- * source, in an assert record once the four octets of R with preference are there. Last 8 at 0, exactly if all entries
- * take more than the room. */
+ * source, in an assert record once the four octets of R with preference are there; any other source that is not allowed
+ * is 7 once its own octets are there. Last 8 at 0, exactly if all entries take more than the room. */
 pim_read_answer pim_read_asserts(const uint8_t *m, size_t n, uint8_t *entries, size_t room);
 
 /* The same for PIM_NULL_REGISTER and PIM_REGISTER_STOP, with entries of PIM_PAIR_ENTRY octets. PIM_MOST_PAIRS(n) of

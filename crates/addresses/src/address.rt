@@ -72,13 +72,6 @@ pub fn is_group(ipv6: bool, a: Address) -> bool
     a.low < 0xf000_0000
 }
 
-// Whether an address other than 0 is one that a source may have.
-pub fn is_source(ipv6: bool, a: Address) -> bool
-    ensures { λ r. ⌜ r ≡ familyOf ipv6 .isSource (numberOf a) ⌝ }
-{
-    !is_zero(a)
-}
-
 // The octets of an address, from the start of one slice to the start of another. Lend parts of that length.
 pub fn copy_address(ipv6: bool, s: &[u8], d: &mut [u8])
     ensures { λ _. ⌜ now (d .exit) ≡ copied (familyOf ipv6 .width) (now (s .entry)) (now (d .entry)) ⌝ }

@@ -42,6 +42,10 @@ octetsOf es = entriesOctets (assertEntries ipv4) es
 unfoldable pub bad : List AssertRecord
 bad = shared 0 ∷ assert 0x0a00_0001 0x0a00_0002 110 20 ∷ shared 1 ∷ []
 
+-- a good entry, one from a multicast source (E5), a good one
+unfoldable pub looped : List AssertRecord
+looped = shared 0 ∷ shared 0xe801_0102 ∷ shared 1 ∷ []
+
 unfoldable pub example1 : List ℕ
 example1 = be 30 0x2501e558_00000000_01000020e8010101_01000a000001_0000006e_00000014
 
@@ -74,6 +78,13 @@ calls =
     ∷ packs (plain ipv4) (octetsOf bad) 0 38 38 (refuses 7 1)
     ∷ packs (aggregated ipv4) (octetsOf bad) 2 38 38 (gives (wrote 38 1))
     ∷ packs (simple ipv4) (octetsOf (assert 0xe801_0101 0 110 20 ∷ [])) 0 38 38 (refuses 7 0)
+    -- a source that is shut out, in the same order
+    ∷ packs (aggregated ipv4) (octetsOf looped) 0 37 37 (refuses 9 0)
+    ∷ packs (aggregated ipv4) (octetsOf looped) 0 38 37 (refuses 8 0)
+    ∷ packs (aggregated ipv4) (octetsOf looped ++ (0 ∷ [])) 0 38 38 (refuses 10 0)
+    ∷ packs (aggregated ipv4) (octetsOf looped) 0 38 38 (refuses 7 1)
+    ∷ packs (aggregated ipv4) (octetsOf looped) 2 38 38 (gives (wrote 38 1))
+    ∷ chooses (octetsOf looped) 0 50 50 50 (refuses 7 1)
     -- a plain assert takes one
     ∷ packs (plain ipv4) (octetsOf (flows 3)) 1 1480 1480 (gives (wrote 26 1))
     -- the choice: as many entries and shorter, more entries, and the simple one

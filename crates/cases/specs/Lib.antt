@@ -3,6 +3,7 @@ pub mod Marked
 pub mod Messages
 pub mod Faults
 pub mod Cuts
+pub mod Sources
 pub mod Calls
 pub mod Hellos
 pub mod Reports

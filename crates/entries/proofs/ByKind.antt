@@ -2,27 +2,26 @@
 --     sized, by-size, by-range         their size: group and source, and 8 octets more or none
 --     size-pair, size-range            the same by the kind
 --     family-is                  their family
---     group-at, address-cut      a group and an address as code reads them
+--     address-cut, source-cut    an address, and the source, as code reads them
 --     allowed-is                 an entry is allowed by its group and its source, which may be 0 or not
---     zero-long, zero-short, some-source, no-source     whether its source may be 0, and the source by that
+--     entry-no, entry-by         the same by what code found
+--     zero-long, zero-short      whether its source may be 0
 -- Assumes nothing.
 use Prim.Native.Nat.{ℕ, _+_, _-_, _*_, _≤_}
 use native.Mathlib.Omega.{arith}
-use native.Mathlib.Nat.{add-zero}
-use mathlib.Core.Path.{_≡_, refl, sym, ap, _∙_}
-use mathlib.Core.Bool.{Bool, true, false, not, _&&_, cond}
+use mathlib.Core.Path.{_≡_, refl, ap, _∙_}
+use mathlib.Core.Bool.{Bool, true, false, _&&_, cond}
 use mathlib.Core.List.{List}
-use lib.Dec.{eqb}
-use lib.ListN.{length, getD, take, drop, length-drop}
-use lib.Seq.{length-take-le, getD-take, getD-drop}
-use Rattle.octets.specs.Octets.{Octets, numberAt}
-use Rattle.octets.proofs.Laws.{octets-take, octets-drop, number-cut}
+use lib.ListN.{length, take, drop, length-drop}
+use lib.Seq.{length-take-le}
+use Rattle.octets.specs.Octets.{numberAt}
+use Rattle.octets.proofs.Laws.{number-cut}
 use Rattle.records.specs.Records.{rBit}
 use Rattle.format.specs.Family.{Family, familyOf, mayBeSource}
 use Rattle.format.specs.Entry.{assertAt, allowedAssert, pairAt, allowedPair}
 use Rattle.format.specs.declared.Kind.{Kind}
-use Rattle.addresses.specs.Addresses.{addressAt, groupFirst}
-use Rattle.addresses.proofs.Laws.{width-range, group-first, source-some, address-there}
+use Rattle.addresses.specs.Addresses.{addressAt}
+use Rattle.addresses.proofs.Laws.{width-range, address-there}
 use Rattle.entries.specs.Kinds.{isAssert, isStop, entriesBy, entriesFor, zeroBy}
 
 pub sized : (f : Family) (asserts stop : Bool) → entriesBy f asserts stop .size ≡ 2 * f .width + cond asserts 8 0
@@ -54,21 +53,16 @@ family-is ipv6 k = by-family (familyOf ipv6) (isAssert k) (isStop k)
 
 -- ---- what code reads
 
-module _ (ipv6 : Bool) (o : List ℕ) (at : ℕ) where
-  pub group-at : Octets o → at + familyOf ipv6 .width ≤ length o → familyOf ipv6 .isGroup (numberAt (familyOf ipv6 .width) o at) ≡ groupFirst ipv6 (getD o at 0)
-  unfolding numberAt
-  group-at octet there =
-      let w = familyOf ipv6 .width in
-      let long : length (take w (drop at o)) ≡ w = length-take-le w (drop at o) (simp length-drop (omega arith)) in
-      group-first ipv6 (take w (drop at o)) (octets-take w (drop at o) (octets-drop at o octet)) long
-      ∙ ap (groupFirst ipv6) (getD-take w (drop at o) 0 0 (omega (arith, width-range ipv6)) ∙ rw (getD-drop, add-zero))
+pub address-cut : (ipv6 : Bool) (o : List ℕ) (at end : ℕ) → end ≡ at + familyOf ipv6 .width → end ≤ length o
+    → addressAt (familyOf ipv6) (take (end - at) (drop at o)) 0 ≡ numberAt (familyOf ipv6 .width) o at
+address-cut ipv6 o at end e there =
+    let long : length (take (end - at) (drop at o)) ≡ end - at = length-take-le (end - at) (drop at o) (simp length-drop (omega arith)) in
+    address-there (familyOf ipv6) (take (end - at) (drop at o)) 0 (omega arith) ∙ number-cut (familyOf ipv6 .width) o at end e there
 
-  pub address-cut : (end : ℕ) → end ≡ at + familyOf ipv6 .width → end ≤ length o
-      → addressAt (familyOf ipv6) (take (end - at) (drop at o)) 0 ≡ numberAt (familyOf ipv6 .width) o at
-  address-cut end e there =
-      let w = familyOf ipv6 .width in
-      let long : length (take (end - at) (drop at o)) ≡ end - at = length-take-le (end - at) (drop at o) (simp length-drop (omega arith)) in
-      address-there (familyOf ipv6) (take (end - at) (drop at o)) 0 (omega arith) ∙ number-cut w o at end e there
+-- the source, as the part past the group
+pub source-cut : (ipv6 : Bool) (o : List ℕ) (at w : ℕ) → w ≡ familyOf ipv6 .width → at + 2 * w ≤ length o
+    → addressAt (familyOf ipv6) (take (at + 2 * w - (at + w)) (drop (at + w) o)) 0 ≡ numberAt (familyOf ipv6 .width) o (at + familyOf ipv6 .width)
+source-cut ipv6 o at w e there = address-cut ipv6 o (at + w) (at + 2 * w) (omega arith) there ∙ ap (λ x. numberAt (familyOf ipv6 .width) o (at + x)) e
 
 -- ---- whether an entry is allowed
 
@@ -77,6 +71,15 @@ pub allowed-is : (f : Family) (asserts stop : Bool) (o : List ℕ) (at : ℕ)
 unfolding allowedAssert allowedPair assertAt pairAt zeroBy
 allowed-is f true stop o at = refl
 allowed-is f false stop o at = refl
+
+-- by what code found of its group and of its source
+module _ (f : Family) (asserts stop : Bool) (o : List ℕ) (at : ℕ) {g : Bool} (group : f .isGroup (numberAt (f .width) o at) ≡ g) where
+  pub entry-no : g ≡ false → false ≡ entriesBy f asserts stop .allowedAt o at
+  entry-no t = rw (allowed-is f asserts stop o at, group, t)
+
+  pub entry-by : g ≡ true → {z r : Bool} {s : ℕ} → z ≡ zeroBy f asserts stop o at → s ≡ numberAt (f .width) o (at + f .width) → r ≡ mayBeSource f z s
+      → r ≡ entriesBy f asserts stop .allowedAt o at
+  entry-by t z s e = rw (allowed-is f asserts stop o at, group, t, ← z, ← s) e
 
 module _ (f : Family) (o : List ℕ) (at : ℕ) where
   pub zero-long : (asserts stop : Bool) → asserts ≡ true → zeroBy f asserts stop o at ≡ rBit (numberAt 4 o (at + 2 * f .width))
@@ -88,22 +91,3 @@ module _ (f : Family) (o : List ℕ) (at : ℕ) where
   unfolding zeroBy
   zero-short true stop h = cc
   zero-short false stop h = refl
-
--- a source that is 0, by whether it may be
-zero-may : (b : Bool) → b ≡ b && true
-zero-may true = refl
-zero-may false = refl
-
-pub some-source : (f : Family) (zero : Bool) (a : ℕ) → f .isSource a ≡ true → mayBeSource f zero a ≡ true
-unfolding mayBeSource
-some-source f zero a e = rw e
-
-pub no-source : (ipv6 zero : Bool) (a : ℕ) → familyOf ipv6 .isSource a ≡ false → mayBeSource (familyOf ipv6) zero a ≡ zero
-unfolding mayBeSource
-no-source ipv6 zero a e =
-    let none : eqb a 0 ≡ true = is-true (eqb a 0) (sym (source-some ipv6 a) ∙ e) in
-    rw (e, none) (sym (zero-may zero))
-  where
-    is-true : (b : Bool) → not b ≡ false → b ≡ true
-    is-true true h = refl
-    is-true false h = cc

@@ -1,8 +1,7 @@
 // Entries by the kind of message that is made of them: their size, which are allowed, and the first that is not. Octets
 // past the last whole entry are not looked at.
-use addresses::address_at;
 use addresses::is_multicast;
-use addresses::is_source;
+use addresses::may_be_source;
 use addresses::width;
 use format::Kind;
 use format::r_bit;
@@ -78,7 +77,7 @@ fn zero_allowed(ipv6: bool, asserts: bool, stop: bool, e: &[u8], at: usize) -> b
     stop
 }
 
-// Whether an entry is allowed: by its group, and by its source, which is not 0 where it may not be.
+// Whether an entry is allowed: by its group, and by its source.
 fn allowed(ipv6: bool, asserts: bool, stop: bool, e: &[u8], at: usize) -> bool
     requires { ⌜ at + entriesBy (familyOf ipv6) asserts stop .size ≤ length (now e) ⌝ }
     ensures { λ r. ⌜ r ≡ entriesBy (familyOf ipv6) asserts stop .allowedAt (now (e .entry)) at ⌝ }
@@ -87,11 +86,12 @@ fn allowed(ipv6: bool, asserts: bool, stop: bool, e: &[u8], at: usize) -> bool
         return false;
     }
     let w = width(ipv6);
-    let source = address_at(ipv6, &e[at + w..at + 2 * w], 0);
-    if is_source(ipv6, source) {
-        return true;
-    }
-    zero_allowed(ipv6, asserts, stop, e, at)
+    may_be_source(
+        ipv6,
+        &e[at + w..at + 2 * w],
+        0,
+        zero_allowed(ipv6, asserts, stop, e, at),
+    )
 }
 
 // The number of the first entry from a number on that is not allowed, or how many there are.

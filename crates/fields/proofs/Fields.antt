@@ -5,13 +5,13 @@
 --     Comes, form-no, form-yes                    a field by a test of its octets, and what a check that made the test answers
 --     native-is                                   the family and 00, as one number
 --     groupTest, group-form .. group-back         a group: the address is tested by its first octet
---     sourceTest, source-form .. source-back      a source: its first octet decides, or whether the address is 0
+--     sourceTest, source-form .. source-back      a source, by its address
 --     address-is, address-short                   either, by a flag
 -- Assumes nothing.
-use Prim.Native.Nat.{ℕ, suc, _+_, _-_, _*_, _/_, _^_, _≤_, _<_}
+use Prim.Native.Nat.{ℕ, _+_, _-_, _*_, _≤_, _<_}
 use native.Mathlib.Omega.{arith}
-use native.Mathlib.Nat.{add-comm, zero-div}
-use mathlib.Core.Path.{_≡_, refl, sym, ap, _∙_}
+use native.Mathlib.Nat.{add-comm}
+use mathlib.Core.Path.{_≡_, refl, sym, ap}
 use mathlib.Core.Bool.{Bool, true, false, _&&_, cond}
 use mathlib.Core.List.{List}
 use borrow.Author.Tests.{eq-eqb, ne-eqb, eqb-true, eqb-false}
@@ -19,14 +19,14 @@ use lib.Dec.{eqb}
 use lib.ListN.{length, getD, take, drop, length-drop}
 use lib.Seq.{take-add, take-all, drop-drop, getD-drop, length-take-le, drop-at}
 use Rattle.octets.specs.Octets.{numberAt, Octets, value}
-use Rattle.octets.proofs.Laws.{number-short, octets-there, octets-back, octets-drop, value-first}
+use Rattle.octets.proofs.Laws.{number-short, octets-there, octets-back, octets-drop}
 use Rattle.records.specs.Sizes.{groupSize, sourceSize}
 use Rattle.format.specs.Reader.{Read, Reader, got, bad, continue, _>>=_, give, octets, number, must}
 use Rattle.format.specs.Family.{Family, maskLength, familyOf, mayBeSource}
 use Rattle.format.specs.Address.{groupForm, groupField, sourceForm, sourceField}
 use Rattle.format.specs.declared.Refusal.{Refusal}
 use Rattle.addresses.specs.Addresses.{groupFirst}
-use Rattle.addresses.proofs.Laws.{width-range, group-first, source-some}
+use Rattle.addresses.proofs.Laws.{group-first}
 use Rattle.fields.specs.Answers.{checked, skipped}
 use Rattle.fields.specs.Encoded.{addressSize, addressForm, addressField}
 use Rattle.fields.specs.declared.field.Checked.{Checked}
@@ -159,32 +159,6 @@ sourceTest f z x = eqb (getD x 0 0) (f .family) && eqb (getD x 1 0) 0 && mayBeSo
 pub source-form : (f : Family) (z : Bool) (x : List ℕ) → length x ≡ sourceSize (f .width) → sourceForm f z x ≡ sourceTest f z x
 unfolding sourceForm
 source-form f z x e = rw (last-number (f .width) 2 x e)
-
--- whether an address may be a source: where its first octet is not 0, where it is 0, and else
-pub source-first : (ipv6 z : Bool) (x : List ℕ) → Octets x → length x ≡ sourceSize (familyOf ipv6 .width) → (getD x 2 0 ≡ 0 → ⊥)
-    → true ≡ mayBeSource (familyOf ipv6) z (numberAt (familyOf ipv6 .width) x 2)
-unfolding mayBeSource
-source-first ipv6 z x octet e some = rw (source-some ipv6 _, ne-eqb _ 0 other)
-  where
-    w : ℕ
-    w = familyOf ipv6 .width
-
-    long : length (drop 2 x) ≡ suc (w - 1)
-    long = simp length-drop (omega (arith, width-range ipv6))
-
-    other : numberAt w x 2 ≡ 0 → ⊥
-    other none =
-        let zero : value (drop 2 x) ≡ 0 = last-number w 2 x e ∙ none in
-        some (sym (rw getD-drop at (value-first (w - 1) (drop 2 x) (octets-drop 2 x octet) long)) ∙ ap (λ n. n / 256 ^ (w - 1)) zero ∙ zero-div (256 ^ (w - 1)))
-
-pub source-zero : (ipv6 z : Bool) (a : ℕ) {r : Bool} → r ≡ eqb a 0 → r ≡ true → z ≡ mayBeSource (familyOf ipv6) z a
-unfolding mayBeSource
-source-zero ipv6 true a e t = rw (source-some ipv6 a, ← e, t)
-source-zero ipv6 false a e t = rw (source-some ipv6 a, ← e, t)
-
-pub source-other : (ipv6 z : Bool) (a : ℕ) {r : Bool} → r ≡ eqb a 0 → r ≡ false → true ≡ mayBeSource (familyOf ipv6) z a
-unfolding mayBeSource
-source-other ipv6 z a e t = rw (source-some ipv6 a, ← e, t)
 
 module _ (f : Family) (z : Bool) (o : List ℕ) (at : ℕ) where
   pub source-is : at + sourceSize (f .width) ≤ length o

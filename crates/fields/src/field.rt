@@ -1,19 +1,16 @@
 // Fields of either family: whether the octets of one are allowed. A check finds the place past a field that is there
 // whole and allowed, or the refusal, at the field's own place.
-use addresses::address_at;
 use addresses::family_number;
 use addresses::is_multicast;
-use addresses::is_zero;
 use addresses::mask_length;
+use addresses::may_be_source;
 use addresses::width;
 use format::Refusal;
-use octets::number32;
 ghost use mathlib.Core.Path.{_≡_};
 ghost use mathlib.Core.Bool.{_&&_};
-ghost use Prim.Native.Nat.{_+_, _≤_};
+ghost use Prim.Native.Nat.{_≤_};
 ghost use lib.Dec.{eqb};
 ghost use lib.ListN.{length, getD};
-ghost use Rattle.octets.specs.Octets.{numberAt};
 ghost use Rattle.records.specs.Sizes.{groupSize, sourceSize};
 ghost use Rattle.format.specs.Reader.{octets};
 ghost use Rattle.format.specs.Family.{familyOf};
@@ -74,20 +71,7 @@ pub fn is_group(ipv6: bool, g: &[u8]) -> bool
     is_multicast(ipv6, g[4])
 }
 
-// Whether the address at a place, which is there, is 0. Four octets are read as such: over `address_at` for both families
-// the compiler calls it, and does not put it into the loops over records.
-pub(crate) fn zero_at(ipv6: bool, s: &[u8], at: usize) -> bool
-    requires { ⌜ at + familyOf ipv6 .width ≤ length (now s) ⌝ }
-    ensures { λ r. ⌜ r ≡ eqb (numberAt (familyOf ipv6 .width) (now (s .entry)) at) 0 ⌝ }
-{
-    if ipv6 {
-        return is_zero(address_at(true, s, at));
-    }
-    number32(s, at) == 0
-}
-
-// The octets of a source that is allowed: the family, 00, an address, which may be 0 where the record allows it. Its first
-// octet is asked first, since it seldom is 0.
+// The octets of a source that is allowed: the family, 00, an address, which may be 0 where the record allows it.
 pub fn is_source(ipv6: bool, s: &[u8], zero_allowed: bool) -> bool
     ensures { λ r. ⌜ r ≡ (eqb (length (now (s .entry))) (sourceSize (familyOf ipv6 .width)) && sourceForm (familyOf ipv6) «zero_allowed» (now (s .entry))) ⌝ }
 {
@@ -97,13 +81,7 @@ pub fn is_source(ipv6: bool, s: &[u8], zero_allowed: bool) -> bool
     if !is_native(ipv6, s) {
         return false;
     }
-    if s[2] != 0 {
-        return true;
-    }
-    if zero_at(ipv6, s, 2) {
-        return zero_allowed;
-    }
-    true
+    may_be_source(ipv6, s, 2, zero_allowed)
 }
 
 // The octets of a group, or of a source.

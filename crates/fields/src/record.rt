@@ -4,7 +4,8 @@ use crate::field::bad;
 use crate::field::group_check;
 use crate::field::octets_check;
 use crate::field::source_check;
-use crate::field::zero_at;
+use addresses::address_at;
+use addresses::is_zero;
 use format::AssertFields;
 use format::Kind;
 use format::PairFields;
@@ -13,10 +14,26 @@ use format::Refusal;
 use format::r_bit;
 use octets::number32;
 ghost use mathlib.Core.Path.{_≡_};
+ghost use Prim.Native.Nat.{_+_, _≤_};
+ghost use lib.Dec.{eqb};
+ghost use lib.ListN.{length};
+ghost use Rattle.octets.specs.Octets.{numberAt};
 ghost use Rattle.format.specs.Family.{ipv4, familyOf};
 ghost use Rattle.format.specs.Record.{assertRecord, pairRecord, recordAt};
 ghost use Rattle.fields.specs.Answers.{checked, skipped, single, plainAssert, plainPair, plainRecord};
 ghost use Rattle.format.specs.Values.{assertOf, pairOf, recordOf};
+
+// Whether the address at a place, which is there, is 0. Four octets are read as such: over `address_at` for both families
+// the compiler calls it, and does not put it into the loops over records.
+fn zero_at(ipv6: bool, s: &[u8], at: usize) -> bool
+    requires { ⌜ at + familyOf ipv6 .width ≤ length (now s) ⌝ }
+    ensures { λ r. ⌜ r ≡ eqb (numberAt (familyOf ipv6 .width) (now (s .entry)) at) 0 ⌝ }
+{
+    if ipv6 {
+        return is_zero(address_at(true, s, at));
+    }
+    number32(s, at) == 0
+}
 
 // An assert record.
 pub fn assert_check(ipv6: bool, m: &[u8], at: usize) -> Checked

@@ -1,5 +1,6 @@
 -- The address family of a message. Every definition and theorem above is over a family; IPv4 is "the base", IPv6 comes with E7.
 --     Family            what tells one family from another
+--     multicast4, 6     the multicast addresses of both
 --     ipv4, ipv6        address families 1 and 2 of RFC 7761, 4.9.1
 --     familyOf          the family that code names by a bool
 --     mayBeSource       an address that a source field may hold
@@ -17,28 +18,37 @@ pub record Family : Type 0 where
   pub family : ℕ
   -- "The address must lie in 224.0.0.0/4 (ours)"
   pub isGroup : ℕ → Bool
-  -- an address other than 0 that a source may have (E5 narrows it)
+  -- an address that a source may have wherever 01 asks for one; whether it may be 0 is for the place to say
   pub isSource : ℕ → Bool
 
 -- a group's mask covers the whole address: "mask length 32"
 abbrev pub maskLength : Family → ℕ
 maskLength f = 8 * f .width
 
+-- 224.0.0.0/4
+abbrev pub multicast4 : ℕ → Bool
+multicast4 a = leb 0xe000_0000 a && ltb a 0xf000_0000
+
+-- ff00::/8
+abbrev pub multicast6 : ℕ → Bool
+multicast6 a = eqb (a / 2 ^ 120) 0xff
+
+-- "A source in 224.0.0.0/4, and 255.255.255.255, is refused in records, pairs and entries" (E5)
 abbrev pub ipv4 : Family
 ipv4 = record {
   width = 4;
   family = 1;
-  isGroup = λ a. leb 0xe000_0000 a && ltb a 0xf000_0000;
-  isSource = λ a. not (eqb a 0);
+  isGroup = multicast4;
+  isSource = λ a. not (eqb a 0 || multicast4 a || eqb a 0xffff_ffff);
 }
 
--- "family 2, addresses of 16 octets, mask 128, groups in ff00::/8" (E7)
+-- "family 2, addresses of 16 octets, mask 128, groups in ff00::/8", "E5's multicast rule applies with ff00::/8" (E7)
 abbrev pub ipv6 : Family
 ipv6 = record {
   width = 16;
   family = 2;
-  isGroup = λ a. eqb (a / 2 ^ 120) 0xff;
-  isSource = λ a. not (eqb a 0);
+  isGroup = multicast6;
+  isSource = λ a. not (eqb a 0 || multicast6 a);
 }
 
 -- whether it is IPv6

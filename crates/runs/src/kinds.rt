@@ -43,7 +43,7 @@ a Register-Stop message with two records
     );
 }
 
-// Accepted, though they are written otherwise.
+// Accepted, though they are written otherwise; and the sources beside those that are refused.
 fn accepted() {
     show_all(
         b"\
@@ -59,6 +59,8 @@ a run cut where it need not be
 2503efad000000000000006e0000001401000a0000010001ffff01000020e80101010000006e0000001401000a0000010001000001000020e8010102
 a Register-Stop message, low half of octet 1 set
 2d1fe7bd01000020e8010101010000000000
+sources 223.255.255.255, 240.0.0.0 and 255.255.255.254
+2501c80e0000000001000020e80101010100dfffffff0000006e0000001401000020e80101020100f00000008000006e0000001401000020e80101010100fffffffe0000006e00000014
 ",
     );
 }

@@ -56,7 +56,24 @@ fn pairs() {
     show_packed(b"packed: limit 37", low, &d);
 }
 
+// Two asserts, the second with R=1 from 224.0.0.1; two pairs, the second from 255.255.255.255.
+fn sources() {
+    let a =
+        b"\xe4\x01\x02\x03\x0a\x04\x05\x06\x07\x08\x09\x0a\x0b\x0c\x0d\x0e\xe5\x11\x12\x13\xe0\x00\x00\x01\x97\x18\x19\x1a\x1b\x1c\x1d\x1e";
+    let mut d = [0; 1480];
+    let first = packing::pack_aggregated(a, 0, 38, &mut d);
+    show_packed(b"packed: two asserts, the second from 224.0.0.1", first, &d);
+    let p = b"\xe9\x41\x42\x43\x0a\x44\x45\x46\xea\x51\x52\x53\xff\xff\xff\xff";
+    let stops = packing::pack_register_stop(p, 1, 0, &mut d);
+    show_packed(
+        b"packed: two Register-Stops, from the second, which is from 255.255.255.255",
+        stops,
+        &d,
+    );
+}
+
 pub(crate) fn run() {
     asserts();
     pairs();
+    sources();
 }

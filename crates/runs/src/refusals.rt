@@ -1,4 +1,4 @@
-// Damaged messages of crates/cases/specs/Faults.antt and Cuts.antt: a refusal of each number from 1 to 7, and 6 and 7 at every
+// Damaged messages, as in crates/cases/specs/Faults.antt, Cuts.antt and Sources.antt: a refusal of each number from 1 to 7, and 6 and 7 at every
 // sort of field.
 use listing::show_all;
 
@@ -136,10 +136,37 @@ the second pair with a unicast group
     );
 }
 
+// 7: a multicast source, and 255.255.255.255, in each form, whatever R says and whatever follows.
+fn source() {
+    show_all(
+        b"\
+source 224.0.0.0
+25000f5a01000020e80101010100e00000000000006e00000014
+source 255.255.255.255
+2500ef5a01000020e80101010100ffffffff0000006e00000014
+R=1 with source 239.255.255.255
+25007f5a01000020e80101010100efffffff8000006e00000014
+source 232.1.1.1, cut in the R word
+250086d901000020e80101010100e80101018000
+the second simple record, R=1 with source 224.0.0.1
+250199b00000000001000020e801010101000a0000010000006e0000001401000020e80101020100e00000018000006e00000014
+a source aggregated record, source 239.0.0.1
+25030055000000000000006e000000140100ef0000010001000001000020e8010101
+a group record, the second source 255.255.255.255
+25036e54000000008000006e000000140001000001000020e8010101000200000100000000000100ffffffff
+a Null-Register source 224.0.0.2
+2d0007da01000020e80101010100e0000002
+the second Register-Stop source 255.255.255.255
+2d10fca801000020e801010101000000000001000020e80101020100ffffffff
+",
+    );
+}
+
 pub(crate) fn run() {
     header();
     start();
     cut_assert();
     cut_packed();
     address();
+    source();
 }

@@ -5,13 +5,16 @@
 // small.rt         a sheet of two asserts, two pairs and two neighbours: each fault once, and cut at every octet
 // whole.rt         an empty sheet and a full one, written, checked, read and written again
 // refusals.rt      what reading and writing refuse
+// sources.rt       stored sheets with sources that are no longer allowed
 mod output;
 mod refusals;
 mod small;
+mod sources;
 mod whole;
 
 fn main() {
     small::run();
     whole::run();
     refusals::run();
+    sources::run();
 }

@@ -24,7 +24,7 @@ fn unused() -> Table {
     t
 }
 
-// The first list has an octet too many, the last an entry of no group.
+// The first list has an octet too many; the assert that is repeated has the multicast source 232.232.232.232, and the last is of no group.
 fn writing() {
     let part = [0xe8; 17];
     write(b"a list of 17 octets", &part, Table::empty(), 28);
@@ -33,6 +33,7 @@ fn writing() {
     let one = [0xe8; 16];
     write(b"a table with an unused row not 0", &one, unused(), 28);
     write(b"27 octets of room for 28", &one, Table::empty(), 27);
+    write(b"an assert from 232.232.232.232", &one, Table::empty(), 28);
     let none = [0; 16];
     write(b"an assert of no group", &none, Table::empty(), 28);
 }

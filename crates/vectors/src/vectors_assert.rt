@@ -22,7 +22,8 @@ vector assert 6, pimd 2.3.2 at 10.7.0.12
     );
 }
 
-// What tshark reads no pair of, 01 refuses: subtype 2, the Count word of draft 11, and a cut source.
+// What tshark reads no pair of, 01 refuses: subtype 2, the Count word of draft 11, and a cut source. The last one has a pair from
+// 255.255.255.255, which tshark reads and E5 refuses.
 fn registers() {
     show_all(
         b"\

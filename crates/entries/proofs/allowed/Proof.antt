@@ -2,18 +2,17 @@
 -- Assumes nothing.
 use Prim.Native.Nat.{_+_, _*_, _≤_}
 use native.Mathlib.Omega.{arith}
-use mathlib.Core.Path.{_≡_, sym, ap, _∙_}
+use mathlib.Core.Path.{_≡_, sym, _∙_}
 use lib.ListN.{length}
 use denote.Ref.{now}
 use borrow.Author.Tests.{not-true, not-false}
 use borrow.Author.Needs.{needs}
 use Rattle.octets.specs.Octets.{numberAt}
 use Rattle.format.specs.Family.{familyOf}
-use Rattle.entries.specs.Kinds.{zeroBy}
-use Rattle.entries.proofs.ByKind.{by-size, group-at, address-cut, allowed-is, some-source, no-source}
+use Rattle.addresses.proofs.Laws.{width-range, group-at}
+use Rattle.entries.proofs.ByKind.{by-size, source-cut, entry-no, entry-by}
 use Rattle.entries.proofs.allowed.Statement.{statement}
 use Rattle.entries.proofs.allowed.Tie as tie
-use Rattle.addresses.proofs.Laws.{width-range}
 
 -- group and source are there, in an entry of either size
 there : (c : tie.Start) → c .args .at + 2 * familyOf (c .args .ipv6) .width ≤ length (now (c .args .e))
@@ -31,32 +30,20 @@ group-is c =
 returns : tie.Need-returns
 returns c =
     let a = c .before .before .before .before .args in
-    rw (allowed-is (familyOf (a .ipv6)) (a .asserts) (a .stop) (now (a .e)) (a .at), group-is (c .before), not-true (c .before .is-multicast .result) (c .if1 .taken))
+    entry-no (familyOf (a .ipv6)) (a .asserts) (a .stop) (now (a .e)) (a .at) (group-is (c .before)) (not-true (c .before .is-multicast .result) (c .if1 .taken))
 
-part-address-at-end : tie.Need-part-address-at-end
-part-address-at-end c = omega (arith, there (c .before .before .before .before .before), c .width .ensures)
-
-source-is : (c : tie.After-is-source) → c .is-source .result ≡ familyOf (c .before .before .before .before .before .before .before .before .args .ipv6) .isSource (numberAt (familyOf (c .before .before .before .before .before .before .before .before .args .ipv6) .width) (now (c .before .before .before .before .before .before .before .before .args .e)) (c .before .before .before .before .before .before .before .before .args .at + familyOf (c .before .before .before .before .before .before .before .before .args .ipv6) .width))
-source-is c =
-    let a = c .before .before .before .before .before .before .before .before .args in
-    let w = c .before .before .before .width .result in
-    let same = c .before .before .before .width .ensures .0 in
-    c .is-source .ensures
-    ∙ ap (familyOf (a .ipv6) .isSource) (c .before .address-at .ensures ∙ address-cut (a .ipv6) (now (a .e)) (a .at + w) (a .at + 2 * w) (omega (arith, same)) (omega (arith, same, there (c .before .before .before .before .before .before .before .before))) ∙ rw same)
+part-may-be-source-end : tie.Need-part-may-be-source-end
+part-may-be-source-end c = omega (arith, there (c .before .before .before .before .before), c .width .ensures)
 
 returns-2 : tie.Need-returns-2
 returns-2 c =
-    let a = c .before .before .before .before .before .before .before .before .before .args in
-    let f = familyOf (a .ipv6) in
-    rw (allowed-is f (a .asserts) (a .stop) (now (a .e)) (a .at), group-is (c .before .before .before .before .before .before), not-false (c .before .before .before .before .before .before .is-multicast .result) (c .before .before .before .before .before .if1 .left))
-    (sym (some-source f (zeroBy f (a .asserts) (a .stop) (now (a .e)) (a .at)) _ (sym (source-is (c .before)) ∙ c .if2 .taken)))
-
-returns-3 : tie.Need-returns-3
-returns-3 c =
-    let a = c .before .before .before .before .before .before .before .before .before .before .args in
-    let f = familyOf (a .ipv6) in
-    rw (allowed-is f (a .asserts) (a .stop) (now (a .e)) (a .at), group-is (c .before .before .before .before .before .before .before), not-false (c .before .before .before .before .before .before .before .is-multicast .result) (c .before .before .before .before .before .before .if1 .left))
-    (c .zero-allowed .ensures ∙ sym (no-source (a .ipv6) (zeroBy f (a .asserts) (a .stop) (now (a .e)) (a .at)) _ (sym (source-is (c .before .before)) ∙ c .before .if2 .left)))
+    let w = c .before .before .before in
+    let m = w .before .before in
+    let s = m .before .before .before in
+    let a = s .args in
+    let there-whole : a .at + 2 * w .width .result ≤ length (now (a .e)) = omega (arith, there s, w .width .ensures) in
+    entry-by (familyOf (a .ipv6)) (a .asserts) (a .stop) (now (a .e)) (a .at) (group-is m) (not-false (m .is-multicast .result) (w .before .if1 .left))
+    (c .before .zero-allowed .ensures) (source-cut (a .ipv6) (now (a .e)) (a .at) (w .width .result) (w .width .ensures .0) there-whole) (c .may-be-source .ensures)
 
 pub allowed-spec : {M : Type 1} → statement M
 allowed-spec =
@@ -71,9 +58,7 @@ allowed-spec =
     (λ c. search needs)
     (λ c. search needs)
     (λ c. search needs)
-    part-address-at-end
+    part-may-be-source-end
     (λ c κs. search needs)
     (λ c κs. search needs)
-    returns-2
-    (λ c κs. search needs)
-    returns-3)
+    returns-2)

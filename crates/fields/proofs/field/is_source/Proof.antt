@@ -12,7 +12,8 @@ use Rattle.octets.specs.Octets.{numberAt}
 use Rattle.records.specs.Sizes.{sourceSize}
 use Rattle.format.specs.Family.{familyOf, mayBeSource}
 use Rattle.format.specs.Address.{sourceForm}
-use Rattle.fields.proofs.Fields.{sourceTest, source-form, source-first, source-zero, source-other}
+use Rattle.addresses.proofs.Laws.{address-there}
+use Rattle.fields.proofs.Fields.{sourceTest, source-form}
 use Rattle.fields.proofs.field.is_source.Statement.{statement}
 use Rattle.fields.proofs.field.is_source.Tie as tie
 
@@ -51,26 +52,10 @@ left c =
 
 returns-3 : tie.Need-returns-3
 returns-3 c =
-    let e = c .before .before in
+    let e = c .before in
     let a = start (past e) .args in
-    rw (left e) (source-first (a .ipv6) (a .zero-allowed) (now (a .s)) (λ i. c .before .shared-slice-known2 .given i .fits) (long (past e)) (c .if3 .taken))
-
-zero-at-requires : tie.Need-zero-at-requires
-zero-at-requires c κs = omega (arith, long (past (c .before .before)))
-
-returns-4 : tie.Need-returns-4
-returns-4 c =
-    let z = c .before in
-    let e = z .before .before .before in
-    let a = start (past e) .args in
-    rw (left e) (source-zero (a .ipv6) (a .zero-allowed) _ (z .zero-at .ensures) (c .if4 .taken))
-
-returns-5 : tie.Need-returns-5
-returns-5 c =
-    let z = c .before in
-    let e = z .before .before .before in
-    let a = start (past e) .args in
-    rw (left e) (source-other (a .ipv6) (a .zero-allowed) _ (z .zero-at .ensures) (c .if4 .left))
+    let f = familyOf (a .ipv6) in
+    rw (left e) (c .may-be-source .ensures ∙ ap (mayBeSource f (a .zero-allowed)) (address-there f (now (a .s)) 2 (omega (arith, long (past e)))))
 
 pub is-source-spec : {M : Type 1} → statement M
 is-source-spec =
@@ -81,8 +66,5 @@ is-source-spec =
     returns
     (λ c κs. search needs)
     returns-2
-    (λ c. search needs)
-    returns-3
-    zero-at-requires
-    returns-4
-    returns-5)
+    (λ c κs. search needs)
+    returns-3)

@@ -1,4 +1,4 @@
--- `fields::field::zero_at` meets its contract: four octets as they are, sixteen as an address that is there.
+-- `fields::record::zero_at` meets its contract: four octets as they are, sixteen as an address that is there.
 -- Assumes nothing.
 use mathlib.Core.Path.{ap, _∙_}
 use mathlib.Core.Bool.{true}
@@ -7,8 +7,8 @@ use denote.Ref.{now}
 use lib.Dec.{eqb}
 use Rattle.format.specs.Family.{familyOf}
 use Rattle.addresses.proofs.Laws.{address-there}
-use Rattle.fields.proofs.field.zero_at.Statement.{statement}
-use Rattle.fields.proofs.field.zero_at.Tie as tie
+use Rattle.fields.proofs.record.zero_at.Statement.{statement}
+use Rattle.fields.proofs.record.zero_at.Tie as tie
 
 returns : tie.Need-returns
 returns c =

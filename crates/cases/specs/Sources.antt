@@ -1,0 +1,143 @@
+-- "A source in 224.0.0.0/4, and 255.255.255.255, is refused in records, pairs and entries, wherever 01 asks for a source" (02, E5), worked out by
+-- hand: each place where a source stands, with each of these addresses there.
+--     real, shutOut       addresses of IPv4 that a source may have, and those that E5 shuts out
+--     Answer              accepted, or refused by a number at a place
+--     Place, places       a place, and what comes of a real source there, of one that is shut out, and of 0
+--     isPlace             whether a row holds of the definitions
+--     real6, shutOut6     the same addresses of IPv6, where nothing is like 255.255.255.255
+-- That every row holds is one computation, in proofs/Sources.antt. Assumes nothing: these are definitions.
+use Prim.Native.Nat.{ℕ}
+use mathlib.Core.Bool.{Bool, true, false, not, _&&_}
+use mathlib.Core.List.{List, [], _∷_}
+use lib.ListN.{replicate}
+use Rattle.octets.specs.Octets.{be, _&_}
+use Rattle.format.specs.Outcome.{Outcome, gives, refuses}
+use Rattle.format.specs.Reader.{from}
+use Rattle.format.specs.Family.{Family, ipv4, ipv6, mayBeSource}
+use Rattle.format.specs.Header.{message}
+use Rattle.format.specs.Entry.{Entries}
+use Rattle.format.specs.Record.{recordAt}
+use Rattle.format.specs.Unpacking.{unpackAsserts, unpackPairs}
+use Rattle.format.specs.Packing.{Form, plain, simple, aggregated, nullRegister, registerStop, packing}
+use Rattle.format.specs.declared.Kind.{Kind}
+use Rattle.format.specs.declared.Kind.the-variants.{Hello, Assert, Simple, Aggregated, NullRegister, RegisterStop}
+use Rattle.hello.specs.Hello.{readHello}
+use Rattle.cases.specs.Faults.{refusedWith}
+use Rattle.cases.specs.Cuts.{isGiven}
+
+-- 0.0.0.1, 10.0.0.1, 223.255.255.255, 240.0.0.0, 240.0.0.1, 255.255.255.254
+unfoldable pub real : List ℕ
+real = 1 ∷ 0x0a00_0001 ∷ 0xdfff_ffff ∷ 0xf000_0000 ∷ 0xf000_0001 ∷ 0xffff_fffe ∷ []
+
+-- 224.0.0.0, 232.1.1.1, 239.255.255.255, 255.255.255.255
+unfoldable pub shutOut : List ℕ
+shutOut = 0xe000_0000 ∷ 0xe801_0101 ∷ 0xefff_ffff ∷ 0xffff_ffff ∷ []
+
+pub data Answer : Type 0 where
+  accepted : Answer
+  refused : ℕ → ℕ → Answer
+
+-- the octets before the address, and those after it, as their number and a numeral; then the three answers
+pub data Place : Type 1 where
+  -- in the body of a message of a kind, which is sealed with each address
+  inMessage : Kind → ℕ → ℕ → ℕ → ℕ → Answer → Answer → Answer → Place
+  -- in a record of a kind that is read singly after two octets
+  inRecord : Kind → ℕ → ℕ → ℕ → ℕ → Answer → Answer → Answer → Place
+  -- in the entries of a packing call with limit 0 and a buffer of that size
+  inEntries : {E : Entries} → Form E → ℕ → ℕ → ℕ → ℕ → Answer → Answer → Answer → Place
+
+unfoldable pub isAnswer : {A : Type 0} → Answer → Outcome A → Bool
+isAnswer accepted x = isGiven x
+isAnswer (refused n p) x = refusedWith n p x
+
+unfoldable pub allAnswer : {A : Type 0} → (ℕ → Outcome A) → Answer → List ℕ → Bool
+allAnswer call a [] = true
+allAnswer call a (s ∷ l) = isAnswer a (call s) && allAnswer call a l
+
+unfoldable pub three : {A : Type 0} → (ℕ → Outcome A) → Answer → Answer → Answer → Bool
+three call r o z = allAnswer call r real && allAnswer call o shutOut && isAnswer z (call 0)
+
+unfoldable pub around : ℕ → ℕ → ℕ → ℕ → ℕ → List ℕ
+around i before j after s = be i before & be 4 s & be j after
+
+unfoldable pub isPlace : Place → Bool
+isPlace (inMessage Hello i x j y r o z) = three (λ s. readHello (message Hello (around i x j y s))) r o z
+isPlace (inMessage Assert i x j y r o z) = three (λ s. unpackAsserts ipv4 (message Assert (around i x j y s))) r o z
+isPlace (inMessage Simple i x j y r o z) = three (λ s. unpackAsserts ipv4 (message Simple (around i x j y s))) r o z
+isPlace (inMessage Aggregated i x j y r o z) = three (λ s. unpackAsserts ipv4 (message Aggregated (around i x j y s))) r o z
+isPlace (inMessage NullRegister i x j y r o z) = three (λ s. unpackPairs ipv4 (message NullRegister (around i x j y s))) r o z
+isPlace (inMessage RegisterStop i x j y r o z) = three (λ s. unpackPairs ipv4 (message RegisterStop (around i x j y s))) r o z
+isPlace (inRecord k i x j y r o z) = three (λ s. from 2 (recordAt ipv4 k) (around i x j y s)) r o z
+isPlace (inEntries F i x j y r o z) = three (λ s. packing F (around i x j y s) 0 0 (replicate 556 0) .answer) r o z
+
+unfoldable pub allPlaces : List Place → Bool
+allPlaces [] = true
+allPlaces (p ∷ l) = isPlace p && allPlaces l
+
+unfoldable pub places : List Place
+places =
+    -- a plain assert, with R=0 and with R=1
+    inMessage Assert 10 0x01000020e8010101_0100 8 0x0000006e_00000014 accepted (refused 7 12) (refused 7 12)
+    ∷ inMessage Assert 10 0x01000020e8010101_0100 8 0x8000006e_00000014 accepted (refused 7 12) accepted
+    -- it is found at the source: before the R word, and cut in it
+    ∷ inMessage Assert 10 0x01000020e8010101_0100 0 0 (refused 6 18) (refused 7 12) (refused 6 18)
+    ∷ inMessage Assert 10 0x01000020e8010101_0100 3 0x800000 (refused 6 18) (refused 7 12) (refused 6 18)
+    -- after a bad group, and of family 2: 7 whatever the address
+    ∷ inMessage Assert 10 0x0100001fe8010101_0100 8 0x8000006e_00000014 (refused 7 4) (refused 7 4) (refused 7 4)
+    ∷ inMessage Assert 10 0x01000020e8010101_0200 8 0x8000006e_00000014 (refused 7 12) (refused 7 12) (refused 7 12)
+    -- a simple message: the second record, with R=0 and with R=1; the first, where the second is cut
+    ∷ inMessage Simple 36 0x00000000_01000020e8010101_01000a000001_0000006e_00000014_01000020e8010102_0100 8 0x0000006e_00000014 accepted (refused 7 38) (refused 7 38)
+    ∷ inMessage Simple 36 0x00000000_01000020e8010101_01000a000001_0000006e_00000014_01000020e8010102_0100 8 0x8000006e_00000014 accepted (refused 7 38) accepted
+    ∷ inMessage Simple 14 0x00000000_01000020e8010101_0100 11 0x8000006e_00000014_010000 (refused 6 30) (refused 7 16) (refused 6 30)
+    -- a source aggregated record; before a number of groups that is 0; the second record
+    ∷ inMessage Aggregated 14 0x00000000_0000006e_00000014_0100 12 0x0001_0000_01000020e8010101 accepted (refused 7 16) (refused 7 16)
+    ∷ inMessage Aggregated 14 0x00000000_0000006e_00000014_0100 4 0x0000_0000 (refused 6 22) (refused 7 16) (refused 7 16)
+    ∷ inMessage Aggregated 40 0x00000000_0000006e_00000014_01000a000001_0001_0000_01000020e8010101_0000006e_00000014_0100 12 0x0001_0000_01000020e8010101 accepted (refused 7 42) (refused 7 42)
+    -- an RP aggregated record: the first source of a group record, the second one, the first where the second is missing
+    ∷ inMessage Aggregated 30 0x00000000_8000006e_00000014_0001_0000_01000020e8010101_0002_0000_0100 6 0x01000a000001 accepted (refused 7 32) accepted
+    ∷ inMessage Aggregated 36 0x00000000_8000006e_00000014_0001_0000_01000020e8010101_0002_0000_01000a000001_0100 0 0 accepted (refused 7 38) accepted
+    ∷ inMessage Aggregated 30 0x00000000_8000006e_00000014_0001_0000_01000020e8010101_0002_0000_0100 0 0 (refused 6 38) (refused 7 32) (refused 6 38)
+    -- pairs: the first and the second of each kind
+    ∷ inMessage NullRegister 10 0x01000020e8010101_0100 0 0 accepted (refused 7 12) (refused 7 12)
+    ∷ inMessage NullRegister 24 0x01000020e8010101_01000a000001_01000020e8010102_0100 0 0 accepted (refused 7 26) (refused 7 26)
+    ∷ inMessage RegisterStop 10 0x01000020e8010101_0100 0 0 accepted (refused 7 12) accepted
+    ∷ inMessage RegisterStop 24 0x01000020e8010101_010000000000_01000020e8010102_0100 0 0 accepted (refused 7 26) accepted
+    -- records read singly: an assert with R=1, cut in its R word, and with R=0; pairs
+    ∷ inRecord Assert 12 0xffff_01000020e8010101_0100 8 0x8000006e_00000014 accepted (refused 7 10) accepted
+    ∷ inRecord Assert 12 0xffff_01000020e8010101_0100 2 0x8000 (refused 6 16) (refused 7 10) (refused 6 16)
+    ∷ inRecord Simple 12 0xffff_01000020e8010101_0100 8 0x0000006e_00000014 accepted (refused 7 10) (refused 7 10)
+    ∷ inRecord NullRegister 12 0xffff_01000020e8010101_0100 0 0 accepted (refused 7 10) (refused 7 10)
+    ∷ inRecord RegisterStop 12 0xffff_01000020e8010101_0100 0 0 accepted (refused 7 10) accepted
+    -- entries: the second of two asserts, with R=0 and with R=1; the second of two pairs
+    ∷ inEntries (plain ipv4) 20 0xe8010101_0a000001_0000006e_00000014_e8010102 8 0x0000006e_00000014 accepted (refused 7 1) (refused 7 1)
+    ∷ inEntries (simple ipv4) 20 0xe8010101_0a000001_0000006e_00000014_e8010102 8 0x0000006e_00000014 accepted (refused 7 1) (refused 7 1)
+    ∷ inEntries (simple ipv4) 20 0xe8010101_0a000001_0000006e_00000014_e8010102 8 0x8000006e_00000014 accepted (refused 7 1) accepted
+    ∷ inEntries (aggregated ipv4) 20 0xe8010101_0a000001_0000006e_00000014_e8010102 8 0x0000006e_00000014 accepted (refused 7 1) (refused 7 1)
+    ∷ inEntries (aggregated ipv4) 20 0xe8010101_0a000001_0000006e_00000014_e8010102 8 0x8000006e_00000014 accepted (refused 7 1) accepted
+    ∷ inEntries (nullRegister ipv4) 12 0xe8010101_0a000001_e8010102 0 0 accepted (refused 7 1) (refused 7 1)
+    ∷ inEntries (registerStop ipv4) 12 0xe8010101_0a000001_e8010102 0 0 accepted (refused 7 1) accepted
+    -- a list that is not whole is 10 first
+    ∷ inEntries (registerStop ipv4) 12 0xe8010101_0a000001_e8010102 1 0 (refused 10 0) (refused 10 0) (refused 10 0)
+    ∷ []
+
+-- ---- IPv6
+
+-- ::1, 2001:db8::1, feff:ffff:ffff:ffff:ffff:ffff:ffff:ffff
+unfoldable pub real6 : List ℕ
+real6 = 1 ∷ 0x2001_0db8_0000_0000_0000_0000_0000_0001 ∷ 0xfeff_ffff_ffff_ffff_ffff_ffff_ffff_ffff ∷ []
+
+-- ff00::, ff3e::1, ffff:ffff:ffff:ffff:ffff:ffff:ffff:ffff
+unfoldable pub shutOut6 : List ℕ
+shutOut6 = 0xff00_0000_0000_0000_0000_0000_0000_0000 ∷ 0xff3e_0000_0000_0000_0000_0000_0000_0001 ∷ 0xffff_ffff_ffff_ffff_ffff_ffff_ffff_ffff ∷ []
+
+-- whether a field that may hold 0, and one that may not, takes all addresses of a list, or none
+unfoldable pub allTaken : Family → Bool → List ℕ → Bool
+allTaken f taken [] = true
+allTaken f true (a ∷ l) = mayBeSource f true a && mayBeSource f false a && allTaken f true l
+allTaken f false (a ∷ l) = not (mayBeSource f true a) && not (mayBeSource f false a) && allTaken f false l
+
+unfoldable pub allRight : Bool
+allRight =
+    allPlaces places && allTaken ipv4 true real && allTaken ipv4 false shutOut && allTaken ipv6 true real6 && allTaken ipv6 false shutOut6
+    && mayBeSource ipv6 true 0
+    && not (mayBeSource ipv6 false 0)
