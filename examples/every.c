@@ -3,8 +3,8 @@
  * when this file is compiled.
  *
  * In order: layout; constants; the most entries of a message; messages read; the field at fault; messages written;
- * neighbours and election; counters; the report of a file; Pop-Count attributes; the stored sheet; the checksum; lent
- * memory (NULL, the same memory twice, any alignment).
+ * neighbours and election; counters; the report of a file; Pop-Count attributes; the stored sheet; the checksum;
+ * addresses that are no sources, in all of these; lent memory (NULL, the same memory twice, any alignment).
  *
  * Build and run it from the top of the repository, as C99 or as C++ (.ci/face does both):
  *
@@ -28,7 +28,7 @@
 #define FIELD(type, field, at, size) HOLDS(offsetof(type, field) == (at) && sizeof(((type *)0)->field) == (size))
 
 /* Whoever changes a size, an offset, a constant or a place that is asserted here raises the version. */
-HOLDS(PIM_VERSION == 6);
+HOLDS(PIM_VERSION == 7);
 
 HOLDS(sizeof(size_t) == 8);
 HOLDS(sizeof(bool) == 1);
@@ -652,11 +652,12 @@ static pim_refusal read_pair_record(uint8_t *octets, size_t n)
     return CALLED(pim_read_record(PIM_NULL_REGISTER, octets, n, 3)).refusal;
 }
 
+/* Group, source, R word and metric at 4, 12, 18 and 22. */
+static const uint8_t plain_record[26] = {0x25, 0,    0, 0, 1, 0, 0, 32, 0xe8, 1, 1, 1, 1,
+                                         0,    0x0a, 0, 0, 1, 0, 0, 0,  0x6e, 0, 0, 0, 0x14};
+
 static void plain_at_fault(void)
 {
-    /* group, source, R word and metric at 4, 12, 18 and 22 */
-    static const uint8_t m[26] = {0x25, 0,    0, 0, 1, 0, 0, 32, 0xe8, 1, 1, 1, 1,
-                                  0,    0x0a, 0, 0, 1, 0, 0, 0,  0x6e, 0, 0, 0, 0x14};
     static const cut cuts[] = {{4, 11, 4}, {12, 17, 12}, {18, 21, 18}, {22, 25, 22}};
     static const fault faults[] = {
         /* a group of another family, with another mask, and 223.1.1.1 */
@@ -672,18 +673,31 @@ static void plain_at_fault(void)
         {14, 4, 0, 25, PIM_BAD_ADDRESS, 12},
         {14, 4, 0, 22, PIM_BAD_ADDRESS, 12},
         {14, 4, 0, 21, PIM_CUT, 18},
+        /* source 224.0.0.1: cut in the metric, cut in the R word, without it, cut itself */
+        {14, 1, 224, 25, PIM_BAD_ADDRESS, 12},
+        {14, 1, 224, 21, PIM_BAD_ADDRESS, 12},
+        {14, 1, 224, 18, PIM_BAD_ADDRESS, 12},
+        {14, 1, 224, 17, PIM_CUT, 12},
+        /* source 255.255.255.255, R=1: cut in the R word, without it, cut itself */
+        {14, 5, 255, 21, PIM_BAD_ADDRESS, 12},
+        {14, 4, 255, 18, PIM_BAD_ADDRESS, 12},
+        {14, 4, 255, 17, PIM_CUT, 12},
+        /* sources 240.0.0.1 and 255.255.255.1, and the R word cut */
+        {14, 1, 240, 21, PIM_CUT, 18},
+        {14, 3, 255, 21, PIM_CUT, 18},
     };
 
-    EACH(cut, m, cuts, read_asserts);
-    EACH(fault, m, faults, read_asserts);
+    EACH(cut, plain_record, cuts, read_asserts);
+    EACH(fault, plain_record, faults, read_asserts);
 }
+
+/* Zero and Reserved at 4 and 5; group, source, R word and metric at 8, 16, 22 and 26, and at 30, 38, 44 and 48. */
+static const uint8_t simple_records[52] = {0x25, 1, 0, 0, 0, 0, 0, 0,    1,    0, 0, 32,   0xe8, 1, 1, 1,   1,    0,
+                                           0x0a, 0, 0, 1, 0, 0, 0, 0x6e, 0,    0, 0, 0x14, 1,    0, 0, 32,  0xe8, 1,
+                                           1,    2, 1, 0, 0, 0, 0, 0,    0x80, 0, 0, 0x6e, 0,    0, 0, 0x14};
 
 static void simple_at_fault(void)
 {
-    /* Zero and Reserved at 4 and 5; group, source, R word and metric at 8, 16, 22 and 26, and at 30, 38, 44 and 48 */
-    static const uint8_t m[52] = {0x25, 1, 0, 0, 0, 0, 0, 0,    1,    0, 0, 32,   0xe8, 1, 1, 1,   1,    0,
-                                  0x0a, 0, 0, 1, 0, 0, 0, 0x6e, 0,    0, 0, 0x14, 1,    0, 0, 32,  0xe8, 1,
-                                  1,    2, 1, 0, 0, 0, 0, 0,    0x80, 0, 0, 0x6e, 0,    0, 0, 0x14};
     static const cut cuts[] = {{4, 4, 4},    {5, 7, 5},    {9, 15, 8},   {16, 21, 16}, {22, 25, 22},
                                {26, 29, 26}, {31, 37, 30}, {38, 43, 38}, {44, 47, 44}, {48, 51, 48}};
     static const fault faults[] = {
@@ -694,10 +708,17 @@ static void simple_at_fault(void)
         {44, 1, 0, 52, PIM_BAD_ADDRESS, 38},
         {44, 1, 0, 51, PIM_BAD_ADDRESS, 38},
         {44, 1, 0, 47, PIM_CUT, 44},
+        /* the first source 224.0.0.1, and the second record cut in its group, its source and its metric */
+        {18, 1, 224, 31, PIM_BAD_ADDRESS, 16},
+        {18, 1, 224, 43, PIM_BAD_ADDRESS, 16},
+        {18, 1, 224, 51, PIM_BAD_ADDRESS, 16},
+        /* the second source 239.0.0.0, with its R word cut, and cut itself */
+        {40, 1, 239, 47, PIM_BAD_ADDRESS, 38},
+        {40, 1, 239, 43, PIM_CUT, 38},
     };
 
-    EACH(cut, m, cuts, read_asserts);
-    EACH(fault, m, faults, read_asserts);
+    EACH(cut, simple_records, cuts, read_asserts);
+    EACH(fault, simple_records, faults, read_asserts);
 }
 
 /* Zero and Reserved at 4 and 5. R word, metric, source, number and reserved of a source aggregated record at 8, 12, 16,
@@ -734,26 +755,40 @@ static void aggregated_at_fault(void)
         {23, 1, 3, 42, PIM_CUT, 42},
         {51, 1, 3, 90, PIM_CUT, 90},
         {87, 1, 1, 90, PIM_CUT, 90},
+        /* the source 224.0.0.1, with nothing after it, and cut itself */
+        {18, 1, 224, 22, PIM_BAD_ADDRESS, 16},
+        {18, 1, 224, 21, PIM_CUT, 16},
+        /* the second source of a group record 255.255.255.255, with nothing after it, and cut itself */
+        {74, 4, 255, 78, PIM_BAD_ADDRESS, 72},
+        {74, 4, 255, 77, PIM_CUT, 72},
     };
 
     EACH(cut, aggregated_records, cuts, read_asserts);
     EACH(fault, aggregated_records, faults, read_asserts);
 }
 
+/* Group and source at 4 and 12, and at 18 and 26. */
+static const uint8_t pair_records[32] = {0x2d, 0, 0, 0, 1, 0,  0,    32, 0xe8, 1, 1, 1, 1,    0, 0x0a, 0,
+                                         0,    1, 1, 0, 0, 32, 0xe8, 1,  1,    2, 1, 0, 0x0a, 0, 0,    2};
+
 static void pairs_at_fault(void)
 {
-    /* group and source at 4 and 12, and at 18 and 26 */
-    static const uint8_t m[32] = {0x2d, 0, 0, 0, 1, 0,  0,    32, 0xe8, 1, 1, 1, 1,    0, 0x0a, 0,
-                                  0,    1, 1, 0, 0, 32, 0xe8, 1,  1,    2, 1, 0, 0x0a, 0, 0,    2};
     static const cut cuts[] = {{5, 11, 4}, {12, 17, 12}, {19, 25, 18}, {26, 31, 26}};
     static const fault faults[] = {
         /* in the second pair: the group of another family, and 240.1.1.2; the source of another family, 0, 0 and cut */
-        {18, 1, 2, 32, PIM_BAD_ADDRESS, 18}, {22, 1, 240, 32, PIM_BAD_ADDRESS, 18}, {26, 1, 2, 32, PIM_BAD_ADDRESS, 26},
-        {28, 4, 0, 32, PIM_BAD_ADDRESS, 26}, {28, 4, 0, 31, PIM_CUT, 26},
+        {18, 1, 2, 32, PIM_BAD_ADDRESS, 18},
+        {22, 1, 240, 32, PIM_BAD_ADDRESS, 18},
+        {26, 1, 2, 32, PIM_BAD_ADDRESS, 26},
+        {28, 4, 0, 32, PIM_BAD_ADDRESS, 26},
+        {28, 4, 0, 31, PIM_CUT, 26},
+        /* the first source 224.0.0.1, and the second pair cut; the second 255.255.255.255 and cut */
+        {14, 1, 224, 18, PIM_BAD_ADDRESS, 12},
+        {14, 1, 224, 31, PIM_BAD_ADDRESS, 12},
+        {28, 4, 255, 31, PIM_CUT, 26},
     };
 
-    EACH(cut, m, cuts, read_pairs);
-    EACH(fault, m, faults, read_pairs);
+    EACH(cut, pair_records, cuts, read_pairs);
+    EACH(fault, pair_records, faults, read_pairs);
 }
 
 static void hellos_at_fault(void)
@@ -789,11 +824,16 @@ static void records_at_fault(void)
         {3, 1, 2, 25, PIM_BAD_ADDRESS, 3},
         {12, 1, 1, 25, PIM_BAD_ADDRESS, 11},
         {13, 4, 0, 25, PIM_BAD_ADDRESS, 11},
+        /* 224.0.0.1 with nothing after it, and cut */
+        {13, 1, 224, 17, PIM_BAD_ADDRESS, 11},
+        {13, 1, 224, 16, PIM_CUT, 11},
     };
     static const fault assert_faults[] = {
         /* source 0, R=0: without the metric, cut in the R word */
         {13, 4, 0, 21, PIM_BAD_ADDRESS, 11},
         {13, 4, 0, 20, PIM_CUT, 17},
+        /* source 255.255.255.255, and the R word cut */
+        {13, 4, 255, 20, PIM_BAD_ADDRESS, 11},
     };
 
     EACH(cut, o, cuts, read_pair_record);
@@ -1563,14 +1603,303 @@ static void checksums(void)
     EXPECT(CALLED(pim_checksum(odd, sizeof odd)) == 0xffff - 0x3901);
 }
 
+/* ---- addresses that are no sources */
+
+/* 224.0.0.0, 239.255.255.255 and 255.255.255.255; and sources about their borders, 0.0.0.1, 223.255.255.255, 240.0.0.0,
+ * 240.0.0.1 and 255.255.255.254. */
+enum { NO_SOURCES = 3, SOURCES = 5 };
+static const uint8_t no_sources[NO_SOURCES][4] = {{224, 0, 0, 0}, {239, 255, 255, 255}, {255, 255, 255, 255}};
+static const uint8_t sources[SOURCES][4] = {
+    {0, 0, 0, 1}, {223, 255, 255, 255}, {240, 0, 0, 0}, {240, 0, 0, 1}, {255, 255, 255, 254}};
+static const uint8_t source_0[4] = {0, 0, 0, 0};
+
+/* A message with another octet 1 and the source at `place`, and with R=1 after it where `r` is true. The source may be
+ * 0 where `zero` is true. */
+typedef struct {
+    const uint8_t *good;
+    size_t n, place;
+    uint8_t octet_1;
+    bool r, zero;
+} with_source;
+
+static const with_source with_sources[] = {
+    {plain_record, 26, 12, 0, false, false},      {plain_record, 26, 12, 0, true, true},
+    {simple_records, 52, 16, 1, false, false},    {simple_records, 52, 16, 1, true, true},
+    {simple_records, 52, 38, 1, true, true},      {aggregated_records, 90, 16, 3, false, false},
+    {aggregated_records, 90, 66, 3, false, true}, {aggregated_records, 90, 72, 3, false, true},
+    {pair_records, 32, 12, 0, false, false},      {pair_records, 32, 26, 0, false, false},
+    {pair_records, 32, 12, 0x10, false, true},    {pair_records, 32, 26, 0x10, false, true},
+};
+
+/* The message with an address as its source, read and counted: both refuse it, or neither does. */
+static pim_refusal read_source(const with_source *w, const uint8_t *address)
+{
+    uint8_t m[90], entries[6 * PIM_ASSERT_ENTRY];
+    pim_read_answer read;
+    pim_tally t;
+
+    memcpy(m, w->good, w->n);
+    m[1] = w->octet_1;
+    put(m, w->place + 2, address, 4);
+    if (w->r)
+        m[w->place + 6] = 0x80;
+    seal(m, w->n);
+    memset(entries, UNTOUCHED, sizeof entries);
+    read = m[0] == 0x2d ? CALLED(pim_read_pairs(m, w->n, entries, sizeof entries))
+                        : CALLED(pim_read_asserts(m, w->n, entries, sizeof entries));
+    EXPECT((read.refusal.number == 0) != (read.count == 0 && untouched(entries, 0, sizeof entries)));
+    t = CALLED(pim_tally_message(CALLED(pim_tally_none()), m, w->n));
+    EXPECT(t.refused[PIM_BAD_ADDRESS] == (read.refusal.number == PIM_BAD_ADDRESS));
+    return read.refusal;
+}
+
+static void sources_in_messages(void)
+{
+    size_t i, j;
+
+    for (i = 0; i < sizeof with_sources / sizeof with_sources[0]; i++) {
+        const with_source *w = &with_sources[i];
+
+        for (j = 0; j < NO_SOURCES; j++)
+            EXPECT(refused(read_source(w, no_sources[j]), PIM_BAD_ADDRESS, w->place));
+        for (j = 0; j < SOURCES; j++)
+            EXPECT(accepted(read_source(w, sources[j])));
+        if (w->zero)
+            EXPECT(accepted(read_source(w, source_0)));
+        else
+            EXPECT(refused(read_source(w, source_0), PIM_BAD_ADDRESS, w->place));
+    }
+}
+
+/* What comes first in the message is found first. */
+static void sources_in_order(void)
+{
+    uint8_t m[52];
+
+    memcpy(m, plain_record, 26);
+    m[8] = 10; /* its group, and its source */
+    m[14] = 224;
+    refuses(read_asserts, m, 26, PIM_BAD_ADDRESS, 4);
+    memcpy(m, pair_records, 32);
+    m[22] = 10; /* the second group, and its source */
+    m[28] = 224;
+    refuses(read_pairs, m, 32, PIM_BAD_ADDRESS, 18);
+    memcpy(m, simple_records, 52);
+    m[8] = 2; /* the first group, and the second source */
+    m[40] = 224;
+    refuses(read_asserts, m, 52, PIM_BAD_ADDRESS, 8);
+    memcpy(m, simple_records, 52);
+    m[18] = 224; /* the first source, and the second group */
+    m[30] = 2;
+    refuses(read_asserts, m, 52, PIM_BAD_ADDRESS, 16);
+}
+
+/* A record at 4 of the plain assert, read singly: its source is at 12. */
+static pim_refusal read_single(uint8_t kind, uint8_t r, const uint8_t *address)
+{
+    uint8_t o[26];
+
+    memcpy(o, plain_record, sizeof o);
+    put(o, 14, address, 4);
+    o[18] = r;
+    return CALLED(pim_read_record(kind, o, sizeof o, 4)).refusal;
+}
+
+static void sources_in_records(void)
+{
+    static const struct {
+        uint8_t kind, r;
+        bool zero;
+    } kinds[] = {{PIM_ASSERT, 0, false},   {PIM_ASSERT, 0x80, true},      {PIM_SIMPLE, 0, false},
+                 {PIM_SIMPLE, 0x80, true}, {PIM_NULL_REGISTER, 0, false}, {PIM_REGISTER_STOP, 0, true}};
+    size_t i, j;
+
+    for (i = 0; i < sizeof kinds / sizeof kinds[0]; i++) {
+        uint8_t kind = kinds[i].kind, r = kinds[i].r;
+
+        for (j = 0; j < NO_SOURCES; j++)
+            EXPECT(refused(read_single(kind, r, no_sources[j]), PIM_BAD_ADDRESS, 12));
+        for (j = 0; j < SOURCES; j++)
+            EXPECT(accepted(read_single(kind, r, sources[j])));
+        if (kinds[i].zero)
+            EXPECT(accepted(read_single(kind, r, source_0)));
+        else
+            EXPECT(refused(read_single(kind, r, source_0), PIM_BAD_ADDRESS, 12));
+    }
+}
+
+/* The packing calls; octets of an entry; and of a message of one entry, with R=0 and with R=1. */
+static const struct {
+    pim_pack_answer (*pack)(const uint8_t *, size_t, size_t, size_t, uint8_t *, size_t);
+    size_t entry, lengths[2];
+} packings[5] = {{pim_pack_assert, 16, {26, 26}},
+                 {pim_pack_simple, 16, {30, 30}},
+                 {pim_pack_aggregated, 16, {34, 38}},
+                 {pim_pack_null_register, 8, {18, 18}},
+                 {pim_pack_register_stop, 8, {18, 18}}};
+
+/* Entries of the example, with R as said; a source in the second and in the fourth. */
+static void make_four(uint8_t *entries, size_t entry, uint8_t r, const uint8_t *second, const uint8_t *fourth)
+{
+    size_t i;
+
+    for (i = 0; i < 4; i++) {
+        memcpy(entries + entry * i, example_entry, entry);
+        if (entry == PIM_ASSERT_ENTRY)
+            entries[entry * i + 8] = r;
+    }
+    put(entries, entry + 4, second, 4);
+    put(entries, 3 * entry + 4, fourth, 4);
+}
+
+/* The first bad entry from the start on, which the message would not take; one before the start is not looked at. */
+static void sources_packed(void)
+{
+    uint8_t e[4 * PIM_ASSERT_ENTRY], buffer[38];
+    size_t i, j, r;
+
+    for (i = 0; i < 5; i++)
+        for (r = 0; r < 2; r++) {
+            const size_t entry = packings[i].entry, size = 4 * entry, length = packings[i].lengths[r];
+
+            memset(buffer, UNTOUCHED, sizeof buffer);
+            for (j = 0; j < NO_SOURCES; j++) {
+                make_four(e, entry, (uint8_t)(r << 7), no_sources[j], no_sources[j]);
+                EXPECT(refused(CALLED(packings[i].pack(e, size - 1, 0, 37, buffer, 37)).refusal, PIM_BAD_LIMIT, 0));
+                EXPECT(refused(CALLED(packings[i].pack(e, size - 1, 0, 38, buffer, 37)).refusal, PIM_NO_ROOM, 0));
+                EXPECT(refused(CALLED(packings[i].pack(e, size - 1, 0, 38, buffer, 38)).refusal, PIM_BAD_LIST, 0));
+                EXPECT(refused(CALLED(packings[i].pack(e, size, 0, 38, buffer, 38)).refusal, PIM_BAD_ADDRESS, 1));
+                EXPECT(refused(CALLED(packings[i].pack(e, size, 1, 38, buffer, 38)).refusal, PIM_BAD_ADDRESS, 1));
+                EXPECT(refused(CALLED(packings[i].pack(e, size, 2, 38, buffer, 38)).refusal, PIM_BAD_ADDRESS, 3));
+                EXPECT(packed(CALLED(packings[i].pack(e, size, 4, 38, buffer, 38)), 0, 0));
+            }
+            EXPECT(untouched(buffer, 0, sizeof buffer));
+            for (j = 0; j < SOURCES; j++) {
+                make_four(e, entry, (uint8_t)(r << 7), no_sources[0], sources[j]);
+                EXPECT(packed(CALLED(packings[i].pack(e, size, 3, 38, buffer, 38)), length, 1));
+            }
+        }
+}
+
+/* The same of the choice. One entry takes 30 octets as simple, 34 or 38 as aggregated. */
+static void sources_chosen(void)
+{
+    uint8_t e[4 * PIM_ASSERT_ENTRY], s[38], a[38];
+    pim_choice_answer c;
+    size_t j;
+
+    memset(s, UNTOUCHED, sizeof s);
+    memset(a, UNTOUCHED, sizeof a);
+    for (j = 0; j < 2 * NO_SOURCES; j++) {
+        make_four(e, 16, (uint8_t)(j % 2 << 7), no_sources[j / 2], no_sources[j / 2]);
+        EXPECT(refused(CALLED(pim_pack_both(e, 64, 0, 38, s, 38, a, 37)).refusal, PIM_NO_ROOM, 0));
+        EXPECT(refused(CALLED(pim_pack_both(e, 63, 0, 38, s, 38, a, 38)).refusal, PIM_BAD_LIST, 0));
+        EXPECT(refused(CALLED(pim_pack_both(e, 64, 0, 38, s, 38, a, 38)).refusal, PIM_BAD_ADDRESS, 1));
+        EXPECT(refused(CALLED(pim_pack_both(e, 64, 2, 38, s, 38, a, 38)).refusal, PIM_BAD_ADDRESS, 3));
+    }
+    EXPECT(untouched(s, 0, sizeof s) && untouched(a, 0, sizeof a));
+    for (j = 0; j < SOURCES; j++) {
+        make_four(e, 16, 0x80, no_sources[0], sources[j]);
+        c = CALLED(pim_pack_both(e, 64, 3, 38, s, 38, a, 38));
+        EXPECT(accepted(c.refusal) && c.length == 30 && c.taken == 1 && !c.aggregated);
+    }
+}
+
+/* The sheet of one assert, at 12, and one pair, at 28, with an address as the source of either. */
+static void sources_in_sheets(void)
+{
+    uint8_t o[48], asserts[16], pairs[8], buffer[48];
+    size_t i, j, entry;
+
+    for (i = 0; i < 2; i++)
+        for (j = 0; j < NO_SOURCES; j++) {
+            pim_sheet_answer s;
+            pim_length_answer l;
+
+            entry = i == 0 ? 12 : 28;
+            memcpy(o, sheet, sizeof o);
+            put(o, entry + 4, no_sources[j], 4);
+            memset(asserts, UNTOUCHED, sizeof asserts);
+            memset(pairs, UNTOUCHED, sizeof pairs);
+            memset(buffer, UNTOUCHED, sizeof buffer);
+            EXPECT(refused(CALLED(pim_check_sheet(o, sizeof o)).refusal, PIM_BAD_SHEET, entry));
+            s = CALLED(pim_read_sheet(o, sizeof o, asserts, 16, pairs, 8));
+            EXPECT(refused(s.refusal, PIM_BAD_SHEET, entry) && s.counts.asserts == 0 && s.table.count == 0);
+            EXPECT(refused(CALLED(pim_read_sheet(o, sizeof o, NULL, 0, NULL, 0)).refusal, PIM_BAD_SHEET, entry));
+            EXPECT(untouched(asserts, 0, 16) && untouched(pairs, 0, 8));
+            /* a list that is not whole, a table of 17, too little room, then the source */
+            EXPECT(
+                refused(CALLED(pim_write_sheet(o + 12, 16, o + 28, 7, one_row(), buffer, 0)).refusal, PIM_BAD_LIST, 0));
+            s.table.count = 17;
+            EXPECT(
+                refused(CALLED(pim_write_sheet(o + 12, 16, o + 28, 8, s.table, buffer, 0)).refusal, PIM_BAD_SHEET, 0));
+            EXPECT(
+                refused(CALLED(pim_write_sheet(o + 12, 16, o + 28, 8, one_row(), buffer, 47)).refusal, PIM_NO_ROOM, 0));
+            l = CALLED(pim_write_sheet(o + 12, 16, o + 28, 8, one_row(), buffer, 48));
+            EXPECT(refused(l.refusal, PIM_BAD_ADDRESS, 0) && l.length == 0 && untouched(buffer, 0, 48));
+            o[3]++; /* the first offset */
+            EXPECT(refused(CALLED(pim_check_sheet(o, sizeof o)).refusal, PIM_BAD_SHEET, 0));
+            EXPECT(refused(CALLED(pim_read_sheet(o, sizeof o, asserts, 16, pairs, 8)).refusal, PIM_BAD_SHEET, 0));
+        }
+    for (j = 0; j < SOURCES; j++) {
+        memcpy(o, sheet, sizeof o);
+        put(o, 16, sources[j], 4);
+        put(o, 32, sources[SOURCES - 1 - j], 4);
+        EXPECT(accepted(CALLED(pim_check_sheet(o, sizeof o)).refusal));
+        EXPECT(accepted(CALLED(pim_read_sheet(o, sizeof o, asserts, 16, pairs, 8)).refusal));
+        EXPECT(accepted(CALLED(pim_write_sheet(asserts, 16, pairs, 8, one_row(), buffer, 48)).refusal));
+        EXPECT(memcmp(buffer, o, 48) == 0);
+    }
+}
+
+/* The address of a neighbour, or of our own router, is no source. */
+static void routers_are_no_sources(void)
+{
+    static const uint32_t addresses[NO_SOURCES] = {0xe0000000, 0xefffffff, 0xffffffff};
+    uint8_t o[48], asserts[16], pairs[8];
+    size_t j;
+
+    for (j = 0; j < NO_SOURCES; j++) {
+        pim_table_answer t = CALLED(pim_hear(one_row(), addresses[j], five));
+        pim_sheet_answer s;
+
+        EXPECT(accepted(t.refusal) && t.done == PIM_ADDED && row_is(t.table.rows[1], addresses[j], &five));
+        EXPECT(CALLED(pim_packing_allowed(t.table)).allowed);
+        EXPECT(CALLED(pim_elect(t.table, 1, 5)).address == addresses[j]);
+        EXPECT(CALLED(pim_elect(one_row(), addresses[j], 5)).address == addresses[j]);
+        EXPECT(CALLED(pim_elect_among(t.table.rows, 2)).address == addresses[j]);
+        EXPECT(CALLED(pim_forget(t.table, addresses[j])).done == PIM_FORGOTTEN);
+        memcpy(o, sheet, sizeof o);
+        put(o, 36, no_sources[j], 4);
+        s = CALLED(pim_read_sheet(o, sizeof o, asserts, 16, pairs, 8));
+        EXPECT(accepted(s.refusal) && row_is(s.table.rows[0], addresses[j], &five));
+    }
+}
+
+/* A file of the example with source 239.0.0.1 (239 - 10 = 229 more in a high octet, so as much less in the checksum's)
+ * and with its own. */
+static void sources_reported(void)
+{
+    uint8_t file[64];
+    pim_report_answer r;
+
+    file[0] = file[32] = 0;
+    file[1] = file[33] = 30;
+    put(file, put(file, 2, example, 30) + 2, example, 30);
+    file[2 + 18] = 239;
+    file[2 + 2] = 0xe5 - 229;
+    r = CALLED(pim_report(file, sizeof file));
+    EXPECT(r.whole && r.tally.refused[PIM_BAD_ADDRESS] == 1 && r.tally.refused[PIM_BAD_CHECKSUM] == 0);
+    EXPECT(r.tally.accepted.simple.messages == 1 && r.tally.accepted.simple.records == 1 && is_fraction(r.mean, 1, 1));
+    EXPECT(CALLED(pim_tally_octets(CALLED(pim_tally_none()), file, 63)).tally.refused[PIM_BAD_ADDRESS] == 1);
+}
+
 /* ---- lent memory */
 
 /* NULL where nothing is lent to be read. */
 static void nothing_to_read(void)
 {
     uint8_t b[60], c[60];
-    pim_pack_answer (*const pack[5])(const uint8_t *, size_t, size_t, size_t, uint8_t *, size_t) = {
-        pim_pack_assert, pim_pack_simple, pim_pack_aggregated, pim_pack_null_register, pim_pack_register_stop};
     size_t i;
 
     memset(b, UNTOUCHED, sizeof b);
@@ -1582,7 +1911,7 @@ static void nothing_to_read(void)
     EXPECT(refused(CALLED(pim_read_pairs(NULL, 0, b, sizeof b)).refusal, PIM_BAD_LENGTH, 0));
     EXPECT(refused(CALLED(pim_read_hello(NULL, 0)).refusal, PIM_BAD_LENGTH, 0));
     for (i = 0; i < 5; i++)
-        EXPECT(packed(CALLED(pack[i](NULL, 0, 0, 60, b, sizeof b)), 0, 0));
+        EXPECT(packed(CALLED(packings[i].pack(NULL, 0, 0, 60, b, sizeof b)), 0, 0));
     EXPECT(accepted(CALLED(pim_pack_both(NULL, 0, 0, 60, b, sizeof b, c, sizeof c)).refusal));
     EXPECT(refused(CALLED(pim_elect_among(NULL, 0)).refusal, PIM_ABSENT, 0));
     EXPECT(CALLED(pim_tally_message(CALLED(pim_tally_none()), NULL, 0)).refused[PIM_BAD_LENGTH] == 1);
@@ -1692,6 +2021,14 @@ int main(void)
     sheets_written();
     longest_sheet();
     checksums();
+    sources_in_messages();
+    sources_in_order();
+    sources_in_records();
+    sources_packed();
+    sources_chosen();
+    sources_in_sheets();
+    routers_are_no_sources();
+    sources_reported();
     nothing_to_read();
     nothing_to_write();
     same_memory();

@@ -35,22 +35,36 @@ fn group(rng: &mut Rng) -> u32 {
     0xE000_0000 | rng.next_u32() >> 4
 }
 
+/// From 1.0.0.0 to 223.255.255.255, as nearly all sources are.
 fn source(rng: &mut Rng) -> u32 {
-    rng.next_u32() | 1
+    0x0100_0000 + rng.next_u32() % 0xDF00_0000
+}
+
+/// From 240.0.0.0 to 247.255.255.255.
+fn seldom_source(rng: &mut Rng) -> u32 {
+    0xF000_0000 | rng.next_u32() >> 5
 }
 
 fn preference(rng: &mut Rng) -> u32 {
     rng.next_u32() & 0xFF
 }
 
-/// Assert entries without anything in common, 32 with R=0 and 32 with R=1 in turn: a change at each entry
-/// would measure the branch predictor.
+/// Assert entries without anything in common.
 pub fn lone_asserts(count: usize) -> Vec<u8> {
-    let mut rng = Rng::new(1);
+    lone(count, Rng::new(1), |rng, _| source(rng))
+}
+
+/// The same with seldom sources, and with 0 where R=1.
+pub fn seldom_asserts(count: usize) -> Vec<u8> {
+    lone(count, Rng::new(10), |rng, r| if r == 0 { seldom_source(rng) } else { 0 })
+}
+
+/// 32 with R=0 and 32 with R=1 in turn: a change at each entry would measure the branch predictor.
+fn lone(count: usize, mut rng: Rng, source: impl Fn(&mut Rng, u32) -> u32) -> Vec<u8> {
     let mut list = List::of(count, 16);
     for i in 0..count {
         let r = if i / 32 % 2 == 0 { 0 } else { R };
-        let entry = [group(&mut rng), source(&mut rng), r | preference(&mut rng), rng.next_u32() & 0xFFFF];
+        let entry = [group(&mut rng), source(&mut rng, r), r | preference(&mut rng), rng.next_u32() & 0xFFFF];
         list.put(&entry);
     }
     list.octets
@@ -104,7 +118,15 @@ pub fn one_source_asserts(count: usize) -> Vec<u8> {
 
 /// Assert entries of one group, R=1: a single run of sources.
 pub fn one_group_asserts(count: usize) -> Vec<u8> {
-    let mut rng = Rng::new(4);
+    one_group(count, Rng::new(4), source)
+}
+
+/// The same with seldom sources.
+pub fn seldom_group_asserts(count: usize) -> Vec<u8> {
+    one_group(count, Rng::new(11), seldom_source)
+}
+
+fn one_group(count: usize, mut rng: Rng, source: impl Fn(&mut Rng) -> u32) -> Vec<u8> {
     let mut list = List::of(count, 16);
     while !list.is_full() {
         list.put(&[0xE801_0101, source(&mut rng), R | 110, 20]);
@@ -114,7 +136,15 @@ pub fn one_group_asserts(count: usize) -> Vec<u8> {
 
 /// Pair entries, no source 0.
 pub fn pairs(count: usize) -> Vec<u8> {
-    let mut rng = Rng::new(5);
+    pairs_from(count, Rng::new(5), source)
+}
+
+/// The same with seldom sources.
+pub fn seldom_pairs(count: usize) -> Vec<u8> {
+    pairs_from(count, Rng::new(12), seldom_source)
+}
+
+fn pairs_from(count: usize, mut rng: Rng, source: impl Fn(&mut Rng) -> u32) -> Vec<u8> {
     let mut list = List::of(count, 8);
     while !list.is_full() {
         list.put(&[group(&mut rng), source(&mut rng)]);

@@ -43,10 +43,12 @@ fn how_measured(run: &Run, passes: usize) -> String {
          Each row also checks that both sides give the same answers and octets. Buffers are not cleared \
          between calls. A train's time is that of all its calls, the last one, which finds nothing left, too; \
          its octets are those of all its messages. At limit {} its calls pass 0, which is read as that \
-         limit; any other limit they pass as it is. In a row named refuse the last field of the octets is at \
-         fault, so that all of them are read and the place of that field is found. A row named report reads a \
-         file in memory, of good messages, each after its length; 1,000 divided by its ns/octet is megabytes \
-         a second.\n",
+         limit; any other limit they pass as it is. In a row named refuse the last field of the octets, the last \
+         entry of a list or the last pair of a sheet is at fault, so that all before it is read and its place is \
+         found; multicast says that it is a source in 224.0.0.0/4. In a row of seldom sources they are from \
+         240.0.0.0 to 247.255.255.255, and 0 in every other 32 records of the simple message; elsewhere they are \
+         from 1.0.0.0 to 223.255.255.255, and seldom 0. A row named report reads a file in memory, of good \
+         messages, each after its length; 1,000 divided by its ns/octet is megabytes a second.\n",
         run.date,
         machine(),
         run.compiler,

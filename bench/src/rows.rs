@@ -91,8 +91,13 @@ fn reading(rows: &mut Vec<Row>) {
     read_asserts(rows, "read aggregated", &input::mixed_asserts(MANY), aggregated);
     read_asserts(rows, "read aggregated, one source", &input::one_source_asserts(MANY), aggregated);
     read_asserts(rows, "read aggregated, one group", &input::one_group_asserts(MANY), aggregated);
-    read_pairs(rows, "read null-register", pack::pack_null_register);
-    read_pairs(rows, "read register-stop", pack::pack_register_stop);
+    read_pairs(rows, "read null-register", &input::pairs(MANY), pack::pack_null_register);
+    read_pairs(rows, "read register-stop", &input::pairs(MANY), pack::pack_register_stop);
+    let seldom = input::seldom_group_asserts(MANY);
+    read_asserts(rows, "read simple, seldom sources", &input::seldom_asserts(MANY), pack::pack_simple);
+    read_asserts(rows, "read aggregated, one group, seldom sources", &seldom, aggregated);
+    let seldom = input::seldom_pairs(MANY);
+    read_pairs(rows, "read null-register, seldom sources", &seldom, pack::pack_null_register);
 }
 
 /// The fullest message within the limit.
@@ -110,10 +115,9 @@ fn read_asserts(rows: &mut Vec<Row>, family: &str, list: &[u8], pack: SecondPack
     }
 }
 
-fn read_pairs(rows: &mut Vec<Row>, family: &str, pack: SecondPack) {
-    let list = input::pairs(MANY);
+fn read_pairs(rows: &mut Vec<Row>, family: &str, list: &[u8], pack: SecondPack) {
     for limit in LIMITS {
-        let message = message(&list, limit, pack);
+        let message = message(list, limit, pack);
         rows.push(read_row(family, limit, &message, 8, archive::read_pairs, read::read_pairs));
     }
 }
@@ -597,13 +601,25 @@ fn archive_report(report: &report::Report) -> archive::ReportAnswer {
     }
 }
 
-// ---- octets whose last field is at fault: all of them are read, and the place is the last one there is
+// ---- octets whose last field, or last entry, is at fault: all of them are read, and the place is the last one
+// there is
 
 /// A number and a place.
 type Expected = (u8, usize);
 
+/// 224.0.0.1, which is no source.
+const MULTICAST: [u8; 4] = [224, 0, 0, 1];
+
 fn refusals(rows: &mut Vec<Row>) {
     refused_messages(rows);
+    refused_sources(rows);
+    for list in TRAIN_ENTRIES.map(input::lone_asserts) {
+        rows.push(refused_list("asserts", 16, list, archive::pack_simple, pack::pack_simple));
+    }
+    for list in TRAIN_ENTRIES.map(input::pairs) {
+        rows.push(refused_list("pairs", 8, list, archive::pack_null_register, pack::pack_null_register));
+    }
+    rows.push(refused_sheet());
     rows.push(refused_hello());
     rows.push(refused_attribute());
     rows.push(refused_contributors());
@@ -626,6 +642,60 @@ fn refused_messages(rows: &mut Vec<Row>) {
     let mut pairs = message(&input::pairs(MANY), 1_480, pack::pack_null_register);
     pairs[4 + 104 * 14 + 10..].fill(0);
     rows.push(refused_pairs("refuse null-register, last source 0", pairs, (7, 4 + 104 * 14 + 8)));
+}
+
+/// The same messages, the last source of each being multicast: from 8 on in a record or a pair, its address after 2
+/// octets.
+fn refused_sources(rows: &mut Vec<Row>) {
+    let place = 8 + 65 * 22 + 8;
+    let records = message(&input::lone_asserts(MANY), 1_480, pack::pack_simple);
+    let records = put(records, place + 2, &MULTICAST);
+    rows.push(refused_asserts("refuse simple, last source multicast", records, (7, place)));
+    let place = 32 + 240 * 6;
+    let sources = message(&input::one_group_asserts(MANY), 1_480, pack::pack_aggregated);
+    let sources = put(sources, place + 2, &MULTICAST);
+    rows.push(refused_asserts("refuse aggregated, last source multicast", sources, (7, place)));
+    let place = 4 + 104 * 14 + 8;
+    let pairs = message(&input::pairs(MANY), 1_480, pack::pack_register_stop);
+    let pairs = put(pairs, place + 2, &MULTICAST);
+    rows.push(refused_pairs("refuse register-stop, last source multicast", pairs, (7, place)));
+}
+
+/// Octets with others put at a place.
+fn put(mut octets: Vec<u8>, at: usize, others: &[u8]) -> Vec<u8> {
+    octets[at..at + others.len()].copy_from_slice(others);
+    octets
+}
+
+/// A packing call on a list whose last source becomes multicast: it looks at all entries, and writes nothing.
+fn refused_list(
+    kind: &str,
+    entry: usize,
+    list: Vec<u8>,
+    ours: impl Fn(&[u8], usize, usize, &mut [u8]) -> PackAnswer,
+    theirs: impl Fn(&[u8], usize, usize, &mut [u8]) -> Answer<(usize, usize)>,
+) -> Row {
+    let entries = list.len() / entry;
+    let list = put(list, entry * (entries - 1) + 4, &MULTICAST);
+    let (mut a, mut s) = ([0; 1_480], [0; 1_480]);
+    let ours = |list: &[u8]| ours(list, 0, 1_480, black_box(&mut a)).refusal;
+    let theirs = |list: &[u8]| theirs(list, 0, 1_480, black_box(&mut s)).err();
+    let family = format!("refuse to pack {kind}, last multicast");
+    Row {
+        size: format!("{} entries", thousands(entries)),
+        records: entries,
+        looked_at: Some(entries),
+        ..refused_row(&family, &list, (7, entries - 1), ours, theirs)
+    }
+}
+
+/// A full sheet, which is checked up to its last pair.
+fn refused_sheet() -> Row {
+    let last = 12 + 16 * SHEET_ENTRIES + 8 * (SHEET_ENTRIES - 1);
+    let sheet = put(Full::sheet().sheet, last + 4, &MULTICAST);
+    let ours = |sheet: &[u8]| archive::check_sheet(sheet).refusal;
+    let theirs = |sheet: &[u8]| sheet::check_sheet(sheet).err();
+    refused_row("refuse sheet, last pair multicast", &sheet, (14, last), ours, theirs)
 }
 
 fn refused_asserts(family: &str, message: Vec<u8>, expected: Expected) -> Row {

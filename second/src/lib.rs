@@ -94,15 +94,44 @@ pub(crate) fn is_group(first: u8) -> bool {
     first >> 4 == 14
 }
 
-/// An assert entry (group, source, R with preference, metric): the group is
-/// one, and with R=0 the source is not 0.
-#[inline]
-pub(crate) fn assert_entry_ok(entry: &[u8; 16]) -> bool {
-    is_group(entry[0]) && (entry[8] & 0x80 != 0 || entry[4..8] != [0; 4])
+/// Whether an address may be a source: not in 224.0.0.0/4, not 255.255.255.255,
+/// and 0 only where `zero` says so. The first octet is asked first, since it
+/// decides for nearly all.
+#[inline(always)]
+pub(crate) fn is_source(address: [u8; 4], zero: bool) -> bool {
+    matches!(address[0], 1..=223) || is_seldom_source(address, zero)
 }
 
-/// A pair entry (group, source) whose source may be 0.
+/// The same for an address that does not begin with 1 to 223.
+#[inline(always)]
+fn is_seldom_source(address: [u8; 4], zero: bool) -> bool {
+    match address {
+        [0, 0, 0, 0] => zero,
+        [255, 255, 255, 255] => false,
+        [first, ..] => !is_group(first),
+    }
+}
+
+/// An assert entry (group, source, R with preference, metric); source 0 is
+/// allowed with R=1.
 #[inline]
-pub(crate) fn pair_entry_ok(entry: &[u8; 8]) -> bool {
-    is_group(entry[0])
+pub(crate) fn assert_entry_ok(entry: &[u8; 16]) -> bool {
+    let [group, _, _, _, a, b, c, d, r, ..] = *entry;
+    is_group(group) && is_source([a, b, c, d], r & 0x80 != 0)
+}
+
+/// A pair entry (group, source).
+#[inline]
+pub(crate) fn pair_entry_ok(entry: &[u8; 8], zero: bool) -> bool {
+    let [group, _, _, _, a, b, c, d] = *entry;
+    is_group(group) && is_source([a, b, c, d], zero)
+}
+
+/// The number of the first entry that is not good. Four are asked in a turn of
+/// the loop: most lists are long and good.
+#[inline]
+pub(crate) fn first_bad<const N: usize>(list: &[[u8; N]], good: impl Fn(&[u8; N]) -> bool) -> Option<usize> {
+    let (fours, _) = list.as_chunks::<4>();
+    let before = 4 * fours.iter().take_while(|four| four.iter().all(&good)).count();
+    list[before..].iter().position(|entry| !good(entry)).map(|bad| before + bad)
 }

@@ -2,7 +2,7 @@
 //! lent buffer and leaves the octets past its length as they are.
 
 use crate::checksum::checksum;
-use crate::{assert_entry_ok, pair_entry_ok, refuse, Answer, MESSAGE_MOST};
+use crate::{assert_entry_ok, first_bad, pair_entry_ok, refuse, Answer, MESSAGE_MOST};
 
 /// The limit that 0 stands for: a datagram of 576 octets without its IP header.
 pub const USUAL_LIMIT: usize = 556;
@@ -56,7 +56,7 @@ pub fn pack_null_register(
     limit: usize,
     buffer: &mut [u8],
 ) -> Answer<(usize, usize)> {
-    let (limit, left) = prepare(entries, start, limit, buffer.len(), null_register_entry_ok)?;
+    let (limit, left) = prepare(entries, start, limit, buffer.len(), |entry| pair_entry_ok(entry, false))?;
     Ok(write_pairs(left, limit, 0x00, buffer))
 }
 
@@ -67,7 +67,7 @@ pub fn pack_register_stop(
     limit: usize,
     buffer: &mut [u8],
 ) -> Answer<(usize, usize)> {
-    let (limit, left) = prepare(entries, start, limit, buffer.len(), pair_entry_ok)?;
+    let (limit, left) = prepare(entries, start, limit, buffer.len(), |entry| pair_entry_ok(entry, true))?;
     Ok(write_pairs(left, limit, 0x10, buffer))
 }
 
@@ -91,17 +91,13 @@ pub fn pack_both(
     }
 }
 
-fn null_register_entry_ok(entry: &PairEntry) -> bool {
-    pair_entry_ok(entry) && entry[4..] != [0; 4]
-}
-
 /// The limit as read and the entries from the start on, all of them good.
 fn prepare<const N: usize>(
     entries: &[u8],
     start: usize,
     limit: usize,
     room: usize,
-    good: fn(&[u8; N]) -> bool,
+    good: impl Fn(&[u8; N]) -> bool,
 ) -> Answer<(usize, &[[u8; N]])> {
     let limit = if limit == 0 { USUAL_LIMIT } else { limit };
     if !(LEAST_LIMIT..=MESSAGE_MOST).contains(&limit) {
@@ -115,7 +111,7 @@ fn prepare<const N: usize>(
         return refuse(10, 0);
     }
     let left = &list[start..];
-    match left.iter().position(|entry| !good(entry)) {
+    match first_bad(left, good) {
         Some(bad) => refuse(7, start + bad),
         None => Ok((limit, left)),
     }

@@ -2,7 +2,7 @@
 //! A reading call checks the whole message first and writes entries after.
 
 use crate::checksum::checksum;
-use crate::{fault, field, is_group, refuse, Answer, Fault, Kind, Refusal, MESSAGE_MOST};
+use crate::{fault, field, is_group, is_source, refuse, Answer, Fault, Kind, Refusal, MESSAGE_MOST};
 
 /// An assert record. `r_preference` is the R bit with the preference.
 #[derive(Clone, Copy, Debug, PartialEq, Eq)]
@@ -135,8 +135,8 @@ fn group_ok(f: &[u8; GROUP]) -> bool {
 }
 
 #[inline(always)]
-fn source_ok(f: &[u8; SOURCE]) -> bool {
-    f[0] == 1 && f[1] == 0
+fn source_ok(f: &[u8; SOURCE], zero: bool) -> bool {
+    f[0] == 1 && f[1] == 0 && is_source([f[2], f[3], f[4], f[5]], zero)
 }
 
 #[inline(always)]
@@ -149,21 +149,12 @@ fn group(octets: &[u8]) -> Result<(u32, &[u8]), Fault> {
 }
 
 #[inline(always)]
-fn source(octets: &[u8]) -> Result<(u32, &[u8]), Fault> {
+fn source(octets: &[u8], zero: bool) -> Result<(u32, &[u8]), Fault> {
     let (f, rest) = field::<SOURCE>(octets)?;
-    if !source_ok(f) {
+    if !source_ok(f, zero) {
         return Err(fault(7, octets));
     }
     Ok((u32::from_be_bytes([f[2], f[3], f[4], f[5]]), rest))
-}
-
-#[inline(always)]
-fn source_not_0(octets: &[u8]) -> Result<(u32, &[u8]), Fault> {
-    let (source, rest) = source(octets)?;
-    if source == 0 {
-        return Err(fault(7, octets));
-    }
-    Ok((source, rest))
 }
 
 /// A number, at least so large, and the two reserved octets after it. They are
@@ -180,14 +171,14 @@ fn number(octets: &[u8], least: usize) -> Result<(usize, &[u8]), Fault> {
 }
 
 /// A zero source with R=0 is found at the R word, before the metric; at fault
-/// is the source.
+/// is the source. Any other source that is not allowed is found at the source.
 #[inline(always)]
 fn assert_record(octets: &[u8]) -> Result<AssertRecord, Fault> {
     let (group, from_source) = group(octets)?;
-    let (source, rest) = source(from_source)?;
+    let (source, rest) = source(from_source, true)?;
     let (r_preference, rest) = field::<4>(rest)?;
     let r_preference = u32::from_be_bytes(*r_preference);
-    if r_preference >> 31 == 0 && source == 0 {
+    if !is_source(source.to_be_bytes(), r_preference >> 31 == 1) {
         return Err(fault(7, from_source));
     }
     let (metric, _) = field::<4>(rest)?;
@@ -198,7 +189,7 @@ fn assert_record(octets: &[u8]) -> Result<AssertRecord, Fault> {
 #[inline(always)]
 fn pair_record(octets: &[u8], zero_source: bool) -> Result<PairRecord, Fault> {
     let (group, rest) = group(octets)?;
-    let (source, _) = if zero_source { source(rest) } else { source_not_0(rest) }?;
+    let (source, _) = source(rest, zero_source)?;
     Ok(PairRecord { group, source })
 }
 
@@ -287,7 +278,7 @@ fn aggregated_record(octets: &[u8]) -> Result<(usize, &[u8]), Fault> {
 }
 
 fn source_aggregated(octets: &[u8]) -> Result<(usize, &[u8]), Fault> {
-    let (_, rest) = source_not_0(octets)?;
+    let (_, rest) = source(octets, false)?;
     let (groups, rest) = number(rest, 1)?;
     Ok((groups, run(rest, groups, group_ok)?))
 }
@@ -298,7 +289,7 @@ fn rp_aggregated(octets: &[u8]) -> Result<(usize, &[u8]), Fault> {
     for _ in 0..group_records {
         let (_, after) = group(rest)?;
         let (sources, after) = number(after, 0)?;
-        rest = run(after, sources, source_ok)?;
+        rest = run(after, sources, |f| source_ok(f, true))?;
         count += sources.max(1);
     }
     Ok((count, rest))

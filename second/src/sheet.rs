@@ -1,7 +1,7 @@
 //! The stored sheet: two entry lists and a neighbour table.
 
 use crate::neighbours::{check_table, row_ok, Neighbour, Table, ROWS};
-use crate::{assert_entry_ok, pair_entry_ok, refuse, Answer};
+use crate::{assert_entry_ok, first_bad, pair_entry_ok, refuse, Answer};
 
 /// The most asserts, and the most pairs.
 pub const ENTRIES_MOST: usize = 1_024;
@@ -87,7 +87,8 @@ pub fn write_sheet(asserts: &[u8], pairs: &[u8], table: &Table, buffer: &mut [u8
     let Some(octets) = buffer.get_mut(..header.end()) else {
         return refuse(8, 0);
     };
-    if !assert_list.iter().all(assert_entry_ok) || !pair_list.iter().all(pair_entry_ok) {
+    let bad_assert = first_bad(assert_list, assert_entry_ok);
+    if bad_assert.is_some() || first_bad(pair_list, sheet_pair_ok).is_some() {
         return refuse(7, 0);
     }
     header.write(octets);
@@ -95,6 +96,11 @@ pub fn write_sheet(asserts: &[u8], pairs: &[u8], table: &Table, buffer: &mut [u8
     octets[header.offsets[1]..header.offsets[2]].copy_from_slice(pairs);
     write_table(table, &mut octets[header.offsets[2]..]);
     Ok(header.end())
+}
+
+/// A pair in a sheet may have source 0.
+fn sheet_pair_ok(entry: &[u8; PAIR]) -> bool {
+    pair_entry_ok(entry, true)
 }
 
 fn sections(octets: &[u8]) -> Answer<Sections<'_>> {
@@ -108,14 +114,14 @@ fn sections(octets: &[u8]) -> Answer<Sections<'_>> {
     let (asserts, rest) = octets[HEADER..].split_at(ASSERT * header.counts[0]);
     let (pairs, neighbours) = rest.split_at(PAIR * header.counts[1]);
     check_entries(asserts, header.offsets[0], assert_entry_ok)?;
-    check_entries(pairs, header.offsets[1], pair_entry_ok)?;
+    check_entries(pairs, header.offsets[1], sheet_pair_ok)?;
     let table = read_table(neighbours, header.offsets[2])?;
     Ok(Sections { asserts, pairs, table })
 }
 
-fn check_entries<const N: usize>(octets: &[u8], at: usize, good: fn(&[u8; N]) -> bool) -> Answer<()> {
+fn check_entries<const N: usize>(octets: &[u8], at: usize, good: impl Fn(&[u8; N]) -> bool) -> Answer<()> {
     let (entries, _) = octets.as_chunks::<N>();
-    match entries.iter().position(|entry| !good(entry)) {
+    match first_bad(entries, good) {
         Some(bad) => refuse(14, at + N * bad),
         None => Ok(()),
     }

@@ -65,6 +65,22 @@ fn alphabet() -> Vec<Vec<u8>> {
     ]
 }
 
+/// Entries whose sources stand beside those that are not allowed.
+fn edge_alphabet() -> Vec<Vec<u8>> {
+    let g = 0xE801_0101;
+    let mut alphabet: Vec<Vec<u8>> = [0xDFFF_FFFF, 0xF000_0000].map(|source| entry(g, source, 1, 1)).to_vec();
+    alphabet.extend([0xDFFF_FFFF, 0xF000_0001, 0xFFFF_FFFE].map(|source| entry(g, source, R | 1, 1)));
+    alphabet
+}
+
+#[test]
+fn all_lists_of_edge_sources() {
+    let mut buffer = [0; 300];
+    for length in 0..=4 {
+        all_lists(&edge_alphabet(), length, |list| compare(list, 38..=150, &mut buffer));
+    }
+}
+
 #[test]
 fn all_lists_up_to_four() {
     let mut buffer = [0; 300];

@@ -152,3 +152,23 @@ fn own_router_in_the_table() {
     let table = hear(full(), 3, hello(9, None, true)).unwrap();
     assert_eq!(elect(&table, 3, 99), Ok(16));
 }
+
+/// The address of a neighbour or of our own router is no source: only 0 is
+/// refused.
+#[test]
+fn addresses_that_are_no_sources() {
+    for address in NO_SOURCES {
+        let table = hear(full(), address, hello(9, Some(99), true));
+        assert_eq!(table, refusal(11, 0));
+        let table = hear(forget(full(), 16).unwrap(), address, hello(9, Some(99), true)).unwrap();
+        assert_eq!((table.count, table.rows[15].address), (16, address));
+        assert_eq!(packing_allowed(&table), Ok(true));
+        // Its priority is the highest; without one the highest address counts.
+        assert_eq!(elect(&table, 7, 98), Ok(address));
+        assert_eq!(elect(&full(), address, 17), Ok(address));
+        assert_eq!(elect(&full(), address, 1), Ok(16));
+        assert_eq!(elect_among(&[row(5, Some(1)), row(address, None)]), Ok(address));
+        assert_eq!(forget(table, address), Ok(forget(full(), 16).unwrap()));
+        assert_eq!(forget(full(), address), refusal(12, 0));
+    }
+}

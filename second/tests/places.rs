@@ -87,7 +87,7 @@ fn plain_cut() {
 
 #[test]
 fn plain_wrong() {
-    let table: [Wrong; 11] = [
+    let table: [Wrong; 19] = [
         ("group of family 2", 4, &[2], 12..=26, (7, 4, 4)),
         ("group of encoding 1", 5, &[1], 12..=26, (7, 4, 4)),
         ("mask of 24", 7, &[24], 12..=26, (7, 4, 4)),
@@ -99,6 +99,14 @@ fn plain_wrong() {
         ("group bad and cut", 4, &[2], 5..=11, (6, 4, 4)),
         ("source bad and cut", 12, &[2], 13..=17, (6, 12, 4)),
         ("source 0, R word cut", 14, &[0; 4], 18..=21, (6, 18, 4)),
+        ("source 224.0.0.0", 14, &[224, 0, 0, 0], 18..=26, (7, 12, 4)),
+        ("source 239.255.255.255, R=1", 14, &[239, 255, 255, 255, 0x80], 18..=26, (7, 12, 4)),
+        ("source 255.255.255.255", 14, &[255; 4], 18..=26, (7, 12, 4)),
+        ("source 255.255.255.255, R=1", 14, &[255; 5], 18..=26, (7, 12, 4)),
+        ("source 224.0.0.0 and cut", 14, &[224, 0, 0, 0], 12..=17, (6, 12, 4)),
+        ("source 255.255.255.255 and cut", 14, &[255; 4], 12..=17, (6, 12, 4)),
+        ("source 240.0.0.0, R word cut", 14, &[240, 0, 0, 0], 18..=21, (6, 18, 4)),
+        ("source 255.255.255.254, metric cut", 14, &[255, 255, 255, 254], 22..=25, (6, 22, 4)),
     ];
     wrongs(&hex(PLAIN), &table, asserts);
 }
@@ -144,7 +152,7 @@ fn simple_cut() {
 
 #[test]
 fn simple_wrong() {
-    let table: [Wrong; 13] = [
+    let table: [Wrong; 19] = [
         ("Zero of 1", 4, &[1], 5..=52, (5, 4, 4)),
         ("first group of family 2", 8, &[2], 16..=52, (7, 8, 8)),
         ("first mask of 33", 11, &[33], 16..=52, (7, 8, 8)),
@@ -158,6 +166,12 @@ fn simple_wrong() {
         ("second source 0, R=0", 44, &[0x7F], 48..=52, (7, 38, 30)),
         ("second source 0, R word cut", 44, &[0x7F], 45..=47, (6, 44, 30)),
         ("both groups bad", 8, &[2; 30], 16..=52, (7, 8, 8)),
+        ("first source 224.0.0.1", 18, &[224], 22..=52, (7, 16, 8)),
+        ("first source 224.0.0.1 and cut", 18, &[224], 16..=21, (6, 16, 8)),
+        ("second source 239.0.0.0, R=1", 40, &[239], 44..=52, (7, 38, 30)),
+        ("second source 239.0.0.0, R=0", 40, &[239, 0, 0, 0, 0], 44..=52, (7, 38, 30)),
+        ("second source 255.255.255.255", 40, &[255; 4], 44..=52, (7, 38, 30)),
+        ("second source 255.255.255.255 and cut", 40, &[255; 4], 38..=43, (6, 38, 30)),
     ];
     wrongs(&hex(SIMPLE), &table, asserts);
 }
@@ -208,7 +222,7 @@ fn aggregated_cut() {
 
 #[test]
 fn source_aggregated_wrong() {
-    let table: [Wrong; 13] = [
+    let table: [Wrong; 17] = [
         ("source of family 2", 16, &[2], 22..=90, (7, 16, 8)),
         ("source of encoding 1", 17, &[1], 22..=90, (7, 16, 8)),
         ("source 0", 18, &[0; 4], 22..=90, (7, 16, 8)),
@@ -223,13 +237,17 @@ fn source_aggregated_wrong() {
         ("more groups than there are", 23, &[3], 42..=42, (6, 42, 8)),
         ("a third group, cut", 23, &[3], 43..=49, (6, 42, 8)),
         ("a third group of family 128", 23, &[3], 50..=90, (7, 42, 8)),
+        ("source 224.0.0.1", 18, &[224], 22..=90, (7, 16, 8)),
+        ("source 255.255.255.255", 18, &[255; 4], 22..=90, (7, 16, 8)),
+        ("source 224.0.0.1 and cut", 18, &[224], 16..=21, (6, 16, 8)),
+        ("source 224.0.0.1 and number 0", 18, &[224, 0, 0, 1, 0, 0], 22..=90, (7, 16, 8)),
     ];
     wrongs(&hex(AGGREGATED), &table, asserts);
 }
 
 #[test]
 fn rp_aggregated_wrong() {
-    let table: [Wrong; 13] = [
+    let table: [Wrong; 18] = [
         ("number 0", 50, &[0, 0], 52..=90, (6, 50, 42)),
         ("first group of family 2", 54, &[2], 62..=90, (7, 54, 42)),
         ("first group 15.1.1.3", 58, &[15], 62..=90, (7, 54, 42)),
@@ -245,6 +263,11 @@ fn rp_aggregated_wrong() {
         ("a third source out of a group", 63, &[3], 84..=90, (6, 84, 42)),
         // What was a source is a group with a mask of 0.
         ("no source", 63, &[0], 74..=90, (7, 66, 42)),
+        ("first source 224.0.0.1", 68, &[224], 72..=90, (7, 66, 42)),
+        ("first source 224.0.0.1 and cut", 68, &[224], 66..=71, (6, 66, 42)),
+        ("second source 239.0.0.0", 74, &[239], 78..=90, (7, 72, 42)),
+        ("second source 255.255.255.255", 74, &[255; 4], 78..=90, (7, 72, 42)),
+        ("second source 255.255.255.255 and cut", 74, &[255; 4], 72..=77, (6, 72, 42)),
     ];
     wrongs(&hex(AGGREGATED), &table, asserts);
 }
@@ -279,7 +302,7 @@ fn pairs_cut() {
 
 #[test]
 fn pairs_wrong() {
-    let table: [Wrong; 9] = [
+    let table: [Wrong; 14] = [
         ("first group of family 2", 4, &[2], 12..=32, (7, 4, 4)),
         ("first mask of 24", 7, &[24], 12..=32, (7, 4, 4)),
         ("first source of family 2", 12, &[2], 18..=32, (7, 12, 4)),
@@ -289,6 +312,11 @@ fn pairs_wrong() {
         ("second group bad and cut", 22, &[240], 23..=25, (6, 18, 18)),
         ("second source of encoding 1", 27, &[1], 32..=32, (7, 26, 18)),
         ("second source bad and cut", 27, &[1], 28..=31, (6, 26, 18)),
+        ("first source 224.0.0.1", 14, &[224], 18..=32, (7, 12, 4)),
+        ("first source 255.255.255.255", 14, &[255; 4], 18..=32, (7, 12, 4)),
+        ("first source 255.255.255.255 and cut", 14, &[255; 4], 12..=17, (6, 12, 4)),
+        ("second source 239.0.0.2", 28, &[239], 32..=32, (7, 26, 18)),
+        ("second source 239.0.0.2 and cut", 28, &[239], 26..=31, (6, 26, 18)),
     ];
     wrongs(&null_register(), &table, pairs);
     wrongs(&register_stop(), &table, pairs);
@@ -335,11 +363,14 @@ fn single_cut() {
 
 #[test]
 fn single_wrong() {
-    let table: [Wrong; 4] = [
+    let table: [Wrong; 7] = [
         ("group of family 2", 3, &[2], 11..=25, (7, 3, 3)),
         ("group 10.1.1.1", 7, &[10], 11..=25, (7, 3, 3)),
         ("source of encoding 1", 12, &[1], 17..=25, (7, 11, 3)),
         ("source bad and cut", 12, &[1], 13..=16, (6, 11, 3)),
+        ("source 224.0.0.1", 13, &[224], 17..=25, (7, 11, 3)),
+        ("source 255.255.255.255", 13, &[255; 4], 17..=25, (7, 11, 3)),
+        ("source 255.255.255.255 and cut", 13, &[255; 4], 11..=16, (6, 11, 3)),
     ];
     for read in [single_assert, single_null_register, single_register_stop] {
         wrongs(&hex(SINGLE), &table, read);

@@ -24,29 +24,6 @@ fn pairs_refused(m: &[u8], number: u8, place: usize) {
     assert_eq!(entries, [0x77; 256]);
 }
 
-fn simple(records: &[Vec<u8>]) -> Vec<u8> {
-    message(0x25, 1, &[vec![0; 4], records.concat()].concat())
-}
-
-fn aggregated(records: &[Vec<u8>]) -> Vec<u8> {
-    message(0x25, 3, &[vec![0; 4], records.concat()].concat())
-}
-
-/// A source aggregated record that says `n` groups.
-fn source_aggregated(source: u32, n: u8, groups: &[u32]) -> Vec<u8> {
-    let groups: Vec<u8> = groups.iter().flat_map(|g| encoded_group(*g)).collect();
-    [words(&[110, 20]), encoded_source(source), vec![0, n, 9, 9], groups].concat()
-}
-
-fn rp_aggregated(k: u8, group_records: &[Vec<u8>]) -> Vec<u8> {
-    [words(&[R | 110, 20]), vec![0, k, 9, 9], group_records.concat()].concat()
-}
-
-fn group_record(group: u32, p: u8, sources: &[u32]) -> Vec<u8> {
-    let sources: Vec<u8> = sources.iter().flat_map(|s| encoded_source(*s)).collect();
-    [encoded_group(group), vec![0, p, 9, 9], sources].concat()
-}
-
 #[test]
 fn number_1_length() {
     for length in 0..4 {
@@ -153,7 +130,7 @@ fn number_5_zero_and_no_record() {
 fn addresses_allowed() {
     let mut flags = assert_record(G, S, 110, 20);
     flags[2] = 0xFF;
-    for record in [flags, assert_record(G, 0, R, 20), assert_record(0xE000_0000, 0xFFFF_FFFF, 110, 20)] {
+    for record in [flags, assert_record(G, 0, R, 20), assert_record(0xE000_0000, 0xFFFF_FFFE, 110, 20)] {
         assert_eq!(read_asserts(&message(0x25, 0, &record), &mut [0; 16]), Ok((Kind::Assert, 1)));
         assert_eq!(read_asserts(&simple(&[record]), &mut [0; 16]), Ok((Kind::Simple, 1)));
     }
@@ -293,11 +270,8 @@ fn counters_saturate() {
 #[test]
 fn aggregated_records_as_read() {
     let records = [
-        source_aggregated(S, 2, &[G, G + 1]),
-        rp_aggregated(
-            3,
-            &[group_record(G, 0, &[]), group_record(G, 1, &[0]), group_record(G + 1, 2, &[S, 0])],
-        ),
+        source_aggregated(S, &[G, G + 1]),
+        rp_aggregated(&[group_record(G, &[]), group_record(G, &[0]), group_record(G + 1, &[S, 0])]),
     ];
     let mut entries = [0x77; 16 * 6 + 3];
     assert_eq!(read_asserts(&aggregated(&records), &mut entries), Ok((Kind::Aggregated, 6)));

@@ -2,7 +2,7 @@
 //! hand; those of random files are held against the reading calls.
 mod common;
 use common::*;
-use second::counters::Count;
+use second::counters::{add, Count, Counters, Direction};
 use second::hello::{read_hello, write_hello};
 use second::read::{header, read_asserts, read_pairs};
 use second::report::*;
@@ -45,40 +45,6 @@ fn reported(file: &[u8], accepted: Accepted, refused: Refused, mean: (u64, u64),
 
 fn hello(options: &str) -> Vec<u8> {
     message(0x20, 0, &hex(options))
-}
-
-fn plain(record: Vec<u8>) -> Vec<u8> {
-    message(0x25, 0, &record)
-}
-
-fn simple(records: &[Vec<u8>]) -> Vec<u8> {
-    message(0x25, 1, &[vec![0; 4], records.concat()].concat())
-}
-
-fn aggregated(records: &[Vec<u8>]) -> Vec<u8> {
-    message(0x25, 3, &[vec![0; 4], records.concat()].concat())
-}
-
-fn null_register(pairs: &[Vec<u8>]) -> Vec<u8> {
-    message(0x2D, 0x00, &pairs.concat())
-}
-
-fn register_stop(pairs: &[Vec<u8>]) -> Vec<u8> {
-    message(0x2D, 0x10, &pairs.concat())
-}
-
-fn source_aggregated(source: u32, groups: &[u32]) -> Vec<u8> {
-    let fields: Vec<u8> = groups.iter().flat_map(|group| encoded_group(*group)).collect();
-    [words(&[110, 20]), encoded_source(source), words(&[(groups.len() as u32) << 16]), fields].concat()
-}
-
-fn rp_aggregated(group_records: &[Vec<u8>]) -> Vec<u8> {
-    [words(&[R | 110, 20, (group_records.len() as u32) << 16]), group_records.concat()].concat()
-}
-
-fn group_record(group: u32, sources: &[u32]) -> Vec<u8> {
-    let fields: Vec<u8> = sources.iter().flat_map(|source| encoded_source(*source)).collect();
-    [encoded_group(group), words(&[(sources.len() as u32) << 16]), fields].concat()
 }
 
 /// A Hello of so many octets, from 8 on: one unknown option.
@@ -249,6 +215,52 @@ fn every_number_that_refuses_a_message() {
     reported(&file(&messages), NOTHING, REFUSED, (0, 1), true);
     let with_good = [six_kinds(), messages].concat();
     reported(&file(&with_good), SIX_KINDS, REFUSED, SIX_KINDS_MEAN, true);
+}
+
+/// Messages with sources that are none, and sources beside them: of each kind
+/// one is accepted, with 1, 2, 2, 1 and 2 records, and seven are refused.
+fn with_edge_sources() -> Vec<Vec<u8>> {
+    let record = |source| assert_record(G, source, 110, 20);
+    let rp = |sources: &[u32]| aggregated(&[rp_aggregated(&[group_record(G, sources)])]);
+    let pair = |source| pair_record(G, source);
+    vec![
+        plain(record(0xE000_0000)),
+        plain(assert_record(G, 0xFFFF_FFFF, R | 110, 20)),
+        plain(record(0xDFFF_FFFF)),
+        simple(&[record(S), record(0xEFFF_FFFF)]),
+        simple(&[record(0xF000_0001), record(0xFFFF_FFFE)]),
+        aggregated(&[source_aggregated(0xE000_0001, &[G, G + 1])]),
+        rp(&[S, 0, 0xE000_0000]),
+        rp(&[0, 0xF000_0000]),
+        null_register(&[pair(S), pair(0xFFFF_FFFF)]),
+        null_register(&[pair(0xDFFF_FFFF)]),
+        register_stop(&[pair(0xE801_0101), pair(0)]),
+        register_stop(&[pair(0), pair(0xF000_0001)]),
+    ]
+}
+
+const WITH_EDGE_SOURCES: Accepted = [(0, 0), (1, 1), (1, 2), (1, 2), (1, 1), (1, 2)];
+
+/// The mean is that of 2 + 2 + 1 + 2 records in 4 messages.
+#[test]
+fn sources_that_are_none() {
+    reported(&file(&with_edge_sources()), WITH_EDGE_SOURCES, &[(7, 7)], (7, 4), true);
+    let again = [with_edge_sources(), vec![hello("")], with_edge_sources()].concat();
+    let twice = [(1, 0), (2, 2), (2, 4), (2, 4), (2, 2), (2, 4)];
+    reported(&file(&again), twice, &[(7, 14)], (7, 4), true);
+}
+
+/// Counters count the messages that are read, with the entries they unpack to.
+#[test]
+fn counters_of_messages_read() {
+    let mut counters = Counters::default();
+    for m in with_edge_sources() {
+        if let Ok((kind, records)) = by_reading_call(&m, &mut [0; 64]) {
+            assert_eq!(add(&mut counters, Direction::Received, kind.number(), records as u64), Ok(()));
+        }
+    }
+    assert_eq!(counters.received, tally(WITH_EDGE_SOURCES, &[]).accepted);
+    assert_eq!(counters.sent, Counters::default().sent);
 }
 
 /// 8 + 12 + 12 + 6 * 10,913 = 65,510; 8 + 18 + 8 * 8,186 = 65,514; 4 + 14 *

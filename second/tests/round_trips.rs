@@ -79,6 +79,25 @@ fn longest_runs() {
     }
 }
 
+/// All sources about the borders, each twice, with R=0 and R=1 by turns.
+#[test]
+fn edge_sources() {
+    let twice = EDGE_SOURCES.map(|source| [source; 2]).concat();
+    let pairs: Vec<u8> = twice.iter().flat_map(|source| pair(0xE100_0000, *source)).collect();
+    let asserts: Vec<u8> =
+        [0, R].iter().flat_map(|r| twice.iter().map(|s| entry(0xE100_0000, *s, *r, 1))).flatten().collect();
+    for limit in [0, 38, 60, 61, 1480] {
+        train(&AGGREGATED, &asserts, limit);
+        train(&SIMPLE, &asserts, limit);
+        train(&ASSERT, &asserts, limit);
+        train(&NULL_REGISTER, &pairs, limit);
+        train(&REGISTER_STOP, &pairs, limit);
+    }
+    // Eight source aggregated records of two groups; one RP aggregated record of one group record.
+    let length = 8 + 8 * (18 + 2 * 8) + 12 + 12 + 16 * 6;
+    assert_eq!(pack_aggregated(&asserts, 0, 1480, &mut [0; 1480]), Ok((length, 32)));
+}
+
 /// What the two packing calls give by themselves, and the choice.
 fn both(list: &[u8], start: usize, limit: usize) {
     let (mut simple, mut aggregated) = (vec![0x11; limit], vec![0x22; limit + 1]);

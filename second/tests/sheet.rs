@@ -128,6 +128,95 @@ fn number_14_entries() {
     }
 }
 
+/// Where the sources of `small` stand, and the first octets of their entries:
+/// an assert with R=0, one with R=1, and two pairs.
+const SOURCES: [(usize, usize); 4] = [(16, 12), (32, 28), (48, 44), (56, 52)];
+
+/// `small` with octets put at a place.
+fn changed(at: usize, octets: &[u8]) -> Vec<u8> {
+    let mut sheet = small();
+    sheet[at..at + octets.len()].copy_from_slice(octets);
+    sheet
+}
+
+/// A sheet that was written before they were refused is no longer read.
+#[test]
+fn number_14_sources() {
+    for ((at, place), address) in SOURCES.iter().flat_map(|entry| NO_SOURCES.map(|address| (*entry, address)))
+    {
+        let sheet = changed(at, &address.to_be_bytes());
+        fault(&sheet, place);
+        // Offsets, counts and the end come first.
+        for header in [[0, 2, 0, 13], [0, 2, 0, 0], [4, 1, 0, 12]] {
+            fault(&[&header, &sheet[4..]].concat(), 0);
+        }
+        fault(&sheet[..95], 0);
+        fault(&[&sheet[..], &[0]].concat(), 0);
+    }
+    fault(&changed(16, &[0; 4]), 12);
+}
+
+#[test]
+fn the_first_entry_at_fault() {
+    let bad = 0xE000_0001u32.to_be_bytes();
+    let mut sheet = changed(56, &bad);
+    // A neighbour with holdtime 0 comes later, the other entries before.
+    sheet[94..].fill(0);
+    for (at, place) in SOURCES.into_iter().rev() {
+        sheet[at..at + 4].copy_from_slice(&bad);
+        fault(&sheet, place);
+    }
+    // A bad group before a bad source.
+    fault(&[&sheet[..16], &small()[16..28], &[10], &sheet[29..]].concat(), 28);
+    fault(&[&small()[..44], &[10], &sheet[45..]].concat(), 44);
+}
+
+/// One bad entry of nine asserts and of nine pairs, wherever it stands.
+#[test]
+fn each_entry_in_turn() {
+    let sheet = written(&entry(0xE000_0001, 1, 2, 3).repeat(9), &pair(0xE000_0001, 1).repeat(9), &table(1));
+    let asserts = (0..9).map(|i| 12 + 16 * i);
+    let pairs = (0..9).map(|i| 12 + 16 * 9 + 8 * i);
+    for place in asserts.chain(pairs) {
+        let mut sheet = sheet.clone();
+        sheet[place + 4..place + 8].fill(255);
+        fault(&sheet, place);
+        let (asserts, pairs) = sheet[12..228].split_at(144);
+        assert_eq!(write_sheet(asserts, pairs, &table(1), &mut [0; 240]), refusal(7, 0));
+    }
+}
+
+/// Sources about the borders are read, and written again.
+#[test]
+fn edge_sources() {
+    for source in EDGE_SOURCES.map(u32::to_be_bytes) {
+        for (at, _) in SOURCES {
+            let sheet = changed(at, &source);
+            let (mut asserts, mut pairs) = ([0xEE; 32], [0xEE; 16]);
+            assert_eq!(read_sheet(&sheet, &mut asserts, &mut pairs), Ok((2, 2, table(3))));
+            assert_eq!((&asserts[..], &pairs[..]), (&sheet[12..44], &sheet[44..60]));
+            assert_eq!(written(&asserts, &pairs, &table(3)), sheet);
+        }
+    }
+    // 0 with R=1 and in a pair.
+    for at in [32, 48, 56] {
+        assert_eq!(check_sheet(&changed(at, &[0; 4])), Ok(()));
+    }
+}
+
+/// The address of a neighbour is no source.
+#[test]
+fn neighbours_that_are_no_sources() {
+    for address in NO_SOURCES {
+        let sheet = changed(72, &address.to_be_bytes());
+        let mut rows = table(3);
+        rows.rows[1].address = address;
+        let (mut asserts, mut pairs) = ([0; 32], [0; 16]);
+        assert_eq!(read_sheet(&sheet, &mut asserts, &mut pairs), Ok((2, 2, rows)));
+        assert_eq!(written(&asserts, &pairs, &rows), sheet);
+    }
+}
+
 #[test]
 fn number_8_reading() {
     let (mut x, mut y) = ([0xEE; 32], [0xEE; 16]);
@@ -157,4 +246,17 @@ fn writing_refusals() {
     assert_eq!(write(&bad, &[], &table(1), 40), refusal(7, 0));
     assert_eq!(write(&[], &pair(1, 1), &table(1), 32), refusal(7, 0));
     assert_eq!(write(&entry(0xE000_0001, 0, 1, 1), &[], &table(1), 40), refusal(7, 0));
+    for address in NO_SOURCES {
+        let (good, bad_pair) = (pair(0xE000_0001, 1), pair(0xE000_0001, address));
+        for bad in [entry(0xE000_0001, address, 1, 1), entry(0xE000_0001, address, R, 1)] {
+            assert_eq!(write(&bad, &good[..7], &bad_table, 0), refusal(10, 0));
+            assert_eq!(write(&bad, &good, &bad_table, 0), refusal(14, 0));
+            assert_eq!(write(&bad.repeat(1025), &good, &table(1), 0), refusal(14, 0));
+            assert_eq!(write(&bad, &good, &table(1), 47), refusal(8, 0));
+            assert_eq!(write(&bad, &good, &table(1), 48), refusal(7, 0));
+        }
+        assert_eq!(write(&[], &bad_pair.repeat(1025), &table(1), 0), refusal(14, 0));
+        assert_eq!(write(&[], &[good, bad_pair].concat(), &table(1), 39), refusal(8, 0));
+        assert_eq!(write(&[], &pair(0xE000_0001, address), &table(1), 32), refusal(7, 0));
+    }
 }

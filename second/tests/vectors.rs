@@ -227,14 +227,19 @@ fn packed_registers() {
     pairs(two, Kind::NullRegister, &[(g, s), (g + 1, s + 1)]);
     pairs("2d00d6db01000020ef01010101000a000001", Kind::NullRegister, &[(g, s)]);
     pairs("2d0fd6cc01000020ef01010101000a000001", Kind::NullRegister, &[(g, s)]);
-    let three =
-        "2d10028701000020ef01010101000a00000101000020ef01010201000000000001000020e00000000100ffffffff";
-    pairs(three, Kind::RegisterStop, &[(g, s), (g + 1, 0), (0xE000_0000, 0xFFFF_FFFF)]);
+    // The checksum is the complement of 2D10 + 0100 + 0020 + EF01 + 0101 + 0100 + 0A00 + 0001 = 2934
+    // and 0100 + 0020 + EF01 + 0102 + 0100 more, 1B58.
+    let two = "2d10e4a701000020ef01010101000a00000101000020ef010102010000000000";
+    pairs(two, Kind::RegisterStop, &[(g, s), (g + 1, 0)]);
     // Another subtype, the draft's Count word, and a source cut short.
     let read = |text| read_pairs(&hex(text), &mut [0; 80]);
     assert_eq!(read("2d20d6bb01000020ef01010101000a000001"), refusal(4, 0));
     assert_eq!(read("2d00d6da0000000101000020ef01010101000a000001"), refusal(7, 4));
     assert_eq!(read("2d00d6dc01000020ef01010101000a0000"), refusal_within(6, 12, 4));
+    // These two pairs, and a third at 32 whose source is 255.255.255.255.
+    let three =
+        "2d10028701000020ef01010101000a00000101000020ef01010201000000000001000020e00000000100ffffffff";
+    assert_eq!(read(three), refusal_within(7, 40, 32));
 }
 
 fn row(router: &(u32, Option<u32>)) -> Neighbour {

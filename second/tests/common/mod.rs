@@ -10,6 +10,15 @@ use second::{Answer, Kind, Refusal};
 
 pub const R: u32 = 0x8000_0000;
 
+/// Sources about the borders of what is allowed: 0.0.0.1, 0.255.255.255,
+/// 1.0.0.0, 223.255.255.255, 240.0.0.0, 240.0.0.1, 255.0.0.0, 255.255.255.254.
+pub const EDGE_SOURCES: [u32; 8] =
+    [1, 0x00FF_FFFF, 0x0100_0000, 0xDFFF_FFFF, 0xF000_0000, 0xF000_0001, 0xFF00_0000, 0xFFFF_FFFE];
+
+/// Addresses that are no sources: 224.0.0.0, 224.0.0.1, 232.1.1.1,
+/// 239.255.255.255, 255.255.255.255.
+pub const NO_SOURCES: [u32; 5] = [0xE000_0000, 0xE000_0001, 0xE801_0101, 0xEFFF_FFFF, 0xFFFF_FFFF];
+
 pub type Pack = fn(&[u8], usize, usize, &mut [u8]) -> Answer<(usize, usize)>;
 pub type Read = fn(&[u8], &mut [u8]) -> Answer<(Kind, usize)>;
 
@@ -29,6 +38,7 @@ pub const NULL_REGISTER: Form =
     Form { kind: Kind::NullRegister, size: 8, pack: pack_null_register, read: read_pairs };
 pub const REGISTER_STOP: Form =
     Form { kind: Kind::RegisterStop, size: 8, pack: pack_register_stop, read: read_pairs };
+pub const FORMS: [Form; 5] = [ASSERT, SIMPLE, AGGREGATED, NULL_REGISTER, REGISTER_STOP];
 
 /// A refusal at the first octet of a record, option or attribute, or at none.
 pub fn refusal<T>(number: u8, place: usize) -> Answer<T> {
@@ -88,6 +98,45 @@ pub fn pair_record(group: u32, source: u32) -> Vec<u8> {
 
 pub fn words(numbers: &[u32]) -> Vec<u8> {
     numbers.iter().flat_map(|word| word.to_be_bytes()).collect()
+}
+
+/// A number of fields and its two reserved octets, which are ignored when read.
+fn number(fields: usize) -> Vec<u8> {
+    words(&[(fields as u32) << 16 | 0x0909])
+}
+
+pub fn source_aggregated(source: u32, groups: &[u32]) -> Vec<u8> {
+    let fields: Vec<u8> = groups.iter().flat_map(|group| encoded_group(*group)).collect();
+    [words(&[110, 20]), encoded_source(source), number(groups.len()), fields].concat()
+}
+
+pub fn rp_aggregated(group_records: &[Vec<u8>]) -> Vec<u8> {
+    [words(&[R | 110, 20]), number(group_records.len()), group_records.concat()].concat()
+}
+
+pub fn group_record(group: u32, sources: &[u32]) -> Vec<u8> {
+    let fields: Vec<u8> = sources.iter().flat_map(|source| encoded_source(*source)).collect();
+    [encoded_group(group), number(sources.len()), fields].concat()
+}
+
+pub fn plain(record: Vec<u8>) -> Vec<u8> {
+    message(0x25, 0, &record)
+}
+
+pub fn simple(records: &[Vec<u8>]) -> Vec<u8> {
+    message(0x25, 1, &[vec![0; 4], records.concat()].concat())
+}
+
+pub fn aggregated(records: &[Vec<u8>]) -> Vec<u8> {
+    message(0x25, 3, &[vec![0; 4], records.concat()].concat())
+}
+
+pub fn null_register(pairs: &[Vec<u8>]) -> Vec<u8> {
+    message(0x2D, 0x00, &pairs.concat())
+}
+
+pub fn register_stop(pairs: &[Vec<u8>]) -> Vec<u8> {
+    message(0x2D, 0x10, &pairs.concat())
 }
 
 /// Assert entries of one source, each with another group.

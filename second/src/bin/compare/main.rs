@@ -3,8 +3,8 @@
 //!
 //! `cargo run --release --bin compare` runs the usual seed; `-- --seed S` another
 //! one, and `--rounds R` the random parts R times. The status is 0 only if there
-//! was no difference and all calls, all refusals, faults of all fields and all
-//! outcomes of a report occurred.
+//! was no difference and all calls, all refusals, faults of all fields, all
+//! outcomes of a report and bad sources in all that has sources occurred.
 
 #[cfg(archive)]
 mod against;

@@ -13,10 +13,18 @@ pub const R: u32 = 0x8000_0000;
 
 // Small alphabets, so that neighbouring entries often join.
 const GROUPS: [u32; 3] = [0xE801_0101, 0xE801_0102, 0xEFFF_FFFF];
-const SOURCES: [u32; 3] = [0, 0x0A00_0001, 0xFFFF_FFFF];
+const SOURCES: [u32; 3] = [0, 0x0A00_0001, 0xFFFF_FFFE];
 const PREFERENCES: [u32; 2] = [110, 0x7FFF_FFFF];
 const METRICS: [u32; 2] = [20, 0xFFFF_FFFF];
 const NO_GROUPS: [u32; 4] = [0, 0x0A00_0001, 0xDFFF_FFFF, 0xF000_0000];
+
+/// Addresses that are no sources, and other sources beside them.
+pub const NO_SOURCES: [u32; 3] = [0xE000_0000, 0xEFFF_FFFF, 0xFFFF_FFFF];
+const EDGES: [u32; 3] = [0xDFFF_FFFF, 0xF000_0000, 0xF000_0001];
+
+/// All of these, to be tried in turn.
+pub const ADDRESSES: [u32; 8] =
+    [0xE000_0000, 0xEFFF_FFFF, 0xF000_0000, 0xF000_0001, 0xFFFF_FFFE, 0xFFFF_FFFF, 0xDFFF_FFFF, 0];
 
 pub fn pick<T: Copy>(rng: &mut Rng, list: &[T]) -> T {
     list[rng.below(list.len())]
@@ -31,19 +39,53 @@ pub fn octets(rng: &mut Rng, count: usize) -> Vec<u8> {
     (0..count).map(|_| rng.next_u32() as u8 & pick(rng, &[0xFF, 0x03])).collect()
 }
 
+// ---- sources
+
+/// A source that is allowed, or 0.
+fn good_source(rng: &mut Rng) -> u32 {
+    if rng.one_in(4) {
+        return pick(rng, &EDGES);
+    }
+    pick(rng, &SOURCES)
+}
+
+/// An address that is no source; half of them are 255.255.255.255.
+fn no_source(rng: &mut Rng) -> u32 {
+    let [first, last, all_ones] = NO_SOURCES;
+    pick(rng, &[first, last, all_ones, all_ones])
+}
+
+/// A source, but for one in 16.
+fn any_source(rng: &mut Rng) -> u32 {
+    if rng.one_in(16) {
+        return no_source(rng);
+    }
+    good_source(rng)
+}
+
+/// The source, or another one instead of a 0 that is not allowed.
+fn zero_if(allowed: bool, source: u32) -> u32 {
+    if source == 0 && !allowed {
+        return SOURCES[1];
+    }
+    source
+}
+
 // ---- entry lists
 
 /// An entry with R=0 has a source.
 fn well_formed([group, source, r_preference, metric]: [u32; 4]) -> [u32; 4] {
-    if r_preference & R == 0 && source == 0 {
-        return [group, SOURCES[1], r_preference, metric];
-    }
-    [group, source, r_preference, metric]
+    [group, zero_if(r_preference & R != 0, source), r_preference, metric]
+}
+
+fn entry_with(rng: &mut Rng, source: u32) -> [u32; 4] {
+    let r_preference = pick(rng, &[0, R]) | pick(rng, &PREFERENCES);
+    well_formed([pick(rng, &GROUPS), source, r_preference, pick(rng, &METRICS)])
 }
 
 fn fresh_entry(rng: &mut Rng) -> [u32; 4] {
-    let r_preference = pick(rng, &[0, R]) | pick(rng, &PREFERENCES);
-    well_formed([pick(rng, &GROUPS), pick(rng, &SOURCES), r_preference, pick(rng, &METRICS)])
+    let source = good_source(rng);
+    entry_with(rng, source)
 }
 
 /// The entry after one: the same, with another group or source, or any.
@@ -52,7 +94,7 @@ fn next_entry(rng: &mut Rng, before: [u32; 4]) -> [u32; 4] {
     match rng.below(8) {
         0 => before,
         1..=3 => [pick(rng, &GROUPS), source, r_preference, metric],
-        4..=6 => well_formed([group, pick(rng, &SOURCES), r_preference, metric]),
+        4..=6 => well_formed([group, good_source(rng), r_preference, metric]),
         _ => fresh_entry(rng),
     }
 }
@@ -80,30 +122,30 @@ pub fn one_run(r: u32, count: usize) -> Vec<u8> {
 
 /// Good pairs; `zero` allows source 0.
 pub fn pairs(rng: &mut Rng, count: usize, zero: bool) -> Vec<u8> {
-    let sources = if zero { &SOURCES[..] } else { &SOURCES[1..] };
-    (0..count).flat_map(|_| words(&[pick(rng, &GROUPS), pick(rng, sources)])).collect()
+    (0..count).flat_map(|_| words(&[pick(rng, &GROUPS), zero_if(zero, good_source(rng))])).collect()
 }
 
 /// Good assert entries that are also good pairs, two for each.
 pub fn asserts_and_pairs(rng: &mut Rng, count: usize) -> Vec<u8> {
-    let entry =
-        |rng: &mut Rng| [pick(rng, &GROUPS), pick(rng, &SOURCES), pick(rng, &GROUPS), pick(rng, &METRICS)];
-    (0..count).flat_map(|_| words(&entry(rng))).collect()
+    let pair = |rng: &mut Rng| [pick(rng, &GROUPS), good_source(rng)];
+    (0..2 * count).flat_map(|_| words(&pair(rng))).collect()
 }
 
-/// Spoils one entry of a list: its group, or its source and R.
+/// Spoils one entry of a list: its group, its source, or its source and R.
 pub fn spoil_entry(rng: &mut Rng, list: &mut [u8], size: usize) {
     let count = list.len() / size;
     if count == 0 {
         return;
     }
     let entry = &mut list[size * rng.below(count)..][..size];
-    if rng.one_in(2) {
-        entry[..4].copy_from_slice(&pick(rng, &NO_GROUPS).to_be_bytes());
-    } else {
-        entry[4..8].fill(0);
-        if size == 16 {
-            entry[8] &= 0x7F;
+    match rng.below(3) {
+        0 => entry[..4].copy_from_slice(&pick(rng, &NO_GROUPS).to_be_bytes()),
+        1 => entry[4..8].copy_from_slice(&no_source(rng).to_be_bytes()),
+        _ => {
+            entry[4..8].fill(0);
+            if size == 16 {
+                entry[8] &= 0x7F;
+            }
         }
     }
 }
@@ -122,6 +164,18 @@ pub fn alphabet() -> Vec<[u32; 4]> {
         [other, 0, rp, metric],
         [other, source, rp, metric],
         [group, 0, rp, METRICS[1]],
+    ]
+}
+
+/// Entries of the same groups whose source is bad: for its address, or as 0.
+pub fn bad_alphabet() -> Vec<[u32; 4]> {
+    let (preference, metric) = (PREFERENCES[0], METRICS[0]);
+    vec![
+        [GROUPS[0], NO_SOURCES[0], preference, metric],
+        [GROUPS[0], NO_SOURCES[1], R | preference, metric],
+        [GROUPS[0], NO_SOURCES[2], preference, metric],
+        [GROUPS[1], NO_SOURCES[2], R | preference, metric],
+        [GROUPS[1], 0, preference, metric],
     ]
 }
 
@@ -263,6 +317,25 @@ pub fn zero_sources() -> Vec<Vec<u8>> {
     ]
 }
 
+/// A message with an address as the source of each form of record: of an assert
+/// record with R=0 and with R=1, plain and beside another one; of a source
+/// aggregated record and of a group record; and of a pair of each kind.
+pub fn with_source(address: u32) -> Vec<Vec<u8>> {
+    let record = |r, from| assert_record([GROUPS[0], from, r | 110, 20]);
+    let pair = |from| pair_record(GROUPS[0], from);
+    let group_records = [group_record(GROUPS[0], &[]), group_record(GROUPS[1], &[SOURCES[1], address])];
+    vec![
+        message(0x25, 0, &record(0, address)),
+        message(0x25, 0, &record(R, address)),
+        message(0x25, 1, &[vec![0; 4], record(0, address), record(R, SOURCES[1])].concat()),
+        message(0x25, 1, &[vec![0; 4], record(0, SOURCES[1]), record(R, address)].concat()),
+        message(0x25, 3, &[vec![0; 4], source_aggregated(address, &GROUPS[..2])].concat()),
+        message(0x25, 3, &[vec![0; 4], rp_aggregated(2, &group_records.concat())].concat()),
+        message(0x2D, 0x00, &[pair(SOURCES[1]), pair(address)].concat()),
+        message(0x2D, 0x10, &[pair(address), pair(SOURCES[1])].concat()),
+    ]
+}
+
 /// Short messages that are refused: by 1 to 7 in turn, and by 13.
 pub fn refused_messages() -> Vec<Vec<u8>> {
     vec![
@@ -278,9 +351,9 @@ pub fn refused_messages() -> Vec<Vec<u8>> {
 }
 
 /// Other values for an octet.
-pub fn other_values(rng: &mut Rng, old: u8) -> [u8; 9] {
+pub fn other_values(rng: &mut Rng, old: u8) -> [u8; 10] {
     let random = rng.next_u32() as u8;
-    [0, 1, 0x20, 0x7F, 0xFF, old ^ 1, old ^ 0x80, old.wrapping_add(2), random]
+    [0, 1, 0x20, 0x7F, 0xE0, 0xFF, old ^ 1, old ^ 0x80, old.wrapping_add(2), random]
 }
 
 /// First octets of messages, mostly of the kinds that are read.
@@ -290,6 +363,10 @@ fn first_octets(rng: &mut Rng) -> [u8; 2] {
     let second = pick(rng, &[0, 1, 3, 3, 0x10, 0x20, random[1]]);
     [first, second]
 }
+
+/// What makes random messages.
+pub const RANDOM: [fn(&mut Rng) -> Vec<u8>; 5] =
+    [random_message, random_fields, random_records, random_aggregated, random_hello];
 
 /// Random octets behind plausible first ones.
 pub fn random_message(rng: &mut Rng) -> Vec<u8> {
@@ -314,7 +391,7 @@ fn random_field(rng: &mut Rng) -> Vec<u8> {
     let small = rng.below(3) as u16;
     match rng.below(10) {
         0..=2 => group(rng.next_u32() as u8, pick(rng, &GROUPS)),
-        3..=4 => source(pick(rng, &SOURCES)),
+        3..=4 => source(any_source(rng)),
         5..=6 => words(&[pick(rng, &[0, R]) | 110, 20]),
         7 => number(small, 0),
         8 => [source(SOURCES[1]), number(small, 7)].concat(),
@@ -322,7 +399,30 @@ fn random_field(rng: &mut Rng) -> Vec<u8> {
     }
 }
 
-/// An aggregated message of records of any form, joined or not.
+/// A message of records or pairs that are good but for some sources.
+pub fn random_records(rng: &mut Rng) -> Vec<u8> {
+    let count = 1 + rng.below(4);
+    let records = |rng: &mut Rng| (0..count).flat_map(|_| random_record(rng)).collect::<Vec<u8>>();
+    let pairs = |rng: &mut Rng, zero| (0..count).flat_map(|_| random_pair(rng, zero)).collect::<Vec<u8>>();
+    match rng.below(4) {
+        0 => message(0x25, 0, &random_record(rng)),
+        1 => message(0x25, 1, &[vec![0; 4], records(rng)].concat()),
+        2 => message(0x2D, 0x00, &pairs(rng, false)),
+        _ => message(0x2D, 0x10, &pairs(rng, true)),
+    }
+}
+
+fn random_record(rng: &mut Rng) -> Vec<u8> {
+    let source = any_source(rng);
+    assert_record(entry_with(rng, source))
+}
+
+fn random_pair(rng: &mut Rng, zero: bool) -> Vec<u8> {
+    pair_record(pick(rng, &GROUPS), zero_if(zero, any_source(rng)))
+}
+
+/// An aggregated message of records of any form, joined or not, good but for
+/// some sources.
 pub fn random_aggregated(rng: &mut Rng) -> Vec<u8> {
     let mut body = vec![0, rng.next_u32() as u8, 0, 1];
     for _ in 0..=rng.below(3) {
@@ -335,14 +435,14 @@ fn random_aggregated_record(rng: &mut Rng) -> Vec<u8> {
     let count = rng.below(4);
     if rng.one_in(2) {
         let groups: Vec<u32> = (0..=count).map(|_| pick(rng, &GROUPS)).collect();
-        return source_aggregated(pick(rng, &SOURCES[1..]), &groups);
+        return source_aggregated(zero_if(false, any_source(rng)), &groups);
     }
     let records: Vec<u8> = (0..=count).flat_map(|_| random_group_record(rng)).collect();
     rp_aggregated(count + 1, &records)
 }
 
 fn random_group_record(rng: &mut Rng) -> Vec<u8> {
-    let sources: Vec<u32> = (0..rng.below(4)).map(|_| pick(rng, &SOURCES)).collect();
+    let sources: Vec<u32> = (0..rng.below(4)).map(|_| any_source(rng)).collect();
     group_record(pick(rng, &GROUPS), &sources)
 }
 
@@ -399,6 +499,20 @@ pub fn large_messages(rng: &mut Rng) -> Vec<Vec<u8>> {
     ]
 }
 
+/// The large messages that end with a source, or with a record after it, with an
+/// address as that source.
+pub fn last_source(large: &[Vec<u8>], address: u32) -> Vec<Vec<u8>> {
+    // R word and metric follow it in the simple message.
+    let last = |(message, after): (usize, usize)| {
+        let mut m = large[message].clone();
+        let at = m.len() - after - 4;
+        m[at..at + 4].copy_from_slice(&address.to_be_bytes());
+        seal(&mut m);
+        m
+    };
+    [(1, 8), (3, 0), (5, 0), (6, 0)].map(last).to_vec()
+}
+
 // ---- files of messages
 
 /// Each message with its length before it, as far as 16 bits say it.
@@ -417,19 +531,22 @@ pub fn hello_of(length: usize) -> Vec<u8> {
     m
 }
 
-/// A message for a file: one of a list, damaged or not; one of random records,
-/// options or fields; a long one; any octets, or none.
+/// A message for a file: one of a list, damaged or not; one with a source of any
+/// of the addresses; one of random records, options or fields; a long one; any
+/// octets, or none.
 pub fn any_message(rng: &mut Rng, list: &[Vec<u8>]) -> Vec<u8> {
     let one = &list[rng.below(list.len())];
     let length = rng.below(12);
-    match rng.below(12) {
+    match rng.below(14) {
         0..=4 => one.clone(),
         5 => damaged(rng, one),
-        6 => random_aggregated(rng),
-        7 => random_hello(rng),
-        8 => random_fields(rng),
-        9 => random_message(rng),
-        10 => hello_of(length * pick(rng, &[1, 50, 100])),
+        6 => with_source(pick(rng, &ADDRESSES)).swap_remove(rng.below(8)),
+        7 => random_records(rng),
+        8 => random_aggregated(rng),
+        9 => random_hello(rng),
+        10 => random_fields(rng),
+        11 => random_message(rng),
+        12 => hello_of(length * pick(rng, &[1, 50, 100])),
         _ => octets(rng, length / 2),
     }
 }
@@ -442,8 +559,10 @@ pub fn any_file(rng: &mut Rng, list: &[Vec<u8>], bound: usize) -> Vec<u8> {
 
 // ---- neighbours and counters
 
+/// Few addresses of neighbours; some are no sources.
 pub fn address(rng: &mut Rng) -> u32 {
-    1 + rng.below(20) as u32 * pick(rng, &[1, 1, 0x0A00_0001])
+    let small = rng.below(20) as u32;
+    1 + pick(rng, &[small, small, 0x0A00_0001 * small, 0xE000_0000 + small, u32::MAX - 1 - small])
 }
 
 fn row(rng: &mut Rng, address: u32) -> Neighbour {
@@ -692,4 +811,14 @@ pub fn loose_sheet(rng: &mut Rng, counts: [usize; 3]) -> Vec<u8> {
         octets.extend(words(&[i as u32 + 1, 5, 0x0100_0069]));
     }
     octets
+}
+
+/// Puts an address that is no source into an entry of a sheet of so many asserts
+/// and pairs.
+pub fn spoil_sheet(rng: &mut Rng, sheet: &mut [u8], [asserts, pairs]: [usize; 2]) {
+    let entry = rng.below(asserts + pairs);
+    let at = if entry < asserts { 12 + 16 * entry } else { 12 + 8 * (entry + asserts) };
+    if asserts + pairs > 0 {
+        sheet[at + 4..at + 8].copy_from_slice(&no_source(rng).to_be_bytes());
+    }
 }

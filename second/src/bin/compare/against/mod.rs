@@ -17,6 +17,7 @@ mod popcount;
 mod read;
 mod report;
 mod sheet;
+mod sources;
 mod tally;
 mod trains;
 
@@ -25,16 +26,19 @@ use lent::Lent;
 use outcomes::Outcomes;
 use places::Fields;
 use second::rng::Rng;
+use sources::Sources;
 use std::process::ExitCode;
 use tally::Tally;
 
 /// A run: the random numbers, what was counted, which fields were at fault, what
-/// came of the files reported, and how often random parts are run.
+/// came of the files reported, which sources were refused and accepted, and how
+/// often random parts are run.
 pub struct Run {
     rng: Rng,
     tally: Tally,
     fields: Fields,
     outcomes: Outcomes,
+    sources: Sources,
     rounds: usize,
 }
 
@@ -59,6 +63,7 @@ pub fn all(options: Options) -> ExitCode {
         tally: Tally::new(options),
         fields: Fields::default(),
         outcomes: Outcomes::default(),
+        sources: Sources::default(),
         rounds: options.rounds,
     };
     for subject in [
@@ -76,5 +81,5 @@ pub fn all(options: Options) -> ExitCode {
     ] {
         subject(&mut run);
     }
-    run.tally.report(&run.fields, &run.outcomes)
+    run.tally.report(&run.fields, &run.outcomes, &run.sources)
 }

@@ -1,6 +1,7 @@
 //! The neighbour table and the election.
 
 use super::lent::Lent;
+use super::sources::{HEARD, OWN};
 use super::{calls, expect, ffi, make, Run};
 use second::neighbours::*;
 
@@ -47,7 +48,7 @@ fn any_address(run: &mut Run, table: &Table) -> u32 {
     match run.below(12) {
         0 => 0,
         1..=3 => table.rows[run.below(ROWS)].address,
-        4 => make::pick(&mut run.rng, &[0x7FFF_FFFF, 0x8000_0000, u32::MAX]),
+        4 => make::pick(&mut run.rng, &[0x7FFF_FFFF, 0x8000_0000, 0xE000_0001, u32::MAX]),
         _ => make::address(&mut run.rng),
     }
 }
@@ -104,6 +105,9 @@ fn hear_one(run: &mut Run, table: &Table, address: u32, said: ffi::Hello) {
     let first = calls::hear(expect::table_form(table), address, said);
     let second = expect::table(table, hear(*table, address, expect::said(said)));
     run.tally.call("pim_hear", format_args!("address {address}, {said:?}, {table:?}"), &[], &first, &second);
+    if second.refusal.number == 0 {
+        run.sources.count(HEARD, address);
+    }
 }
 
 fn forget_one(run: &mut Run, table: &Table, address: u32) {
@@ -123,6 +127,9 @@ fn questions(run: &mut Run, table: &Table, address: u32) {
     let second = expect::elected(elect(table, address, priority));
     let numbers = format_args!("address {address}, priority {priority}, {table:?}");
     run.tally.call("pim_elect", numbers, &[], &first, &second);
+    if second.refusal.number == 0 {
+        run.sources.count(OWN, address);
+    }
 
     among(run, &table.rows[..table.count.min(ROWS)]);
 }

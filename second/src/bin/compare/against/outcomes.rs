@@ -2,7 +2,7 @@
 
 use second::report::Tally;
 
-const KINDS: [&str; 6] = ["hello", "assert", "simple", "aggregated", "null-register", "register-stop"];
+pub const KINDS: [&str; 6] = ["hello", "assert", "simple", "aggregated", "null-register", "register-stop"];
 
 /// The numbers that refuse a message.
 const NUMBERS: [usize; 8] = [1, 2, 3, 4, 5, 6, 7, 13];

@@ -2,9 +2,11 @@
 
 use super::ffi::PackAnswer;
 use super::lent::Lent;
+use super::sources::{is_bad, Accepted};
+use super::tally::FIRST_BAD;
 use super::{calls, expect, make, read, Run};
 use second::pack::*;
-use second::Answer;
+use second::{Answer, Refusal};
 
 type First = fn(&Lent, usize, usize, &mut Lent) -> PackAnswer;
 type Second = fn(&[u8], usize, usize, &mut [u8]) -> Answer<(usize, usize)>;
@@ -190,10 +192,32 @@ pub fn one(
 ) -> (PackAnswer, Vec<u8>) {
     let mut buffer = run.room("buffer", room);
     let first = (form.first)(list, start, limit, &mut buffer);
-    let second = expect::pack((form.second)(list.second(), start, limit, buffer.second_mut()));
+    let answer = (form.second)(list.second(), start, limit, buffer.second_mut());
+    let second = expect::pack(answer);
     let numbers = format_args!("start {start}, limit {limit}, room {room}");
     run.tally.call(form.call, numbers, &[list, &buffer], &first, &second);
+    first_bad(run, form.call, form, list, start, answer.map(|(_, taken)| taken));
     (first, buffer.first()[..first.length].to_vec())
+}
+
+/// A call is refused by 7 for the first bad entry from its start on; one that is
+/// not refused has none.
+fn first_bad(run: &mut Run, call: &str, form: Form, list: &Lent, start: usize, taken: Answer<usize>) {
+    let entry = |number: usize| &list.second()[form.size * number..][..form.size];
+    let refused = match taken {
+        Ok(taken) => {
+            let entries = &list.second()[form.size * start..][..form.size * taken];
+            run.sources.accepted(Accepted::Packed, entries, form.size);
+            None
+        }
+        Err(Refusal { number: 7, place, .. }) => {
+            run.sources.entry(call, entry(place));
+            Some(place)
+        }
+        Err(_) => return,
+    };
+    let bad = (start..list.length() / form.size).find(|number| is_bad(entry(*number), form.zero));
+    run.tally.claim(FIRST_BAD, format_args!("start {start}: {bad:?}"), list, refused == bad);
 }
 
 /// Both assert forms in one call: the number of entries taken and the chosen
@@ -202,10 +226,11 @@ pub fn both(run: &mut Run, list: &Lent, start: usize, limit: usize, rooms: [usiz
     let mut simple = run.room("simple buffer", rooms[0]);
     let mut aggregated = run.room("aggregated buffer", rooms[1]);
     let first = calls::pack_both(list, start, limit, &mut simple, &mut aggregated);
-    let second = pack_both(list.second(), start, limit, simple.second_mut(), aggregated.second_mut());
+    let answer = pack_both(list.second(), start, limit, simple.second_mut(), aggregated.second_mut());
     let numbers = format_args!("start {start}, limit {limit}, rooms {rooms:?}");
-    let second = expect::choice(second);
+    let second = expect::choice(answer);
     run.tally.call("pim_pack_both", numbers, &[list, &simple, &aggregated], &first, &second);
+    first_bad(run, "pim_pack_both", SIMPLE, list, start, answer.map(|(_, _, taken)| taken));
     let chosen = if first.aggregated == 0 { &simple } else { &aggregated };
     (first.taken, chosen.first()[..first.length].to_vec())
 }

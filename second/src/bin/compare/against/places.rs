@@ -10,7 +10,7 @@ use std::collections::BTreeMap;
 
 /// What a field belongs to; the number of the refusal; and the fields that it
 /// has to occur at, counted from the first octet of what they belong to.
-const FIELDS: [(&str, u8, &[usize]); 12] = [
+const FIELDS: [(&str, u8, &[usize]); 20] = [
     ("Zero and Reserved", 6, &[0, 1]),
     ("assert record", 6, &[0, 8, 14, 18]),
     ("assert record", 7, &[0, 8]),
@@ -19,8 +19,16 @@ const FIELDS: [(&str, u8, &[usize]); 12] = [
     ("source aggregated record", 7, &[8, 18, 26]),
     ("RP aggregated record", 6, &[0, 4, 8, 10, 12, 20, 22, 24, 30]),
     ("RP aggregated record", 7, &[12, 24, 30]),
-    ("pair", 6, &[0, 8]),
-    ("pair", 7, &[0, 8]),
+    ("null-register pair", 6, &[0, 8]),
+    ("null-register pair", 7, &[0, 8]),
+    ("register-stop pair", 6, &[0, 8]),
+    ("register-stop pair", 7, &[0, 8]),
+    ("single assert record", 6, &[0, 8, 14, 18]),
+    ("single assert record", 7, &[0, 8]),
+    ("single null-register pair", 6, &[0, 8]),
+    ("single null-register pair", 7, &[0, 8]),
+    ("single register-stop pair", 6, &[0, 8]),
+    ("single register-stop pair", 7, &[0, 8]),
     ("option", 6, &[0, 2, 4]),
     ("attribute", 6, &[0, 1, 2, 4, 6, 8, 12, 16, 18, 20, 21, 22, 23, 24]),
 ];
@@ -54,6 +62,23 @@ pub fn in_assert(m: &[u8], refusal: &Refusal) -> &'static str {
     }
 }
 
+/// What the refusal of a message of pairs is in.
+pub fn in_pairs(m: &[u8]) -> &'static str {
+    match m[1] >> 4 {
+        0 => "null-register pair",
+        _ => "register-stop pair",
+    }
+}
+
+/// What the refusal of a record read singly is in.
+pub fn in_single(kind: u8) -> &'static str {
+    match kind {
+        1 | 2 => "single assert record",
+        4 => "single null-register pair",
+        _ => "single register-stop pair",
+    }
+}
+
 /// What holds of an answer to octets that were read. `again` reads the first of
 /// them: cut where the field at fault begins, they are refused by 6 there, so the
 /// reading of that record, option or attribute came just as far. Where its first
@@ -74,6 +99,9 @@ pub fn claim<T>(
         return;
     }
     run.fields.count(what(refusal), refusal);
+    if refusal.number == 7 {
+        run.sources.field(what(refusal), octets.second(), refusal, &again);
+    }
     if refusal.place != refusal.within {
         let cut = again(&octets.second()[..refusal.place]).err();
         run.tally.claim(CUT, numbers, octets, cut == Some(Refusal { number: 6, ..*refusal }));

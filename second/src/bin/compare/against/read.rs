@@ -1,6 +1,7 @@
 //! Messages, their records and Hellos read.
 
 use super::ffi::HelloAnswer;
+use super::sources::Accepted;
 use super::{calls, checksum, expect, make, places, Run};
 use second::hello::read_hello;
 use second::read::{self, Record};
@@ -11,14 +12,16 @@ const KINDS: [u8; 9] = [0, 1, 2, 3, 4, 5, 6, 7, 255];
 
 pub fn compare(run: &mut Run) {
     let small = make::small_messages();
-    for m in small.iter().chain(&make::zero_sources()) {
+    let bad = [make::zero_sources(), make::with_source(0xE000_0000), make::with_source(0xFFFF_FFFF)].concat();
+    for m in small.iter().chain(&bad) {
         changed(run, m);
         cut(run, m);
         changed_and_cut(run, m);
         records(run, m);
     }
+    sources(run);
     lengths(run);
-    for _ in 0..20_000 * run.rounds {
+    for _ in 0..16_000 * run.rounds {
         random(run, &small);
     }
     for _ in 0..run.rounds {
@@ -66,6 +69,15 @@ fn changed_and_cut(run: &mut Run, m: &[u8]) {
     }
 }
 
+/// Each form of record with a source of each address, whole and cut.
+fn sources(run: &mut Run) {
+    for m in make::ADDRESSES.iter().flat_map(|address| make::with_source(*address)) {
+        message(run, &m);
+        cut(run, &m);
+        records(run, &m);
+    }
+}
+
 /// A record of each kind at each place, and at places far past the end.
 fn records(run: &mut Run, m: &[u8]) {
     let far = [m.len() + 100, 1 << 32, usize::MAX - 22, usize::MAX - 13, usize::MAX - 1, usize::MAX];
@@ -91,8 +103,7 @@ fn lengths(run: &mut Run) {
 }
 
 fn random(run: &mut Run, small: &[Vec<u8>]) {
-    let kinds = [make::random_message, make::random_fields, make::random_aggregated, make::random_hello];
-    for make in kinds {
+    for make in make::RANDOM {
         let m = make(&mut run.rng);
         message(run, &m);
         let damaged = make::damaged(&mut run.rng, &m);
@@ -105,7 +116,11 @@ fn random(run: &mut Run, small: &[Vec<u8>]) {
 }
 
 fn large(run: &mut Run) {
-    for m in make::large_messages(&mut run.rng) {
+    let large = make::large_messages(&mut run.rng);
+    for m in make::NO_SOURCES.iter().flat_map(|address| make::last_source(&large, *address)) {
+        message(run, &m);
+    }
+    for m in large {
         message(run, &m);
         message(run, &make::sealed(&[&m[..], &[0; 14]].concat()));
         for _ in 0..60 {
@@ -167,8 +182,7 @@ fn record(run: &mut Run, kind: u8, octets: &[u8], at: usize) {
     let second = read_record(octets, at, kind);
     let numbers = format_args!("kind {kind}, at {at}");
     run.tally.call("pim_read_record", numbers, &[&lent], &first, &expect::record(second));
-    let what = if kind <= Kind::Simple.number() { "assert record" } else { "pair" };
-    places::claim(run, &lent, &second, |_| what, |cut| read_record(cut, at, kind));
+    places::claim(run, &lent, &second, |_| places::in_single(kind), |cut| read_record(cut, at, kind));
 }
 
 /// A record of a kind by its number; one that is no kind is not read.
@@ -190,6 +204,7 @@ pub fn asserts(run: &mut Run, m: &[u8], room: usize) -> Vec<u8> {
     run.tally.call("pim_read_asserts", numbers, &[&lent, &entries], &first, &second);
     let again = |cut: &[u8]| read::read_asserts(&make::sealed(cut), &mut []);
     places::claim(run, &lent, &answer, |refusal| places::in_assert(m, refusal), again);
+    run.sources.accepted(Accepted::Read, &entries.first()[..16 * first.count], 16);
     entries.first()[..16 * first.count].to_vec()
 }
 
@@ -201,6 +216,8 @@ pub fn pairs(run: &mut Run, m: &[u8], room: usize) -> Vec<u8> {
     let second = expect::read(answer);
     let numbers = format_args!("room {room}");
     run.tally.call("pim_read_pairs", numbers, &[&lent, &entries], &first, &second);
-    places::claim(run, &lent, &answer, |_| "pair", |cut| read::read_pairs(&make::sealed(cut), &mut []));
+    let again = |cut: &[u8]| read::read_pairs(&make::sealed(cut), &mut []);
+    places::claim(run, &lent, &answer, |_| places::in_pairs(m), again);
+    run.sources.accepted(Accepted::Read, &entries.first()[..8 * first.count], 8);
     entries.first()[..8 * first.count].to_vec()
 }

@@ -3,9 +3,12 @@
 
 use super::ffi::{self, TallyAnswer};
 use super::lent::Lent;
+use super::sources::tallied;
 use super::tally::{ALL_COUNTED, AS_READ, IN_PIECES, LEFT};
 use super::{calls, expect, make, Run};
+use second::read::{read_asserts, read_pairs};
 use second::report::{add_message, add_octets, mean, report, Tally};
+use second::{Answer, Kind, Refusal};
 use std::fmt::Arguments;
 
 /// What counting leaves at most: a length and a message without its last octet.
@@ -20,9 +23,12 @@ pub fn compare(run: &mut Run) {
         &expect::tally_form(&Tally::default()),
     );
     let list = [make::small_messages(), make::zero_sources(), make::refused_messages()].concat();
+    let sources = make::ADDRESSES.map(make::with_source).concat();
     small_files(run, &list);
+    small_files(run, &sources);
     lengths(run);
-    messages(run, &list);
+    messages(run, &list, 20);
+    messages(run, &sources, 100);
     for _ in 0..1_500 * run.rounds {
         random(run, &list);
     }
@@ -199,10 +205,10 @@ fn count_octets(run: &mut Run, before: &ffi::Tally, octets: &[u8]) -> TallyAnswe
     first
 }
 
-/// Each message, and damaged, onto many tallies.
-fn messages(run: &mut Run, list: &[Vec<u8>]) {
+/// Each message, and damaged, onto so many tallies.
+fn messages(run: &mut Run, list: &[Vec<u8>], tallies: usize) {
     for m in list {
-        for _ in 0..20 * run.rounds {
+        for _ in 0..tallies * run.rounds {
             let before = any_tally(run);
             message(run, &before, m);
             let damaged = make::damaged(&mut run.rng, m);
@@ -251,13 +257,26 @@ fn read(run: &mut Run, m: &Lent) -> (u8, u8, usize) {
         (0, 0) => (calls::read_hello(m).refusal.number, kind, 0),
         (0, 1..=3) => {
             let answer = calls::read_asserts(m, &mut entries);
+            at_fault(run, kind, m, read_asserts);
             (answer.refusal.number, answer.kind, answer.count)
         }
         (0, _) => {
             let answer = calls::read_pairs(m, &mut entries);
+            at_fault(run, kind, m, read_pairs);
             (answer.refusal.number, answer.kind, answer.count)
         }
         _ => (number, 0, 0),
+    }
+}
+
+type Read = fn(&[u8], &mut [u8]) -> Answer<(Kind, usize)>;
+
+/// Counts the source for which a message is refused.
+fn at_fault(run: &mut Run, kind: u8, m: &Lent, read: Read) {
+    let m = m.second();
+    if let Err(refusal @ Refusal { number: 7, .. }) = read(m, &mut []) {
+        let again = |cut: &[u8]| read(&make::sealed(cut), &mut []);
+        run.sources.field(&tallied(kind), m, &refusal, again);
     }
 }
 

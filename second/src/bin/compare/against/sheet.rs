@@ -1,8 +1,10 @@
 //! Stored sheets checked, read and written.
 
+use super::sources::{is_bad, Accepted};
 use super::{calls, expect, make, Run};
 use second::neighbours::{Table, ROWS};
 use second::sheet::{read_sheet, write_sheet, ENTRIES_MOST};
+use second::Refusal;
 
 /// Rooms for all entries that a sheet may have.
 const ASSERT_ROOM: usize = 16 * ENTRIES_MOST;
@@ -17,6 +19,7 @@ pub fn compare(run: &mut Run) {
         let sheet = make::loose_sheet(&mut run.rng, counts);
         read_rooms(run, &sheet);
     }
+    sources(run);
     for _ in 0..run.rounds {
         full(run);
     }
@@ -46,6 +49,29 @@ fn damaged(run: &mut Run, sheet: &[u8]) {
     }
 }
 
+/// Each source of a small sheet with each of the addresses, read and written:
+/// alone, and with another fault before or after it.
+fn sources(run: &mut Run) {
+    let (asserts, pairs) = (3, 3);
+    let sheet = make::sheet(&mut run.rng, [asserts, pairs, 2]);
+    let table = make::table_of(&mut run.rng, 2);
+    let entries = (0..asserts).map(|i| 12 + 16 * i).chain((0..pairs).map(|i| 12 + 16 * asserts + 8 * i));
+    for (entry, address) in entries.flat_map(|entry| make::ADDRESSES.map(|address| (entry, address))) {
+        let mut sheet = sheet.clone();
+        sheet[entry + 4..entry + 8].copy_from_slice(&address.to_be_bytes());
+        read_rooms(run, &sheet);
+        let (asserts, pairs) = sheet[12..12 + 16 * asserts + 8 * pairs].split_at(16 * asserts);
+        for room in [sheet.len(), sheet.len() - 1] {
+            write_one(run, asserts, pairs, &table, room);
+        }
+        for at in 0..sheet.len() {
+            let mut changed = sheet.clone();
+            changed[at] ^= 0x0F;
+            read_rooms(run, &changed);
+        }
+    }
+}
+
 /// The greatest sheet, good and with one fault; lists over their limits.
 fn full(run: &mut Run) {
     let sheet = make::sheet(&mut run.rng, [ENTRIES_MOST, ENTRIES_MOST, ROWS]);
@@ -54,6 +80,8 @@ fn full(run: &mut Run) {
         let mut changed = sheet.clone();
         let at = run.below(changed.len());
         changed[at] ^= 1 << run.below(8);
+        read_rooms(run, &changed);
+        make::spoil_sheet(&mut run.rng, &mut changed, [ENTRIES_MOST, ENTRIES_MOST]);
         read_rooms(run, &changed);
     }
     for asserts in [ENTRIES_MOST, ENTRIES_MOST + 1] {
@@ -72,6 +100,10 @@ fn random_reading(run: &mut Run) {
     let counts = [run.below(6), run.below(6), run.below(ROWS + 1)];
     let mut sheet = make::sheet(&mut run.rng, counts);
     read_rooms(run, &sheet);
+    if run.rng.one_in(3) {
+        make::spoil_sheet(&mut run.rng, &mut sheet, [counts[0], counts[1]]);
+        read_rooms(run, &sheet);
+    }
     for _ in 0..=run.below(2) {
         let at = run.below(sheet.len());
         sheet[at] = make::pick(&mut run.rng, &[0, 1, 2, 3, 0xE0, 0xFF]);
@@ -112,7 +144,10 @@ fn random_writing(run: &mut Run) {
 /// One list lent both as asserts and as pairs, which a call only reads.
 fn shared(run: &mut Run) {
     let count = run.below(9);
-    let list = make::asserts_and_pairs(&mut run.rng, count);
+    let mut list = make::asserts_and_pairs(&mut run.rng, count);
+    if run.rng.one_in(4) {
+        make::spoil_entry(&mut run.rng, &mut list, 8);
+    }
     let lent = run.input("asserts and pairs", &list);
     let table = make::table(&mut run.rng);
     for room in [600, 12 + 2 * list.len() + 12 * table.count] {
@@ -155,9 +190,28 @@ fn read_one(run: &mut Run, sheet: &[u8], assert_room: usize, pair_room: usize) {
     let mut asserts = run.room("asserts", assert_room);
     let mut pairs = run.room("pairs", pair_room);
     let first = calls::read_sheet(&lent, &mut asserts, &mut pairs);
-    let second = expect::sheet(read_sheet(sheet, asserts.second_mut(), pairs.second_mut()));
+    let answer = read_sheet(sheet, asserts.second_mut(), pairs.second_mut());
+    let second = expect::sheet(answer);
     let numbers = format_args!("rooms {assert_room} and {pair_room}");
     run.tally.call("pim_read_sheet", numbers, &[&lent, &asserts, &pairs], &first, &second);
+    match answer {
+        Ok((count, others, _)) => {
+            run.sources.accepted(Accepted::InSheet, &asserts.first()[..16 * count], 16);
+            run.sources.accepted(Accepted::InSheet, &pairs.first()[..8 * others], 8);
+        }
+        Err(Refusal { number: 14, place, .. }) if place > 0 => entry_at_fault(run, sheet, place),
+        Err(_) => (),
+    }
+}
+
+/// The entry of a sheet that begins at a place, by the header, which is good.
+fn entry_at_fault(run: &mut Run, sheet: &[u8], place: usize) {
+    let word = |at: usize| 256 * usize::from(sheet[at]) + usize::from(sheet[at + 1]);
+    if place < word(6) {
+        run.sources.entry("assert of a sheet read", &sheet[place..place + 16]);
+    } else if place < word(10) {
+        run.sources.entry("pair of a sheet read", &sheet[place..place + 8]);
+    }
 }
 
 fn write_one(run: &mut Run, asserts: &[u8], pairs: &[u8], table: &Table, room: usize) {
@@ -165,8 +219,15 @@ fn write_one(run: &mut Run, asserts: &[u8], pairs: &[u8], table: &Table, room: u
     let mut buffer = run.room("buffer", room);
     let form = expect::table_form(table);
     let first = calls::write_sheet(&asserts, &pairs, form, &mut buffer);
-    let second = write_sheet(asserts.second(), pairs.second(), table, buffer.second_mut());
+    let answer = write_sheet(asserts.second(), pairs.second(), table, buffer.second_mut());
     let numbers = format_args!("room {room}, {table:?}");
-    let second = expect::length(second);
+    let second = expect::length(answer);
     run.tally.call("pim_write_sheet", numbers, &[&asserts, &pairs, &buffer], &first, &second);
+    if answer.is_err_and(|refusal| refusal.number == 7) {
+        let asserts = asserts.second().chunks(16).map(|entry| ("assert of a sheet written", entry));
+        let pairs = pairs.second().chunks(8).map(|entry| ("pair of a sheet written", entry));
+        if let Some((what, entry)) = asserts.chain(pairs).find(|(_, entry)| is_bad(entry, true)) {
+            run.sources.entry(what, entry);
+        }
+    }
 }

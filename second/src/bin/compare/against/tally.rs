@@ -4,6 +4,7 @@ use super::expect::Answered;
 use super::lent::{Lent, Memory};
 use super::outcomes::Outcomes;
 use super::places::Fields;
+use super::sources::Sources;
 use crate::options::Options;
 use std::fmt::{Arguments, Debug};
 use std::process::{exit, ExitCode};
@@ -47,7 +48,7 @@ const CALLS: [&str; 34] = [
 ];
 
 // What is claimed of the first implementation beside the single calls: of its
-// whole trains, of its Hellos, of its places in reading, and of its reports.
+// whole trains, of its Hellos, of its places, and of its reports.
 pub const UNPACKED: &str = "train unpacks to its list";
 pub const LEAST: &str = "train is the least (brute force)";
 pub const LARGER_LIMIT: &str = "larger limit, no longer train";
@@ -59,13 +60,27 @@ pub const AS_READ: &str = "counted as its reading call says";
 pub const ALL_COUNTED: &str = "all messages accepted or refused";
 pub const LEFT: &str = "65,536 octets left at most";
 pub const IN_PIECES: &str = "file in pieces, the same report";
+pub const FIRST_BAD: &str = "7 at the first bad entry, or none";
 
-const CLAIMS: [&str; 11] =
-    [UNPACKED, LEAST, LARGER_LIMIT, USUAL, READ_BACK, INSIDE, CUT, AS_READ, ALL_COUNTED, LEFT, IN_PIECES];
+const CLAIMS: [&str; 12] = [
+    UNPACKED,
+    LEAST,
+    LARGER_LIMIT,
+    USUAL,
+    READ_BACK,
+    INSIDE,
+    CUT,
+    AS_READ,
+    ALL_COUNTED,
+    LEFT,
+    IN_PIECES,
+    FIRST_BAD,
+];
 
 const NUMBERS: usize = 14;
 const COMPARISONS_LEAST: u64 = 200_000;
 const OUTCOMES_LEAST: u64 = 500;
+const SOURCES_LEAST: u64 = 100;
 
 pub struct Tally {
     options: Options,
@@ -136,7 +151,7 @@ impl Tally {
     }
 
     /// Prints the tables; a failure if something was not compared.
-    pub fn report(&self, fields: &Fields, outcomes: &Outcomes) -> ExitCode {
+    pub fn report(&self, fields: &Fields, outcomes: &Outcomes, sources: &Sources) -> ExitCode {
         print_rows(&CALLS, &self.calls);
         print_rows(&CLAIMS, &self.claims);
         println!("{:<34}{:>10}", "accepted", self.numbers[0]);
@@ -148,8 +163,9 @@ impl Tally {
         for (outcome, count) in outcomes.rows() {
             println!("{outcome:<34}{count:>10}");
         }
+        print_sources(sources);
         println!("{} comparisons, 0 differences", self.comparisons());
-        let gaps = self.gaps(fields, outcomes);
+        let gaps = self.gaps(fields, outcomes, sources);
         for gap in &gaps {
             println!("failed: {gap}");
         }
@@ -161,7 +177,7 @@ impl Tally {
     }
 
     /// What should have been compared and was not.
-    fn gaps(&self, fields: &Fields, outcomes: &Outcomes) -> Vec<String> {
+    fn gaps(&self, fields: &Fields, outcomes: &Outcomes, sources: &Sources) -> Vec<String> {
         let calls = CALLS.iter().zip(&self.calls).chain(CLAIMS.iter().zip(&self.claims));
         let mut gaps: Vec<String> = calls
             .filter(|(_, count)| **count == 0)
@@ -175,6 +191,11 @@ impl Tally {
         }
         for (outcome, count) in outcomes.rows().iter().filter(|(_, count)| *count < OUTCOMES_LEAST) {
             gaps.push(format!("{outcome} came {count} times, fewer than {OUTCOMES_LEAST}"));
+        }
+        for (name, counts) in sources.none_rows().iter().chain(&sources.accepted_rows()) {
+            if counts.iter().any(|count| *count < SOURCES_LEAST) {
+                gaps.push(format!("{name} came {counts:?} times, not each {SOURCES_LEAST} or more"));
+            }
         }
         if self.nulls == 0 {
             gaps.push("NULL was never lent".to_string());
@@ -194,5 +215,19 @@ fn slot<'a>(names: &[&str], counts: &'a mut [u64], name: &str) -> &'a mut u64 {
 fn print_rows(names: &[&str], counts: &[u64]) {
     for (name, count) in names.iter().zip(counts) {
         println!("{name:<34}{count:>10}");
+    }
+}
+
+fn print_sources(sources: &Sources) {
+    println!("{:<34}{:>10}{:>10}", "no source", "224/4", "all ones");
+    print_columns(&sources.none_rows());
+    println!("{:<34}{:>10}{:>10}{:>10}", "accepted", "read", "packed", "in sheets");
+    print_columns(&sources.accepted_rows());
+}
+
+fn print_columns(rows: &[(String, Vec<u64>)]) {
+    for (name, counts) in rows {
+        let counts: String = counts.iter().map(|count| format!("{count:>10}")).collect();
+        println!("{name:<34}{counts}");
     }
 }
