@@ -1,19 +1,20 @@
 -- Laws of addresses, over the family.
 --     width-range                                  an address has 4 to 16 octets
---     group-first, group-high .. group-low         whether it is a group, by its first octet, and by its halves
---     source-first, source-zero .. source-low      whether a source may have it, by its first octet, and by the whole address
---     may-some, may-zero, may-none, may-absent     whether a source field may hold it
+--     group-first                                  whether it is a group, by its first octet
+--     source-first, source-inner                   whether a source may have it, by its first octet
+--     source-other, source-last                    and by the whole address
+--     may-some, may-other, may-zero, may-group     whether a source field may hold it
 --     halves-below, halves-above, halves-same      two numbers in halves, compared
 --     halves-some, halves-low                      and against 0; last-none, last-low against 255.255.255.255
 --     address-there, address-none                  the address at a place, by whether it is there
---     group-at, source-at                          whether it is a group or a source, by the octet at that place
+--     group-at, source-at, inner-at                whether it is a group or a source, by the octet at that place
 --     pseudo-summed                                the pseudo-header summed in five parts
 -- Assumes nothing.
 use Prim.Native.Nat.{ℕ, _+_, _*_, _/_, _^_, _<_, _≤_}
 use native.Mathlib.Omega.{arith}
 use native.Mathlib.Nat.{add-zero, zero-div, ne-of-lt}
 use mathlib.Core.Path.{_≡_, refl, sym, ap, _∙_}
-use mathlib.Core.Bool.{Bool, true, false, not, _&&_}
+use mathlib.Core.Bool.{Bool, true, false, not, _&&_, _||_}
 use mathlib.Core.List.{List, [], _∷_, _++_, append-assoc}
 use lib.Dec.{ltb, leb, eqb, lit≤}
 use lib.ListN.{length, getD, take, drop, length-drop}
@@ -79,15 +80,17 @@ source-first true o h e t =
     let between = first-between (getD o 0 0) 255 t in
     rw (ne-eqb (value o) 0 (λ z. between .0 (sym first ∙ ap (λ n. n / 256 ^ 15) z ∙ zero-div (256 ^ 15))), ap (λ x. eqb x 255) first, ne-eqb (getD o 0 0) 255 (ne-of-lt (between .1)))
 
--- the tests of a whole address, in their order
-pub source-zero : (ipv6 : Bool) (a : ℕ) {z : Bool} → z ≡ eqb a 0 → z ≡ true → false ≡ familyOf ipv6 .isSource a
-source-zero false a e t = rw (← e, t)
-source-zero true a e t = rw (← e, t)
+-- no group, and its first octet neither 0 nor 255
+pub source-inner : (ipv6 : Bool) (o : List ℕ) → Octets o → length o ≡ familyOf ipv6 .width → (getD o 0 0 ≡ 0 → ⊥) → (getD o 0 0 ≡ 255 → ⊥)
+    → familyOf ipv6 .isGroup (value o) ≡ false → familyOf ipv6 .isSource (value o) ≡ true
+source-inner false o h e some less g =
+    let first = value-first 3 o h e in
+    rw (ne-eqb (value o) 0 (λ z. some (omega (arith, first, z))), g, ne-eqb (value o) 0xffff_ffff (λ l. less (omega (arith, first, l))))
+source-inner true o h e some less g =
+    let first = value-first 15 o h e in
+    rw (ne-eqb (value o) 0 (λ z. some (sym first ∙ ap (λ n. n / 256 ^ 15) z ∙ zero-div (256 ^ 15))), g)
 
-pub source-group : (ipv6 : Bool) (a : ℕ) {z g : Bool} → z ≡ eqb a 0 → z ≡ false → g ≡ familyOf ipv6 .isGroup a → g ≡ true → false ≡ familyOf ipv6 .isSource a
-source-group false a e n i t = rw (← e, n, ← i, t)
-source-group true a e n i t = rw (← e, n, ← i, t)
-
+-- by what the tests of a whole address found
 pub source-other : (ipv6 : Bool) (a : ℕ) {z g : Bool} → z ≡ eqb a 0 → z ≡ false → g ≡ familyOf ipv6 .isGroup a → g ≡ false → ipv6 ≡ true
     → true ≡ familyOf ipv6 .isSource a
 source-other false a e n i t six = cc
@@ -100,26 +103,46 @@ source-last true a e n i t four = cc
 
 -- ---- source fields
 
-module _ (f : Family) (zero : Bool) (a : ℕ) where
-  pub may-some : f .isSource a ≡ true → true ≡ mayBeSource f zero a
-  unfolding mayBeSource
-  may-some e = rw e
+pub may-some : (f : Family) (zero : Bool) (a : ℕ) → f .isSource a ≡ true → true ≡ mayBeSource f zero a
+unfolding mayBeSource
+may-some f zero a e = rw e
 
-  pub may-zero : f .isSource a ≡ false → zero ≡ true → eqb a 0 ≡ mayBeSource f zero a
-  unfolding mayBeSource
-  may-zero e z = rw (e, z)
-
-  pub may-none : f .isSource a ≡ false → zero ≡ false → false ≡ mayBeSource f zero a
-  unfolding mayBeSource
-  may-none e z = rw (e, z)
+-- an address other than 0 is asked itself
+pub may-other : (f : Family) (zero : Bool) (a : ℕ) → eqb a 0 ≡ false → f .isSource a ≡ mayBeSource f zero a
+unfolding mayBeSource
+may-other f zero a e = rw e (go (f .isSource a) zero)
+  where
+    go : (s z : Bool) → s ≡ (s || (z && false))
+    go true z = refl
+    go false true = refl
+    go false false = refl
 
 -- 0 is held where it may be
-pub may-absent : (ipv6 zero : Bool) → zero ≡ mayBeSource (familyOf ipv6) zero 0
+pub may-zero : (ipv6 zero : Bool) (a : ℕ) → eqb a 0 ≡ true → zero ≡ mayBeSource (familyOf ipv6) zero a
 unfolding mayBeSource
-may-absent false false = refl
-may-absent false true = refl
-may-absent true false = refl
-may-absent true true = refl
+may-zero ipv6 zero a e = rw (eqb-true a 0 e) (go ipv6 zero)
+  where
+    go : (b z : Bool) → z ≡ (familyOf b .isSource 0 || (z && eqb 0 0))
+    go false false = refl
+    go false true = refl
+    go true false = refl
+    go true true = refl
+
+-- no group is held
+pub may-group : (ipv6 zero : Bool) (a : ℕ) → familyOf ipv6 .isGroup a ≡ true → false ≡ mayBeSource (familyOf ipv6) zero a
+may-group ipv6 zero a g = go (eqb a 0) refl
+  where
+    no-group : (b : Bool) → familyOf b .isGroup 0 ≡ false
+    no-group false = refl
+    no-group true = refl
+
+    no-source : (b : Bool) → eqb a 0 ≡ false → familyOf b .isGroup a ≡ true → false ≡ familyOf b .isSource a
+    no-source false z t = rw (z, t)
+    no-source true z t = rw (z, t)
+
+    go : (z : Bool) → eqb a 0 ≡ z → false ≡ mayBeSource (familyOf ipv6) zero a
+    go true z = cc (g, ap (familyOf ipv6 .isGroup) (eqb-true a 0 z), no-group ipv6)
+    go false z = no-source ipv6 z g ∙ may-other (familyOf ipv6) zero a z
 
 -- ---- a number in two halves
 
@@ -156,26 +179,6 @@ last-low h l e =
     let same : l ≡ halves h l = omega arith in
     ap (λ x. not (eqb x 0xffff_ffff)) same
 
--- whether an IPv6 address is a group, by the first octet of its high half
-pub group-high : (h l : ℕ) → l < 18446744073709551616 → eqb (h / 72057594037927936) 255 ≡ eqb (halves h l / 2 ^ 120) 0xff
-group-high h l s =
-    let same : h / 72057594037927936 ≡ halves h l / 2 ^ 120 = omega arith in
-    ap (λ x. eqb x 255) same
-
--- an IPv4 group has a high half of 0
-pub group-none : (h l : ℕ) → (h ≡ 0 → ⊥) → false ≡ (leb 0xe000_0000 (halves h l) && ltb (halves h l) 0xf000_0000)
-group-none h l n =
-    let high : 18446744073709551616 ≤ halves h l = omega (arith, n) in
-    rw (le-leb 0xe000_0000 (halves h l) (omega arith), le-ltb (halves h l) 0xf000_0000 (omega arith))
-
-pub group-under : (h l : ℕ) → h ≡ 0 → l < 0xe000_0000 → false ≡ (leb 0xe000_0000 (halves h l) && ltb (halves h l) 0xf000_0000)
-group-under h l e k = rw (lt-leb 0xe000_0000 (halves h l) (omega arith))
-
-pub group-low : (h l : ℕ) → h ≡ 0 → 0xe000_0000 ≤ l → ltb l 0xf000_0000 ≡ (leb 0xe000_0000 (halves h l) && ltb (halves h l) 0xf000_0000)
-group-low h l e k =
-    let same : l ≡ halves h l = omega arith in
-    rw (le-leb 0xe000_0000 (halves h l) (omega arith)) (ap (λ x. ltb x 0xf000_0000) same)
-
 -- ---- an address at a place
 
 pub address-there : (f : Family) (o : List ℕ) (at : ℕ) → at + f .width ≤ length o → addressAt f o at ≡ numberAt (f .width) o at
@@ -204,6 +207,11 @@ module _ (ipv6 : Bool) (o : List ℕ) (at : ℕ) (octet : Octets o) (there : at 
   pub source-at : sourceFirst ipv6 (getD o at 0) ≡ true → familyOf ipv6 .isSource (numberAt (familyOf ipv6 .width) o at) ≡ true
   unfolding numberAt
   source-at t = source-first ipv6 _ part-octets part-long (ap (sourceFirst ipv6) part-first ∙ t)
+
+  pub inner-at : (getD o at 0 ≡ 0 → ⊥) → (getD o at 0 ≡ 255 → ⊥) → familyOf ipv6 .isGroup (numberAt (familyOf ipv6 .width) o at) ≡ false
+      → familyOf ipv6 .isSource (numberAt (familyOf ipv6 .width) o at) ≡ true
+  unfolding numberAt
+  inner-at some less g = source-inner ipv6 _ part-octets part-long (λ z. some (sym part-first ∙ z)) (λ l. less (sym part-first ∙ l)) g
 
 -- ---- the pseudo-header
 

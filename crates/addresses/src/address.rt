@@ -56,22 +56,6 @@ pub fn is_zero(a: Address) -> bool
     a.low == 0
 }
 
-// Whether an address is one that a group may have.
-pub fn is_group(ipv6: bool, a: Address) -> bool
-    ensures { λ r. ⌜ r ≡ familyOf ipv6 .isGroup (numberOf a) ⌝ }
-{
-    if ipv6 {
-        return a.high / 72057594037927936 == 255;
-    }
-    if a.high != 0 {
-        return false;
-    }
-    if a.low < 0xe000_0000 {
-        return false;
-    }
-    a.low < 0xf000_0000
-}
-
 // The octets of an address, from the start of one slice to the start of another. Lend parts of that length.
 pub fn copy_address(ipv6: bool, s: &[u8], d: &mut [u8])
     ensures { λ _. ⌜ now (d .exit) ≡ copied (familyOf ipv6 .width) (now (s .entry)) (now (d .entry)) ⌝ }

@@ -3,7 +3,7 @@
 // format.
 //
 // family.rt      what tells the two families apart, as numbers
-// address.rt     an address: read at a place, compared, whether it is a group, copied
+// address.rt     an address: read at a place, compared, copied
 // source.rt      whether a source may have an address
 // pseudo.rt      the sum of RFC 8200's pseudo-header
 mod address;
@@ -14,7 +14,6 @@ mod source;
 pub use address::address_at;
 pub use address::copy_address;
 pub use address::is_below;
-pub use address::is_group;
 pub use address::is_zero;
 pub use family::family_number;
 pub use family::is_multicast;
@@ -22,4 +21,5 @@ pub use family::least_limit;
 pub use family::mask_length;
 pub use family::width;
 pub use pseudo::pseudo_sum;
+pub use source::begins_source;
 pub use source::may_be_source;

@@ -1,35 +1,18 @@
-// Which addresses a source may have. Messages, entries and sheets all ask `may_be_source`.
+// Which addresses a source may have. Messages, entries and sheets all ask `may_be_source`; where it is enough that most sources are passed,
+// `begins_source`.
 use crate::address::address_at;
-use crate::address::is_group;
 use crate::address::is_zero;
+use crate::family::is_multicast;
 use crate::family::width;
-use format::Address;
 ghost use mathlib.Core.Path.{_≡_};
+ghost use mathlib.Core.Bool.{false};
+ghost use Prim.Native.Nat.{_+_, _≤_};
+ghost use lib.ListN.{length};
 ghost use Rattle.format.specs.Family.{familyOf, mayBeSource};
-ghost use Rattle.format.specs.Values.{numberOf};
 ghost use Rattle.addresses.specs.Addresses.{addressAt, sourceFirst};
 
-// Whether an address is one that a source may have: not 0, no group and, in IPv4, not 255.255.255.255.
-fn is_source(ipv6: bool, a: Address) -> bool
-    ensures { λ r. ⌜ r ≡ familyOf ipv6 .isSource (numberOf a) ⌝ }
-{
-    if is_zero(a) {
-        return false;
-    }
-    if is_group(ipv6, a) {
-        return false;
-    }
-    if ipv6 {
-        return true;
-    }
-    if a.high != 0 {
-        return true;
-    }
-    a.low != 0xffff_ffff
-}
-
-// Whether an address that begins with an octet is a source whatever follows: 1 to 223, in IPv6 1 to 254.
-fn begins_source(ipv6: bool, first: u8) -> bool
+// Whether an address that begins with an octet is a source whatever follows: 1 to 223, in IPv6 1 to 254. These are nearly all.
+pub fn begins_source(ipv6: bool, first: u8) -> bool
     ensures { λ r. ⌜ r ≡ sourceFirst ipv6 first ⌝ }
 {
     if first == 0 {
@@ -41,21 +24,42 @@ fn begins_source(ipv6: bool, first: u8) -> bool
     first < 224
 }
 
-// Whether a source field may hold the address at a place, by the whole address.
+// Whether a source field may hold an address that is no group: not 255.255.255.255, and 0 where it is allowed.
 fn whole_source(ipv6: bool, s: &[u8], at: usize, zero_allowed: bool) -> bool
+    requires { ⌜ familyOf ipv6 .isGroup (addressAt (familyOf ipv6) (now s) at) ≡ false ⌝ }
     ensures { λ r. ⌜ r ≡ mayBeSource (familyOf ipv6) «zero_allowed» (addressAt (familyOf ipv6) (now (s .entry)) at) ⌝ }
 {
     let a = address_at(ipv6, s, at);
-    if is_source(ipv6, a) {
+    if is_zero(a) {
+        return zero_allowed;
+    }
+    if ipv6 {
         return true;
     }
-    if zero_allowed {
-        return is_zero(a);
+    if a.high != 0 {
+        return true;
     }
-    false
+    a.low != 0xffff_ffff
 }
 
-// The same, and its first octet is asked first, since that nearly always decides. An address that is not there whole is 0.
+// Whether it may hold any address that is there. The first octet decides, unless it is 0 or 255.
+fn seldom_source(ipv6: bool, s: &[u8], at: usize, zero_allowed: bool) -> bool
+    requires { ⌜ at + familyOf ipv6 .width ≤ length (now s) ⌝ }
+    ensures { λ r. ⌜ r ≡ mayBeSource (familyOf ipv6) «zero_allowed» (addressAt (familyOf ipv6) (now (s .entry)) at) ⌝ }
+{
+    if is_multicast(ipv6, s[at]) {
+        return false;
+    }
+    if s[at] == 0 {
+        return whole_source(ipv6, s, at, zero_allowed);
+    }
+    if s[at] == 255 {
+        return whole_source(ipv6, s, at, zero_allowed);
+    }
+    true
+}
+
+// Whether a source field may hold the address at a place. An address that is not there whole is 0.
 pub fn may_be_source(ipv6: bool, s: &[u8], at: usize, zero_allowed: bool) -> bool
     ensures { λ r. ⌜ r ≡ mayBeSource (familyOf ipv6) «zero_allowed» (addressAt (familyOf ipv6) (now (s .entry)) at) ⌝ }
 {
@@ -68,5 +72,5 @@ pub fn may_be_source(ipv6: bool, s: &[u8], at: usize, zero_allowed: bool) -> boo
     if begins_source(ipv6, s[at]) {
         return true;
     }
-    whole_source(ipv6, s, at, zero_allowed)
+    seldom_source(ipv6, s, at, zero_allowed)
 }

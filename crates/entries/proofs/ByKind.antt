@@ -1,5 +1,5 @@
 -- What holds of the entries of every kind, over the family.
---     sized, by-size, by-range         their size: group and source, and 8 octets more or none
+--     sized, by-size, by-range, same-size     their size: group and source, and 8 octets more or none
 --     size-pair, size-range            the same by the kind
 --     family-is                  their family
 --     address-cut, source-cut    an address, and the source, as code reads them
@@ -9,7 +9,7 @@
 -- Assumes nothing.
 use Prim.Native.Nat.{ℕ, _+_, _-_, _*_, _≤_}
 use native.Mathlib.Omega.{arith}
-use mathlib.Core.Path.{_≡_, refl, ap, _∙_}
+use mathlib.Core.Path.{_≡_, refl, sym, ap, _∙_}
 use mathlib.Core.Bool.{Bool, true, false, _&&_, cond}
 use mathlib.Core.List.{List}
 use lib.ListN.{length, take, drop, length-drop}
@@ -36,6 +36,10 @@ pub by-range : (ipv6 asserts stop : Bool) → (8 ≤ entriesBy (familyOf ipv6) a
 by-range ipv6 asserts stop =
     let size = by-size (familyOf ipv6) asserts stop in
     (omega (arith, size, width-range ipv6), omega (arith, size, width-range ipv6))
+
+-- a pair's size does not depend on its kind
+pub same-size : (f : Family) (asserts stop other : Bool) → entriesBy f asserts stop .size ≡ entriesBy f asserts other .size
+same-size f asserts stop other = sized f asserts stop ∙ sym (sized f asserts other)
 
 module _ (ipv6 : Bool) (k : Kind) where
   pub size-pair : (2 * familyOf ipv6 .width ≤ entriesFor ipv6 k .size) × (entriesFor ipv6 k .size ≤ 2 * familyOf ipv6 .width + 8)

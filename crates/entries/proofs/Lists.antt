@@ -1,17 +1,19 @@
 -- Entries one after another.
---     rest-there     those from a number on are there
---     Looking        where a loop that looks for a bad entry stands: look-start, look-there, look-bad, look-next, look-end
+--     rest-there, some-there         those from a number on are there, and some of them
+--     first-bad, first-end           the first bad entry from a number on, where that one is bad, and at the end
+--     first-next, first-four         past an entry, and past four, that are allowed
+--     four-allowed                   four that are allowed
 -- Assumes nothing.
-use Prim.Native.Nat.{ℕ, zero, suc, _+_, _-_, _*_, _/_, _≤_, _<_}
-use native.Mathlib.Nat.{mul-suc, mul-add, mul-div-le}
+use Prim.Native.Nat.{ℕ, suc, _+_, _-_, _*_, _/_, _≤_, _<_}
+use native.Mathlib.Nat.{mul-suc, mul-add, mul-div-le, mul-le-mul-left}
 use native.Mathlib.Numerals.{add-one}
 use native.Mathlib.Omega.{arith}
 use mathlib.Core.Path.{_≡_, refl, sym, ap, _∙_}
 use mathlib.Core.Bool.{true, false}
 use mathlib.Core.List.{List}
 use lib.ListN.{length}
-use Rattle.format.specs.Outcome.{Outcome, gives, refuses}
-use Rattle.format.specs.Entry.{Entries, count}
+use Rattle.format.specs.Outcome.{gives, refuses}
+use Rattle.format.specs.Entry.{Entries, AllAllowed, count}
 use Rattle.format.specs.Packing.{firstBadAt, firstBad}
 
 module _ (E : Entries) (o : List ℕ) where
@@ -21,47 +23,58 @@ module _ (E : Entries) (o : List ℕ) where
       let parts : E .size * (length o / E .size) ≡ E .size * start + E .size * (length o / E .size - start) = ap (λ x. E .size * x) (sym all) ∙ mul-add (E .size) start (length o / E .size - start) in
       omega (arith, parts, mul-div-le (length o) (E .size))
 
--- what is still to be looked at says what all of it says
-pub record Looking (E : Entries) (o : List ℕ) (all : Outcome (Unit {0})) (n i at : ℕ) : Type 0 where
-  pub left : ℕ
-  pub count : i + left ≡ n
-  pub there : at + E .size * left ≤ length o
-  pub same : firstBadAt E o i at left ≡ all
+  -- k entries from a number on are there
+  pub some-there : (i k : ℕ) → i + k ≤ length o / E .size → E .size * i + E .size * k ≤ length o
+  some-there i k h =
+      let more : E .size * k ≤ E .size * (length o / E .size - i) = mul-le-mul-left (E .size) (omega arith) in
+      omega (arith, more, rest-there i (omega arith))
 
-pub look-start : (E : Entries) (o : List ℕ) (start : ℕ) → start ≤ length o / E .size
-    → Looking E o (firstBad E o start) (length o / E .size) start (E .size * start)
-unfolding firstBad count
-look-start E o start h = record { left = length o / E .size - start; count = omega arith; there = rest-there E o start h; same = refl }
+  -- ---- the first bad entry
 
-module _ {E : Entries} {o : List ℕ} {all : Outcome (Unit {0})} {n i at : ℕ} (l : Looking E o all n i at) where
-  pub look-there : i < n → at + E .size ≤ length o
-  look-there h = go (l .left) (l .count) (l .there)
-    where
-      go : (left : ℕ) → i + left ≡ n → at + E .size * left ≤ length o → at + E .size ≤ length o
-      go zero e a = absurd (omega arith)
-      go (suc left) e a = omega (arith, mul-suc (E .size) left)
+  pub first-bad : (i : ℕ) → i < length o / E .size → E .allowedAt o (E .size * i) ≡ false → refuses 7 i ≡ firstBad E o i
+  unfolding firstBad firstBadAt count
+  first-bad i h f =
+      let left : length o / E .size - i ≡ suc (length o / E .size - (i + 1)) = omega arith in
+      rw (left, f)
 
-  pub look-bad : i < n → E .allowedAt o at ≡ false → refuses 7 i ≡ all
-  unfolding firstBadAt
-  look-bad h f = go (l .left) (l .count) (l .same)
-    where
-      go : (left : ℕ) → i + left ≡ n → firstBadAt E o i at left ≡ all → refuses 7 i ≡ all
-      go zero e s = absurd (omega arith)
-      go (suc left) e s = rw f at s
+  pub first-end : (i : ℕ) → length o / E .size ≤ i → gives tt ≡ firstBad E o i
+  unfolding firstBad firstBadAt count
+  first-end i h =
+      let left : length o / E .size - i ≡ 0 = omega arith in
+      rw left
 
-  pub look-next : i < n → E .allowedAt o at ≡ true → (i′ at′ : ℕ) → i′ ≡ i + 1 → at′ ≡ at + E .size → Looking E o all n i′ at′
-  unfolding firstBadAt
-  look-next h f i′ at′ p q = go (l .left) (l .count) (l .there) (l .same)
-    where
-      go : (left : ℕ) → i + left ≡ n → at + E .size * left ≤ length o → firstBadAt E o i at left ≡ all → Looking E o all n i′ at′
-      go zero e a s = absurd (omega arith)
-      go (suc left) e a s =
-          record { left = left; count = omega arith; there = omega (arith, mul-suc (E .size) left); same = rw (p, q, add-one) (rw f at s) }
+  place-next : (i : ℕ) → E .size * (i + 1) ≡ E .size * i + E .size
+  place-next i = omega (arith, mul-suc (E .size) i, ap (λ (x : ℕ). E .size * x) (add-one i))
 
-  pub look-end : n ≤ i → gives tt ≡ all
-  unfolding firstBadAt
-  look-end h = go (l .left) (l .count) (l .same)
-    where
-      go : (left : ℕ) → i + left ≡ n → firstBadAt E o i at left ≡ all → gives tt ≡ all
-      go zero e s = s
-      go (suc left) e s = absurd (omega arith)
+  -- an entry that is allowed is passed
+  pub first-next : (i : ℕ) → i < length o / E .size → E .allowedAt o (E .size * i) ≡ true → firstBad E o (i + 1) ≡ firstBad E o i
+  unfolding firstBad firstBadAt count
+  first-next i h f =
+      let left : length o / E .size - i ≡ suc (length o / E .size - (i + 1)) = omega arith in
+      rw (left, f, place-next i, add-one)
+
+  first-on : (i j at : ℕ) → j ≡ i + 1 → at ≡ E .size * i → j ≤ length o / E .size → E .allowedAt o at ≡ true
+      → (firstBad E o j ≡ firstBad E o i) × (at + E .size ≡ E .size * j)
+  first-on i j at p q h f =
+      (ap (firstBad E o) p ∙ first-next i (omega arith) (ap (E .allowedAt o) (sym q) ∙ f), rw p (omega (arith, place-next i)))
+
+  -- and four are
+  pub first-four : (i at : ℕ) → at ≡ E .size * i → i + 4 ≤ length o / E .size → AllAllowed E o at 4
+      → (firstBad E o (i + 4) ≡ firstBad E o i) × (at + 4 * E .size ≡ E .size * (i + 4))
+  unfolding AllAllowed
+  first-four i at q h all =
+      let one = first-on i (i + 1) at refl q (omega arith) (all .0) in
+      let two = first-on (i + 1) (i + 2) (at + E .size) (omega arith) (one .1) (omega arith) (all .1 .0) in
+      let three = first-on (i + 2) (i + 3) (at + E .size + E .size) (omega arith) (two .1) (omega arith) (all .1 .1 .0) in
+      let four = first-on (i + 3) (i + 4) (at + E .size + E .size + E .size) (omega arith) (three .1) (omega arith) (all .1 .1 .1 .0) in
+      (four .0 ∙ three .0 ∙ two .0 ∙ one .0, omega (arith, four .1))
+
+-- four entries at places that code counts from the first
+pub four-allowed : (E : Entries) (o : List ℕ) (at s : ℕ) → s ≡ E .size → E .allowedAt o at ≡ true → E .allowedAt o (at + s) ≡ true
+    → E .allowedAt o (at + 2 * s) ≡ true → E .allowedAt o (at + 3 * s) ≡ true → AllAllowed E o at 4
+unfolding AllAllowed
+four-allowed E o at s e a b c d =
+    let second : at + E .size ≡ at + s = omega arith in
+    let third : at + E .size + E .size ≡ at + 2 * s = omega arith in
+    let fourth : at + E .size + E .size + E .size ≡ at + 3 * s = omega arith in
+    (a, (ap (E .allowedAt o) second ∙ b, (ap (E .allowedAt o) third ∙ c, (ap (E .allowedAt o) fourth ∙ d, tt))))

@@ -1,5 +1,6 @@
 // Entries by the kind of message that is made of them: their size, which are allowed, and the first that is not. Octets
 // past the last whole entry are not looked at.
+use addresses::begins_source;
 use addresses::is_multicast;
 use addresses::may_be_source;
 use addresses::width;
@@ -7,10 +8,11 @@ use format::Kind;
 use format::r_bit;
 use octets::number32;
 ghost use mathlib.Core.Path.{_≡_};
-ghost use mathlib.Core.Bool.{Bool};
-ghost use Prim.Native.Nat.{_+_, _/_, _≤_};
+ghost use mathlib.Core.Bool.{Bool, true};
+ghost use Prim.Native.Nat.{_+_, _*_, _/_, _≤_};
 ghost use lib.ListN.{length};
 ghost use Rattle.format.specs.Family.{familyOf};
+ghost use Rattle.format.specs.Entry.{AllAllowed};
 ghost use Rattle.format.specs.Packing.{firstBad};
 ghost use Rattle.entries.specs.Kinds.{isAssert, isStop, entriesBy, entriesFor, zeroBy, numbered, listedBy};
 
@@ -94,20 +96,65 @@ fn allowed(ipv6: bool, asserts: bool, stop: bool, e: &[u8], at: usize) -> bool
     )
 }
 
+// Whether an entry is allowed by the first octets of its group and of its source alone, as nearly all are.
+fn begins(ipv6: bool, e: &[u8], at: usize) -> bool
+    requires { ⌜ at + 2 * familyOf ipv6 .width ≤ length (now e) ⌝ }
+    ensures { λ r. ⌜ ((asserts stop : Bool) → r ≡ true → entriesBy (familyOf ipv6) asserts stop .allowedAt (now (e .entry)) at ≡ true) ⌝ }
+{
+    if !is_multicast(ipv6, e[at]) {
+        return false;
+    }
+    begins_source(ipv6, e[at + width(ipv6)])
+}
+
+// The same of four entries.
+fn four_begin(ipv6: bool, asserts: bool, e: &[u8], at: usize) -> bool
+    requires { ⌜ ((stop : Bool) → at + 4 * entriesBy (familyOf ipv6) asserts stop .size ≤ length (now e)) ⌝ }
+    ensures { λ r. ⌜ ((stop : Bool) → r ≡ true → AllAllowed (entriesBy (familyOf ipv6) asserts stop) (now (e .entry)) at 4) ⌝ }
+{
+    let size = size_by(ipv6, asserts);
+    if !begins(ipv6, e, at) {
+        return false;
+    }
+    if !begins(ipv6, e, at + size) {
+        return false;
+    }
+    if !begins(ipv6, e, at + 2 * size) {
+        return false;
+    }
+    begins(ipv6, e, at + 3 * size)
+}
+
+// Past entries from a number on that are passed so, four in a turn: most lists are long, and few of their entries have to be looked at further.
+fn past(ipv6: bool, asserts: bool, e: &[u8], from: usize, count: usize) -> usize
+    requires { ⌜ (from ≤ count) × ((stop : Bool) → count ≡ length (now e) / entriesBy (familyOf ipv6) asserts stop .size) ⌝ }
+    ensures { λ r. ⌜ (from ≤ r) × (r ≤ count) × ((stop : Bool) → firstBad (entriesBy (familyOf ipv6) asserts stop) (now (e .entry)) r ≡ firstBad (entriesBy (familyOf ipv6) asserts stop) (now (e .entry)) from) ⌝ }
+{
+    let size = size_by(ipv6, asserts);
+    let mut i = from;
+    let mut at = size * from;
+    while 4 <= count - i {
+        if !four_begin(ipv6, asserts, e, at) {
+            return i;
+        }
+        i += 4;
+        at += 4 * size;
+    }
+    i
+}
+
 // The number of the first entry from a number on that is not allowed, or how many there are.
 fn up_to_of(ipv6: bool, asserts: bool, stop: bool, e: &[u8], start: usize, count: usize) -> usize
     requires { ⌜ (start ≤ count) × (count ≡ length (now e) / entriesBy (familyOf ipv6) asserts stop .size) ⌝ }
     ensures { λ r. ⌜ numbered count r ≡ firstBad (entriesBy (familyOf ipv6) asserts stop) (now (e .entry)) start ⌝ }
 {
     let size = size_by(ipv6, asserts);
-    let mut i = start;
-    let mut at = size * start;
+    let mut i = past(ipv6, asserts, e, start, count);
     while i < count {
-        if !allowed(ipv6, asserts, stop, e, at) {
+        if !allowed(ipv6, asserts, stop, e, size * i) {
             return i;
         }
-        i += 1;
-        at += size;
+        i = past(ipv6, asserts, e, i + 1, count);
     }
     i
 }

@@ -1,63 +1,83 @@
--- `entries::up_to_of` meets its contract: the loop's invariant is `Looking`. The measure is the entries left.
+-- `entries::up_to_of` meets its contract. The loop's invariant: the first bad entry from here on is that from the start on. The measure is the entries left.
 -- Assumes nothing.
-use Prim.Native.Nat.{_+_, _*_, _-_}
+use Prim.Native.Nat.{_+_, _*_, _-_, _/_, _≤_}
 use native.Mathlib.Omega.{arith}
-use mathlib.Core.Path.{_≡_, refl, sym, ap, _∙_}
+use mathlib.Core.Path.{_≡_, sym, ap, _∙_}
+use mathlib.Core.Bool.{Bool}
 use denote.Ref.{now}
+use lib.ListN.{length}
 use borrow.Author.Tests.{not-true, not-false, lt-ltb, le-ltb}
 use borrow.Author.Needs.{needs}
 use Rattle.format.specs.Family.{familyOf}
 use Rattle.format.specs.Packing.{firstBad}
 use Rattle.entries.specs.Kinds.{entriesBy, numbered}
-use Rattle.entries.proofs.Lists.{rest-there, Looking, look-start, look-there, look-bad, look-next, look-end}
+use Rattle.entries.proofs.ByKind.{same-size}
+use Rattle.entries.proofs.Lists.{some-there, first-bad, first-next, first-end}
 use Rattle.entries.proofs.up_to_of.Statement.{statement}
 use Rattle.entries.proofs.up_to_of.Tie as tie
 
 abbrev Inv-loop : tie.InvT-loop
-Inv-loop ipv6 asserts stop e start count size i₀ at₀ i at =
-    Looking (entriesBy (familyOf ipv6) asserts stop) e (firstBad (entriesBy (familyOf ipv6) asserts stop) e start) count i at
+Inv-loop ipv6 asserts stop e start count size i₀ i =
+    (i ≤ count) × (firstBad (entriesBy (familyOf ipv6) asserts stop) e i ≡ firstBad (entriesBy (familyOf ipv6) asserts stop) e start)
 
 abbrev μ-loop : tie.MeasureT-loop
-μ-loop ipv6 asserts stop e start count size i₀ at₀ i at = count - i
+μ-loop ipv6 asserts stop e start count size i₀ i = count - i
 
-mul-at : tie.Need-mul-at Inv-loop μ-loop
-mul-at c =
-    let s = c .before .before in
+abbrev start : tie.At-loop Inv-loop μ-loop → tie.Start Inv-loop μ-loop
+start c = c .before .before .before .before
+
+-- how many entries there are, whatever the kind of a pair
+counted : (c : tie.Start Inv-loop μ-loop) (other : Bool) → c .args .count ≡ length (now (c .args .e)) / entriesBy (familyOf (c .args .ipv6)) (c .args .asserts) other .size
+counted c other =
+    let a = c .args in
+    c .pre .1 ∙ ap (λ x. length (now (a .e)) / x) (same-size (familyOf (a .ipv6)) (a .asserts) (a .stop) other)
+
+-- the place of an entry, and that it is there
+place : (c : tie.In-loop Inv-loop μ-loop)
+    → c .before .before .before .size-by .result * c .before .loop .i ≡ entriesBy (familyOf (start (c .before) .args .ipv6)) (start (c .before) .args .asserts) (start (c .before) .args .stop) .size * c .before .loop .i
+place c = ap (λ x. x * c .before .loop .i) (c .before .before .before .size-by .ensures (start (c .before) .args .stop))
+
+room : (c : tie.In-loop Inv-loop μ-loop)
+    → c .before .before .before .size-by .result * c .before .loop .i + entriesBy (familyOf (start (c .before) .args .ipv6)) (start (c .before) .args .asserts) (start (c .before) .args .stop) .size ≤ length (now (start (c .before) .args .e))
+room c =
+    let s = start (c .before) in
     let a = s .args in
-    let E = entriesBy (familyOf (a .ipv6)) (a .asserts) (a .stop) in
-    let same : c .size-by .result * a .start ≡ E .size * a .start = ap (λ x. x * a .start) (c .size-by .ensures (a .stop)) in
-    omega (arith, same, rest-there E (now (a .e)) (a .start) (rw (s .pre .1) at (s .pre .0)))
-
-loop-holds : tie.Need-loop-holds Inv-loop μ-loop
-loop-holds c =
-    let s = c .before .before in
-    let a = s .args in
-    rw (c .size-by .ensures (a .stop), s .pre .1) (look-start (entriesBy (familyOf (a .ipv6)) (a .asserts) (a .stop)) (now (a .e)) (a .start) (rw (s .pre .1) at (s .pre .0)))
-
-allowed-requires : tie.Need-allowed-requires Inv-loop μ-loop
-allowed-requires c κs = look-there (c .before .loop .inv) (c .loop-test .taken)
+    omega (arith, place c, some-there (entriesBy (familyOf (a .ipv6)) (a .asserts) (a .stop)) (now (a .e)) (c .before .loop .i) 1 (omega (arith, c .loop-test .taken, s .pre .1)))
 
 returns : tie.Need-returns Inv-loop μ-loop
 unfolding numbered
 returns c =
-    rw (lt-ltb _ _ (c .before .before .loop-test .taken))
-    (look-bad (c .before .before .before .loop .inv) (c .before .before .loop-test .taken) (sym (c .before .allowed .ensures) ∙ not-true _ (c .if1 .taken)))
-
-add-at : tie.Need-add-at Inv-loop μ-loop
-add-at c =
-    let there = look-there (c .before .before .before .loop .inv) (c .before .before .loop-test .taken) in
-    let s = c .before .before .before .before in
-    omega (arith, there, s .size-by .ensures (s .before .before .args .stop))
+    let t = c .before .before in
+    let l = t .before in
+    let s = start l in
+    let a = s .args in
+    let E = entriesBy (familyOf (a .ipv6)) (a .asserts) (a .stop) in
+    rw (lt-ltb _ _ (t .loop-test .taken))
+    (first-bad E (now (a .e)) (l .loop .i) (omega (arith, t .loop-test .taken, s .pre .1)) (ap (E .allowedAt (now (a .e))) (sym (place t)) ∙ sym (c .before .allowed .ensures) ∙ not-true _ (c .if1 .taken))
+    ∙ l .loop .inv .1)
 
 loop-again : tie.Need-loop-again Inv-loop μ-loop
 loop-again c =
-    let s = c .before .before .before .before in
-    look-next (c .before .before .before .loop .inv) (c .before .before .loop-test .taken) (sym (c .before .allowed .ensures) ∙ not-false _ (c .if1 .left)) _ _ refl
-    (ap (λ x. c .before .before .before .loop .at + x) (s .size-by .ensures (s .before .before .args .stop)))
+    let e = c .before in
+    let t = e .before .before in
+    let l = t .before in
+    let s = start l in
+    let a = s .args in
+    let E = entriesBy (familyOf (a .ipv6)) (a .asserts) (a .stop) in (
+      c .past2 .ensures .1,
+      c .past2 .ensures .2 (a .stop)
+          ∙ first-next E (now (a .e)) (l .loop .i) (omega (arith, t .loop-test .taken, s .pre .1)) (ap (E .allowedAt (now (a .e))) (sym (place t)) ∙ sym (e .before .allowed .ensures) ∙ not-false _ (e .if1 .left))
+          ∙ l .loop .inv .1,
+    )
 
 returns-2 : tie.Need-returns-2 Inv-loop μ-loop
 unfolding numbered
-returns-2 c = rw (le-ltb _ _ (c .loop-test .left)) (look-end (c .before .loop .inv) (c .loop-test .left))
+returns-2 c =
+    let l = c .before in
+    let s = start l in
+    let a = s .args in
+    rw (le-ltb _ _ (c .loop-test .left))
+    (first-end (entriesBy (familyOf (a .ipv6)) (a .asserts) (a .stop)) (now (a .e)) (l .loop .i) (omega (arith, c .loop-test .left, s .pre .1)) ∙ l .loop .inv .1)
 
 pub up-to-of-spec : {M : Type 1} → statement M
 up-to-of-spec =
@@ -66,12 +86,13 @@ up-to-of-spec =
     Inv-loop
     μ-loop
     (λ c κs. search needs)
-    mul-at
-    loop-holds
-    allowed-requires
+    (λ c κs. (c .before .before .pre .0, counted (c .before .before)))
+    (λ c. (c .past .ensures .1, c .past .ensures .2 (c .before .before .before .args .stop)))
+    (λ c. omega (arith, room c))
+    (λ c κs. room c)
     returns
-    (λ c. omega arith)
-    add-at
-    (λ c. omega arith)
+    (λ c. omega (arith, c .before .before .loop-test .taken))
+    (λ c κs. (omega (arith, c .before .before .loop-test .taken), counted (start (c .before .before .before))))
+    (λ c. omega (arith, c .before .before .before .loop-test .taken, c .past2 .ensures .0, c .past2 .ensures .1))
     loop-again
     returns-2)

@@ -1,25 +1,31 @@
 -- `addresses::source::may_be_source` meets its contract: an address that is not there whole is 0; one that is, by its first octet, or else whole.
 -- Assumes nothing.
-use Prim.Native.Nat.{_+_, _≤_}
+use Prim.Native.Nat.{ℕ, _+_, _≤_}
 use native.Mathlib.Omega.{arith}
 use mathlib.Core.Path.{_≡_, sym, ap, _∙_}
+use mathlib.Core.Bool.{Bool}
 use denote.Ref.{now}
 use lib.ListN.{length}
+use borrow.Author.Tests.{eq-eqb}
 use borrow.Author.Needs.{needs}
 use Rattle.format.specs.Family.{familyOf, mayBeSource}
-use Rattle.addresses.proofs.Laws.{address-there, address-none, source-at, may-some, may-absent}
+use Rattle.addresses.proofs.Laws.{address-there, address-none, source-at, may-some, may-zero}
 use Rattle.addresses.proofs.source.may_be_source.Statement.{statement}
 use Rattle.addresses.proofs.source.may_be_source.Tie as tie
+
+-- an address that is not there is 0
+absent : (ipv6 zero : Bool) {a : ℕ} → 0 ≡ a → zero ≡ mayBeSource (familyOf ipv6) zero a
+absent ipv6 zero {a} e = may-zero ipv6 zero a (eq-eqb a 0 (sym e))
 
 returns : tie.Need-returns
 returns c =
     let a = c .before .before .args in
-    may-absent (a .ipv6) (a .zero-allowed) ∙ ap (mayBeSource (familyOf (a .ipv6)) (a .zero-allowed)) (address-none (familyOf (a .ipv6)) (now (a .s)) (a .at) (omega arith))
+    absent (a .ipv6) (a .zero-allowed) (address-none (familyOf (a .ipv6)) (now (a .s)) (a .at) (omega arith))
 
 returns-2 : tie.Need-returns-2
 returns-2 c =
     let a = c .before .before .before .before .args in
-    may-absent (a .ipv6) (a .zero-allowed) ∙ ap (mayBeSource (familyOf (a .ipv6)) (a .zero-allowed)) (address-none (familyOf (a .ipv6)) (now (a .s)) (a .at) (omega (arith, c .before .width .ensures)))
+    absent (a .ipv6) (a .zero-allowed) (address-none (familyOf (a .ipv6)) (now (a .s)) (a .at) (omega (arith, c .before .width .ensures)))
 
 -- the address is there whole
 there : (c : tie.Else2)
@@ -45,5 +51,5 @@ may-be-source-spec =
     (λ c. omega (arith, there (c .before), c .before .before .width .ensures))
     (λ c κs. search needs)
     returns-3
-    (λ c κs. search needs)
-    (λ c. c .whole-source .ensures))
+    (λ c κs. there (c .before .before .before))
+    (λ c. c .seldom-source .ensures))

@@ -1,0 +1,60 @@
+-- `entries::four_begin` meets its contract: each of the four is asked at its place.
+-- Assumes nothing.
+use Prim.Native.Nat.{_+_, _*_, _≤_}
+use native.Mathlib.Omega.{arith}
+use mathlib.Core.Path.{_≡_}
+use mathlib.Core.Bool.{true, false}
+use denote.Ref.{now}
+use lib.ListN.{length}
+use borrow.Author.Tests.{not-false}
+use borrow.Author.Needs.{needs}
+use Rattle.format.specs.Family.{familyOf}
+use Rattle.entries.specs.Kinds.{entriesBy}
+use Rattle.entries.proofs.ByKind.{by-size}
+use Rattle.entries.proofs.Lists.{four-allowed}
+use Rattle.entries.proofs.four_begin.Statement.{statement}
+use Rattle.entries.proofs.four_begin.Tie as tie
+
+-- four entries are there, each with a group and a source
+there : (c : tie.After-size-by)
+    → (c .before .before .args .at + 3 * c .size-by .result + 2 * familyOf (c .before .before .args .ipv6) .width ≤ length (now (c .before .before .args .e)))
+there c =
+    let s = c .before .before in
+    let a = s .args in
+    let size = c .size-by .ensures false in
+    omega (arith, size, s .pre false, by-size (familyOf (a .ipv6)) (a .asserts) false)
+
+returns-4 : tie.Need-returns-4
+returns-4 c stop t =
+    let three = c .before in
+    let two = three .before .before in
+    let one = two .before .before in
+    let z = one .before .before in
+    let a = z .before .before .args in
+    four-allowed (entriesBy (familyOf (a .ipv6)) (a .asserts) stop) (now (a .e)) (a .at) (z .size-by .result) (z .size-by .ensures stop)
+    (one .before .begins .ensures (a .asserts) stop (not-false (one .before .begins .result) (one .if1 .left)))
+    (two .before .begins2 .ensures (a .asserts) stop (not-false (two .before .begins2 .result) (two .if2 .left)))
+    (three .before .begins3 .ensures (a .asserts) stop (not-false (three .before .begins3 .result) (three .if3 .left)))
+    (c .begins4 .ensures (a .asserts) stop t)
+
+pub four-begin-spec : {M : Type 1} → statement M
+four-begin-spec =
+    tie.close
+    (tie.spec
+    (λ c κs. search needs)
+    (λ c κs. omega (arith, there c))
+    (λ c stop t. absurd (no t))
+    (λ c. omega (arith, there (c .before .before)))
+    (λ c κs. omega (arith, there (c .before .before)))
+    (λ c stop t. absurd (no t))
+    (λ c. omega (arith, there (c .before .before .before .before)))
+    (λ c. omega (arith, there (c .before .before .before .before)))
+    (λ c κs. omega (arith, there (c .before .before .before .before)))
+    (λ c stop t. absurd (no t))
+    (λ c. omega (arith, there (c .before .before .before .before .before .before)))
+    (λ c. omega (arith, there (c .before .before .before .before .before .before)))
+    (λ c κs. omega (arith, there (c .before .before .before .before .before .before)))
+    returns-4)
+  where
+    no : false ≡ true → ⊥
+    no e = let z : _≡_ {A = Prim.Native.Nat.ℕ} 0 1 = cc in omega arith
