@@ -1,5 +1,6 @@
 -- Octets written into a lent buffer, from entries that stand one after another.
 --     copied-next                octets of a number copied past others
+--     be-parts                   the octets of a number in two parts
 --     put-counted                a number of 16 bits stored octet by octet, and two reserved octets
 --     Rows                       where a loop over entries stands: rows-start, rows-there, rows-next, rows-end, rows-out
 -- Assumes nothing.
@@ -11,7 +12,8 @@ use mathlib.Core.List.{List, [], _∷_, _++_}
 use lib.ListN.{length, take, drop}
 use borrow.Rule.Slice.PartMut.{putMid}
 use Rattle.octets.specs.Octets.{Octets, numberAt, be, put, copied}
-use Rattle.octets.proofs.Laws.{stores, stores-put, put-nil, put-put, put-next, copied-number, length-put, lows-be}
+use Rattle.octets.proofs.Laws.{stores, stores-put, put-nil, put-put, put-next, copied-number, length-put, lows-be, number-split, be-two}
+use Rattle.format.proofs.Entries.{numberAt-lt}
 use Rattle.format.specs.Record.{each}
 use Rattle.format.specs.Entry.{Entries, entriesAt}
 
@@ -24,6 +26,10 @@ pub copied-next : (k : ℕ) (s d : List ℕ) (out : ℕ) (e : List ℕ) (at end 
 copied-next k s d out e at end p past {m} {x} octet before copy to from next there room =
     let long : length m ≡ length d = ap length before ∙ length-put d out e (omega arith) in
     put-next d out e (be k (numberAt k s at)) before (ap (putMid p (past - p) m) copy ∙ copied-number k s m at end p past octet to next there (omega arith)) from
+
+-- the octets of a number that is there, in two parts
+pub be-parts : (j k : ℕ) (o : List ℕ) (at : ℕ) → Octets o → at + (j + k) ≤ length o → be (j + k) (numberAt (j + k) o at) ≡ be j (numberAt j o at) ++ be k (numberAt k o (at + j))
+be-parts j k o at h there = rw (number-split j k o at there) (be-two j k (numberAt j o at) (numberAt k o (at + j)) (numberAt-lt k o (at + j) h))
 
 -- a 16-bit number and two reserved octets
 pub put-counted : (d : List ℕ) (at n : ℕ) → at + 4 ≤ length d → stores d at 0 ((n / 256 % 256) ∷ (n % 256) ∷ 0 ∷ 0 ∷ []) ≡ put d at (be 2 n ++ (0 ∷ 0 ∷ []))

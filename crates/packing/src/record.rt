@@ -7,7 +7,7 @@ use addresses::width;
 use entries::entry_size;
 use entries::is_assert;
 use format::Kind;
-use octets::copy4;
+use octets::copy8;
 ghost use mathlib.Core.Path.{_≡_};
 ghost use mathlib.Core.Bool.{cond};
 ghost use Prim.Native.Nat.{_+_, _*_, _≤_};
@@ -67,8 +67,7 @@ pub(crate) fn put_metric(e: &[u8], at: usize, d: &mut [u8], out: usize)
     requires { ⌜ (at + 8 ≤ length (now e)) × (out + 8 ≤ length (now d)) ⌝ }
     ensures { λ r. ⌜ now (d .exit) ≡ put (now (d .entry)) out (be 4 (numberAt 4 (now (e .entry)) at) & be 4 (numberAt 4 (now (e .entry)) (at + 4))) ⌝ }
 {
-    copy4(&e[at..at + 4], &mut d[out..out + 4]);
-    copy4(&e[at + 4..at + 8], &mut d[out + 4..out + 8]);
+    copy8(&e[at..at + 8], &mut d[out..out + 8]);
 }
 
 // A record; that of an assert goes on with R, preference and metric.
