@@ -8,8 +8,8 @@ use format::Kind;
 use format::r_bit;
 use octets::number32;
 ghost use mathlib.Core.Path.{_≡_};
-ghost use mathlib.Core.Bool.{Bool, true};
-ghost use Prim.Native.Nat.{_+_, _*_, _/_, _≤_};
+ghost use mathlib.Core.Bool.{Bool, true, false};
+ghost use Prim.Native.Nat.{_+_, _*_, _/_, _<_, _≤_};
 ghost use lib.ListN.{length};
 ghost use Rattle.format.specs.Family.{familyOf};
 ghost use Rattle.format.specs.Entry.{AllAllowed};
@@ -143,18 +143,47 @@ fn past(ipv6: bool, asserts: bool, e: &[u8], from: usize, count: usize) -> usize
     i
 }
 
-// The number of the first entry from a number on that is not allowed, or how many there are.
+// The number of the first entry that is not allowed, of those from a number up to another one, or that one.
+fn singly(ipv6: bool, asserts: bool, stop: bool, e: &[u8], from: usize, end: usize) -> usize
+    requires { ⌜ (from ≤ end) × (end ≤ length (now e) / entriesBy (familyOf ipv6) asserts stop .size) ⌝ }
+    ensures { λ r. ⌜ (from ≤ r) × (r ≤ end) × (firstBad (entriesBy (familyOf ipv6) asserts stop) (now (e .entry)) r ≡ firstBad (entriesBy (familyOf ipv6) asserts stop) (now (e .entry)) from) × (r < end → entriesBy (familyOf ipv6) asserts stop .allowedAt (now (e .entry)) (entriesBy (familyOf ipv6) asserts stop .size * r) ≡ false) ⌝ }
+{
+    let size = size_by(ipv6, asserts);
+    let mut i = from;
+    while i < end {
+        if !allowed(ipv6, asserts, stop, e, size * i) {
+            return i;
+        }
+        i += 1;
+    }
+    i
+}
+
+// The number past four entries, or past those that are left.
+fn four_end(i: usize, count: usize) -> usize
+    requires { ⌜ i ≤ count ⌝ }
+    ensures { λ r. ⌜ (i ≤ r) × (r ≤ count) × (i < count → i < r) ⌝ }
+{
+    if count - i < 4 {
+        return count;
+    }
+    i + 4
+}
+
+// The number of the first entry from a number on that is not allowed, or how many there are. Where four are not passed by their first octets they
+// are looked at singly, and then four are tried again: sources that are 0 may come often, and stand anywhere.
 fn up_to_of(ipv6: bool, asserts: bool, stop: bool, e: &[u8], start: usize, count: usize) -> usize
     requires { ⌜ (start ≤ count) × (count ≡ length (now e) / entriesBy (familyOf ipv6) asserts stop .size) ⌝ }
     ensures { λ r. ⌜ numbered count r ≡ firstBad (entriesBy (familyOf ipv6) asserts stop) (now (e .entry)) start ⌝ }
 {
-    let size = size_by(ipv6, asserts);
     let mut i = past(ipv6, asserts, e, start, count);
     while i < count {
-        if !allowed(ipv6, asserts, stop, e, size * i) {
-            return i;
+        let end = four_end(i, count);
+        let bad = singly(ipv6, asserts, stop, e, i, end);
+        if bad < end {
+            return bad;
         }
-        i = past(ipv6, asserts, e, i + 1, count);
+        i = past(ipv6, asserts, e, end, count);
     }
     i
 }

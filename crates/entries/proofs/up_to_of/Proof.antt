@@ -1,30 +1,29 @@
 -- `entries::up_to_of` meets its contract. The loop's invariant: the first bad entry from here on is that from the start on. The measure is the entries left.
 -- Assumes nothing.
-use Prim.Native.Nat.{_+_, _*_, _-_, _/_, _≤_}
+use Prim.Native.Nat.{_-_, _/_, _≤_, _<_}
 use native.Mathlib.Omega.{arith}
-use mathlib.Core.Path.{_≡_, sym, ap, _∙_}
+use mathlib.Core.Path.{_≡_, ap, _∙_}
 use mathlib.Core.Bool.{Bool}
 use denote.Ref.{now}
 use lib.ListN.{length}
-use borrow.Author.Tests.{not-true, not-false, lt-ltb, le-ltb}
-use borrow.Author.Needs.{needs}
+use borrow.Author.Tests.{lt-ltb, le-ltb}
 use Rattle.format.specs.Family.{familyOf}
 use Rattle.format.specs.Packing.{firstBad}
 use Rattle.entries.specs.Kinds.{entriesBy, numbered}
 use Rattle.entries.proofs.ByKind.{same-size}
-use Rattle.entries.proofs.Lists.{some-there, first-bad, first-next, first-end}
+use Rattle.entries.proofs.Lists.{first-bad, first-end}
 use Rattle.entries.proofs.up_to_of.Statement.{statement}
 use Rattle.entries.proofs.up_to_of.Tie as tie
 
 abbrev Inv-loop : tie.InvT-loop
-Inv-loop ipv6 asserts stop e start count size i₀ i =
+Inv-loop ipv6 asserts stop e start count i₀ i =
     (i ≤ count) × (firstBad (entriesBy (familyOf ipv6) asserts stop) e i ≡ firstBad (entriesBy (familyOf ipv6) asserts stop) e start)
 
 abbrev μ-loop : tie.MeasureT-loop
-μ-loop ipv6 asserts stop e start count size i₀ i = count - i
+μ-loop ipv6 asserts stop e start count i₀ i = count - i
 
 abbrev start : tie.At-loop Inv-loop μ-loop → tie.Start Inv-loop μ-loop
-start c = c .before .before .before .before
+start c = c .before .before .before
 
 -- how many entries there are, whatever the kind of a pair
 counted : (c : tie.Start Inv-loop μ-loop) (other : Bool) → c .args .count ≡ length (now (c .args .e)) / entriesBy (familyOf (c .args .ipv6)) (c .args .asserts) other .size
@@ -32,43 +31,33 @@ counted c other =
     let a = c .args in
     c .pre .1 ∙ ap (λ x. length (now (a .e)) / x) (same-size (familyOf (a .ipv6)) (a .asserts) (a .stop) other)
 
--- the place of an entry, and that it is there
-place : (c : tie.In-loop Inv-loop μ-loop)
-    → c .before .before .before .size-by .result * c .before .loop .i ≡ entriesBy (familyOf (start (c .before) .args .ipv6)) (start (c .before) .args .asserts) (start (c .before) .args .stop) .size * c .before .loop .i
-place c = ap (λ x. x * c .before .loop .i) (c .before .before .before .size-by .ensures (start (c .before) .args .stop))
-
-room : (c : tie.In-loop Inv-loop μ-loop)
-    → c .before .before .before .size-by .result * c .before .loop .i + entriesBy (familyOf (start (c .before) .args .ipv6)) (start (c .before) .args .asserts) (start (c .before) .args .stop) .size ≤ length (now (start (c .before) .args .e))
-room c =
-    let s = start (c .before) in
-    let a = s .args in
-    omega (arith, place c, some-there (entriesBy (familyOf (a .ipv6)) (a .asserts) (a .stop)) (now (a .e)) (c .before .loop .i) 1 (omega (arith, c .loop-test .taken, s .pre .1)))
+-- the entries that are looked at singly: one at least, and no more than there are
+some : (c : tie.After-four-end Inv-loop μ-loop) → (c .before .before .loop .i < c .four-end .result) × (c .four-end .result ≤ start (c .before .before) .args .count)
+some c = (c .four-end .ensures .2 (c .before .loop-test .taken), c .four-end .ensures .1)
 
 returns : tie.Need-returns Inv-loop μ-loop
 unfolding numbered
 returns c =
-    let t = c .before .before in
-    let l = t .before in
+    let y = c .before in
+    let f = y .before in
+    let l = f .before .before in
     let s = start l in
     let a = s .args in
-    let E = entriesBy (familyOf (a .ipv6)) (a .asserts) (a .stop) in
-    rw (lt-ltb _ _ (t .loop-test .taken))
-    (first-bad E (now (a .e)) (l .loop .i) (omega (arith, t .loop-test .taken, s .pre .1)) (ap (E .allowedAt (now (a .e))) (sym (place t)) ∙ sym (c .before .allowed .ensures) ∙ not-true _ (c .if1 .taken))
+    rw (lt-ltb (y .singly .result) (a .count) (omega (arith, c .if1 .taken, some f .1)))
+    (first-bad (entriesBy (familyOf (a .ipv6)) (a .asserts) (a .stop)) (now (a .e)) (y .singly .result) (omega (arith, c .if1 .taken, some f .1, s .pre .1)) (y .singly .ensures .3 (c .if1 .taken))
+    ∙ y .singly .ensures .2
     ∙ l .loop .inv .1)
 
-loop-again : tie.Need-loop-again Inv-loop μ-loop
-loop-again c =
-    let e = c .before in
-    let t = e .before .before in
-    let l = t .before in
-    let s = start l in
-    let a = s .args in
-    let E = entriesBy (familyOf (a .ipv6)) (a .asserts) (a .stop) in (
-      c .past2 .ensures .1,
-      c .past2 .ensures .2 (a .stop)
-          ∙ first-next E (now (a .e)) (l .loop .i) (omega (arith, t .loop-test .taken, s .pre .1)) (ap (E .allowedAt (now (a .e))) (sym (place t)) ∙ sym (e .before .allowed .ensures) ∙ not-false _ (e .if1 .left))
-          ∙ l .loop .inv .1,
-    )
+-- where all of them are allowed, the first bad one is past them
+passed : (c : tie.Else1 Inv-loop μ-loop)
+    → firstBad (entriesBy (familyOf (start (c .before .before .before .before) .args .ipv6)) (start (c .before .before .before .before) .args .asserts) (start (c .before .before .before .before) .args .stop)) (now (start (c .before .before .before .before) .args .e)) (c .before .before .four-end .result)
+    ≡ firstBad (entriesBy (familyOf (start (c .before .before .before .before) .args .ipv6)) (start (c .before .before .before .before) .args .asserts) (start (c .before .before .before .before) .args .stop)) (now (start (c .before .before .before .before) .args .e)) (start (c .before .before .before .before) .args .start)
+passed c =
+    let y = c .before in
+    let l = y .before .before .before in
+    let a = start l .args in
+    let all : y .before .four-end .result ≡ y .singly .result = omega (arith, c .if1 .left, y .singly .ensures .1) in
+    ap (firstBad (entriesBy (familyOf (a .ipv6)) (a .asserts) (a .stop)) (now (a .e))) all ∙ y .singly .ensures .2 ∙ l .loop .inv .1
 
 returns-2 : tie.Need-returns-2 Inv-loop μ-loop
 unfolding numbered
@@ -85,14 +74,12 @@ up-to-of-spec =
     (tie.spec
     Inv-loop
     μ-loop
-    (λ c κs. search needs)
-    (λ c κs. (c .before .before .pre .0, counted (c .before .before)))
-    (λ c. (c .past .ensures .1, c .past .ensures .2 (c .before .before .before .args .stop)))
-    (λ c. omega (arith, room c))
-    (λ c κs. room c)
+    (λ c κs. (c .before .pre .0, counted (c .before)))
+    (λ c. (c .past .ensures .1, c .past .ensures .2 (c .before .before .args .stop)))
+    (λ c κs. c .before .loop .inv .0)
+    (λ c κs. (c .four-end .ensures .0, omega (arith, some c .1, start (c .before .before) .pre .1)))
     returns
-    (λ c. omega (arith, c .before .before .loop-test .taken))
-    (λ c κs. (omega (arith, c .before .before .loop-test .taken), counted (start (c .before .before .before))))
-    (λ c. omega (arith, c .before .before .before .loop-test .taken, c .past2 .ensures .0, c .past2 .ensures .1))
-    loop-again
+    (λ c κs. (some (c .before .before) .1, counted (start (c .before .before .before .before))))
+    (λ c. omega (arith, some (c .before .before .before), c .past2 .ensures .0, c .past2 .ensures .1))
+    (λ c. (c .past2 .ensures .1, c .past2 .ensures .2 (start (c .before .before .before .before .before) .args .stop) ∙ passed (c .before)))
     returns-2)
