@@ -188,7 +188,7 @@ fn up_to_of(ipv6: bool, asserts: bool, stop: bool, e: &[u8], start: usize, count
     i
 }
 
-// The same by the kind. The loop is called with literals, so that the compiler makes one for each sort of entry.
+// The same by the kind, each sort of entry named by literals.
 fn up_to(ipv6: bool, kind: Kind, e: &[u8], start: usize, count: usize) -> usize
     requires { ⌜ (start ≤ count) × (count ≡ length (now e) / entriesFor ipv6 kind .size) ⌝ }
     ensures { λ r. ⌜ numbered count r ≡ firstBad (entriesFor ipv6 kind) (now (e .entry)) start ⌝ }
