@@ -96,7 +96,8 @@ fn allowed(ipv6: bool, asserts: bool, stop: bool, e: &[u8], at: usize) -> bool
     )
 }
 
-// Whether an entry is allowed by the first octets of its group and of its source alone, as nearly all are.
+// Whether an entry is allowed by the first octets of its group and of its source alone, as nearly all are. Of one that is not passed so nothing is
+// said.
 fn begins(ipv6: bool, e: &[u8], at: usize) -> bool
     requires { ⌜ at + 2 * familyOf ipv6 .width ≤ length (now e) ⌝ }
     ensures { λ r. ⌜ ((asserts stop : Bool) → r ≡ true → entriesBy (familyOf ipv6) asserts stop .allowedAt (now (e .entry)) at ≡ true) ⌝ }
@@ -172,7 +173,7 @@ fn four_end(i: usize, count: usize) -> usize
 
 // The number of the first entry from a number on that is not allowed, or how many there are. Where four are not passed by their first octets they
 // are looked at singly, and then four are tried again: sources that are 0 may come often, and stand anywhere.
-fn up_to_of(ipv6: bool, asserts: bool, stop: bool, e: &[u8], start: usize, count: usize) -> usize
+fn up_to(ipv6: bool, asserts: bool, stop: bool, e: &[u8], start: usize, count: usize) -> usize
     requires { ⌜ (start ≤ count) × (count ≡ length (now e) / entriesBy (familyOf ipv6) asserts stop .size) ⌝ }
     ensures { λ r. ⌜ numbered count r ≡ firstBad (entriesBy (familyOf ipv6) asserts stop) (now (e .entry)) start ⌝ }
 {
@@ -188,29 +189,16 @@ fn up_to_of(ipv6: bool, asserts: bool, stop: bool, e: &[u8], start: usize, count
     i
 }
 
-// The same by the kind, each sort of entry named by literals.
-fn up_to(ipv6: bool, kind: Kind, e: &[u8], start: usize, count: usize) -> usize
-    requires { ⌜ (start ≤ count) × (count ≡ length (now e) / entriesFor ipv6 kind .size) ⌝ }
-    ensures { λ r. ⌜ numbered count r ≡ firstBad (entriesFor ipv6 kind) (now (e .entry)) start ⌝ }
-{
-    if is_assert(kind) {
-        return up_to_of(ipv6, true, false, e, start, count);
-    }
-    if is_stop(kind) {
-        return up_to_of(ipv6, false, true, e, start, count);
-    }
-    up_to_of(ipv6, false, false, e, start, count)
-}
-
 // The first entry from a number on that a message of a kind may not have.
 pub fn first_bad(ipv6: bool, kind: Kind, e: &[u8], start: usize) -> Listed
     ensures { λ r. ⌜ listedBy r ≡ firstBad (entriesFor ipv6 kind) (now (e .entry)) start ⌝ }
 {
-    let count = e.len() / entry_size(ipv6, kind);
+    let asserts = is_assert(kind);
+    let count = e.len() / size_by(ipv6, asserts);
     if count < start {
         return Listed::Allowed;
     }
-    let i = up_to(ipv6, kind, e, start, count);
+    let i = up_to(ipv6, asserts, is_stop(kind), e, start, count);
     if i < count {
         return Listed::Bad(i);
     }
