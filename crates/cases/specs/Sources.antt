@@ -11,17 +11,16 @@ use mathlib.Core.Bool.{Bool, true, false, not, _&&_}
 use mathlib.Core.List.{List, [], _∷_}
 use lib.ListN.{replicate}
 use Rattle.octets.specs.Octets.{be, _&_}
-use Rattle.format.specs.Outcome.{Outcome, gives, refuses}
+use Rattle.format.specs.Outcome.{Outcome}
 use Rattle.format.specs.Reader.{from}
 use Rattle.format.specs.Family.{Family, ipv4, ipv6, mayBeSource}
 use Rattle.format.specs.Header.{message}
 use Rattle.format.specs.Entry.{Entries}
 use Rattle.format.specs.Record.{recordAt}
-use Rattle.format.specs.Unpacking.{unpackAsserts, unpackPairs}
 use Rattle.format.specs.Packing.{Form, plain, simple, aggregated, nullRegister, registerStop, packing}
 use Rattle.format.specs.declared.Kind.{Kind}
-use Rattle.format.specs.declared.Kind.the-variants.{Hello, Assert, Simple, Aggregated, NullRegister, RegisterStop}
-use Rattle.hello.specs.Hello.{readHello}
+use Rattle.format.specs.declared.Kind.the-variants.{Assert, Simple, Aggregated, NullRegister, RegisterStop}
+use Rattle.reporting.specs.Judging.{judged}
 use Rattle.cases.specs.Faults.{refusedWith}
 use Rattle.cases.specs.Cuts.{isGiven}
 
@@ -39,7 +38,7 @@ pub data Answer : Type 0 where
 
 -- the octets before the address, and those after it, as their number and a numeral; then the three answers
 pub data Place : Type 1 where
-  -- in the body of a message of a kind, which is sealed with each address
+  -- in the body of a message of a kind, which is sealed with each address and judged as its reading call does
   inMessage : Kind → ℕ → ℕ → ℕ → ℕ → Answer → Answer → Answer → Place
   -- in a record of a kind that is read singly after two octets
   inRecord : Kind → ℕ → ℕ → ℕ → ℕ → Answer → Answer → Answer → Place
@@ -61,12 +60,7 @@ unfoldable pub around : ℕ → ℕ → ℕ → ℕ → ℕ → List ℕ
 around i before j after s = be i before & be 4 s & be j after
 
 unfoldable pub isPlace : Place → Bool
-isPlace (inMessage Hello i x j y r o z) = three (λ s. readHello (message Hello (around i x j y s))) r o z
-isPlace (inMessage Assert i x j y r o z) = three (λ s. unpackAsserts ipv4 (message Assert (around i x j y s))) r o z
-isPlace (inMessage Simple i x j y r o z) = three (λ s. unpackAsserts ipv4 (message Simple (around i x j y s))) r o z
-isPlace (inMessage Aggregated i x j y r o z) = three (λ s. unpackAsserts ipv4 (message Aggregated (around i x j y s))) r o z
-isPlace (inMessage NullRegister i x j y r o z) = three (λ s. unpackPairs ipv4 (message NullRegister (around i x j y s))) r o z
-isPlace (inMessage RegisterStop i x j y r o z) = three (λ s. unpackPairs ipv4 (message RegisterStop (around i x j y s))) r o z
+isPlace (inMessage k i x j y r o z) = three (λ s. judged (message k (around i x j y s))) r o z
 isPlace (inRecord k i x j y r o z) = three (λ s. from 2 (recordAt ipv4 k) (around i x j y s)) r o z
 isPlace (inEntries F i x j y r o z) = three (λ s. packing F (around i x j y s) 0 0 (replicate 556 0) .answer) r o z
 

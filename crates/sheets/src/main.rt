@@ -1,5 +1,5 @@
 // Runs of the stored sheet: a small one checked, damaged and cut, an empty one and a full one written, read and written again, and
-// what reading and writing refuse. What is expected, in the file stdout, was worked out from 01 by a second program.
+// what reading and writing refuse. What is expected, in the file stdout, was worked out from 01 by a second program, and of stored sources by hand.
 //
 // output.rt        what the calls answered, a line each
 // small.rt         a sheet of two asserts, two pairs and two neighbours: each fault once, and cut at every octet
