@@ -58,8 +58,9 @@ extern "C" {
  * counts are pim_sheet_counts. 3: pim_write_hello, and PIM_LONGEST_HELLO. 4: limit 0 is 556, before it was 1480.
  * 5: 6 and 7 in reading are placed at the field, before it was at the record, the option or the attribute. 6: the
  * report of a file, pim_report, and pim_tally_none to pim_tally_mean. 7: a source in 224.0.0.0/4, and 255.255.255.255,
- * is refused in messages, entries and sheets. */
-#define PIM_VERSION 7
+ * is refused in messages, entries and sheets. 8: a table has 64 rows, before it had 16; sheets of up to 8,192 asserts,
+ * 8,192 pairs and 64 neighbours, with a header of 28 octets. Sheets of before are still read. */
+#define PIM_VERSION 8
 
 /* ---- sizes and limits, in octets where nothing else is said */
 
@@ -73,17 +74,17 @@ extern "C" {
 #define PIM_USUAL_LIMIT 556       /* what limit 0 is read as: a datagram of 576, without its IP header */
 #define PIM_USUAL_HOLDTIME 105    /* seconds, of a Hello that has none */
 #define PIM_LONGEST_HELLO 22      /* the longest that is written */
-#define PIM_ROWS 16               /* rows of a neighbour table, and neighbours of a sheet at most */
+#define PIM_ROWS 64               /* rows of a neighbour table, and neighbours of a sheet at most */
 #define PIM_NUMBERS 15            /* of enum pim_number, 0 to 14 */
 #define PIM_LONGEST_LEFT 65536    /* what pim_tally_octets leaves at most */
 #define PIM_POPCOUNT_SHORTEST 8   /* a Pop-Count attribute without options */
 #define PIM_POPCOUNT_LONGEST 257  /* the longest that can be read */
 #define PIM_POPCOUNT_MERGED 22    /* the longest that merging writes */
-#define PIM_SHEET_HEADER 12       /* of a sheet; entries of asserts and of pairs follow */
+#define PIM_SHEET_HEADER 28       /* of a sheet that is written; entries of asserts and of pairs follow */
 #define PIM_SHEET_ROW 12          /* of a neighbour in a sheet, last */
-#define PIM_SHEET_ASSERTS 1024    /* entries at most */
-#define PIM_SHEET_PAIRS 1024      /* entries at most */
-#define PIM_LONGEST_SHEET 24780   /* all of these */
+#define PIM_SHEET_ASSERTS 8192    /* entries at most */
+#define PIM_SHEET_PAIRS 8192      /* entries at most */
+#define PIM_LONGEST_SHEET 197404  /* all of these, with PIM_ROWS neighbours */
 
 /* The most entries that a message of n octets or fewer can give: of pim_read_asserts, and of pim_read_pairs. Both are
  * exact: some message of at most n octets gives so many. They take n more than once, and are constant where n is.
@@ -122,7 +123,7 @@ enum pim_number {
     PIM_NO_ROOM = 8,      /* too little room; in a buffer that is lent */
     PIM_BAD_LIMIT = 9,    /* limit not allowed; neither 0 nor 38 to 65,515 */
     PIM_BAD_LIST = 10,    /* list not whole, or start past its end */
-    PIM_TABLE_FULL = 11,  /* table full; a new neighbour, and 16 rows in use */
+    PIM_TABLE_FULL = 11,  /* table full; a new neighbour, and 64 rows in use */
     PIM_ABSENT = 12,      /* no such neighbour; to forget, or none to elect */
     PIM_BAD_OPTION = 13,  /* option or attribute against its rule; of a Hello, of Pop-Count */
     PIM_BAD_SHEET = 14    /* sheet or table against its rule */
@@ -271,7 +272,7 @@ typedef struct {
     uint16_t holdtime;
 } pim_neighbour;
 
-/* 200 octets. The rows in use come first; the others are all 0. */
+/* 776 octets. The rows in use come first; the others are all 0. */
 typedef struct {
     pim_neighbour rows[PIM_ROWS];
     size_t count;
@@ -287,7 +288,7 @@ enum pim_done {
     PIM_FORGOTTEN = 3     /* the row went, and those after it moved up */
 };
 
-/* 224 octets */
+/* 800 octets */
 typedef struct {
     pim_refusal refusal;
     pim_table table; /* changed, or as it was */
@@ -296,7 +297,7 @@ typedef struct {
 
 /* Hears a Hello from an address; holdtime 0 forgets it.
  * Refuses 14 (the table), 7 (address 0), then 12 (holdtime 0, and absent) or 11 (full), at 0. Every call on a table
- * looks at all of it first: over 16 rows, an address that is 0 or there twice, a holdtime 0, a priority without its
+ * looks at all of it first: over 64 rows, an address that is 0 or there twice, a holdtime 0, a priority without its
  * flag or an unused row that is not 0 is 14. */
 pim_table_answer pim_hear(pim_table table, uint32_t address, pim_hello said);
 
@@ -475,6 +476,14 @@ pim_length_answer pim_popcount_merge(pim_popcount_own own, bool e, const uint8_t
 
 /* ---- the stored sheet */
 
+/* A sheet has one of two forms, which its first 16 bits tell. Both have three pairs of numbers, a count and an offset
+ * from the sheet's start, for asserts, pairs and neighbours, and then the three sections without gaps, to the end.
+ * - The new form: 16 bits 0xFFFF, 16 bits that hold 2, and numbers of 32 bits: PIM_SHEET_HEADER octets. At most
+ *   PIM_SHEET_ASSERTS, PIM_SHEET_PAIRS and PIM_ROWS entries. Sheets are written in this form alone.
+ * - The old form: numbers of 16 bits, 12 octets. At most 1,024 asserts, 1,024 pairs and 16 neighbours. Sheets stored
+ *   before version 8 are still read: what they give, written, is a sheet of the new form.
+ * Any other first 16 bits, 1,025 to 65,534, are those of neither form, and refused. */
+
 /* 24 octets */
 typedef struct {
     size_t asserts, pairs, neighbours;
@@ -486,25 +495,25 @@ typedef struct {
     pim_sheet_counts counts;
 } pim_check_answer;
 
-/* Checks a sheet. Refuses 14: at 0 for the header, else at the first octet of the entry at fault. */
+/* Checks a sheet of either form. Refuses 14: at 0 for the header, else at the first octet of the entry at fault. */
 pim_check_answer pim_check_sheet(const uint8_t *o, size_t n);
 
-/* 240 octets */
+/* 816 octets */
 typedef struct {
     pim_refusal refusal;
     pim_sheet_counts counts;
     pim_table table; /* without neighbours where the call refuses */
 } pim_sheet_answer;
 
-/* Reads a sheet into assert entries, pair entries and a table. Room past the entries stays.
+/* Reads a sheet of either form into assert entries, pair entries and a table. Room past the entries stays.
  * Refuses 14 as pim_check_sheet does, then 8 at 0, if either room is too small. A refused answer counts nothing: ask
  * pim_check_sheet first how many entries there are, and lend PIM_ASSERT_ENTRY times counts.asserts and PIM_PAIR_ENTRY
  * times counts.pairs octets. PIM_SHEET_ASSERTS and PIM_SHEET_PAIRS entries are always room enough. */
 pim_sheet_answer pim_read_sheet(const uint8_t *o, size_t n, uint8_t *asserts, size_t assert_room, uint8_t *pairs,
                                 size_t pair_room);
 
-/* Writes the sheet of two entry lists and a table: PIM_SHEET_HEADER octets, then all entries as they stand, then
- * PIM_SHEET_ROW octets for each neighbour; PIM_LONGEST_SHEET at most. Octets past it stay.
+/* Writes the sheet of two entry lists and a table, in the new form: PIM_SHEET_HEADER octets, then all entries as they
+ * stand, then PIM_SHEET_ROW octets for each neighbour; PIM_LONGEST_SHEET at most. Octets past it stay.
  * Refuses 10 (a list is not whole), 14 (too many entries, or the table), 8, 7, all at 0. */
 pim_length_answer pim_write_sheet(const uint8_t *asserts, size_t assert_size, const uint8_t *pairs, size_t pair_size,
                                   pim_table table, uint8_t *buffer, size_t room);

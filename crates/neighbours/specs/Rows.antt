@@ -18,7 +18,7 @@ use Rattle.neighbours.specs.declared.Neighbour.{Neighbour}
 use Rattle.neighbours.specs.declared.Table.{Table}
 
 abbrev pub most : ℕ
-most = 16
+most = 64
 
 -- the address of a row as a number: tests and orders ask it here
 abbrev pub addressOf : Neighbour → ℕ

@@ -19,7 +19,7 @@ pub use row::is_allowed;
 pub use validity::is_valid;
 
 // How many rows a table has.
-pub const ROWS: usize = 16;
+pub const ROWS: usize = 64;
 
 // A neighbour: the priority is 0 where none was announced.
 #[repr(C)]

@@ -10,9 +10,8 @@ use sheet::SheetRead;
 use sheet::Verdict;
 ghost use mathlib.Core.Path.{_≡_};
 ghost use Rattle.format.specs.Family.{ipv4};
-ghost use Rattle.sections.specs.Layout.{base};
-ghost use Rattle.sections.specs.Checking.{checking, checkedBy};
-ghost use Rattle.sheet.specs.Calls.{reading, writing, foundBy};
+ghost use Rattle.sections.specs.Checking.{checkSheet, checkedBy};
+ghost use Rattle.sheet.specs.Calls.{readSheet, writeSheet, foundBy};
 ghost use Rattle.pim.specs.Answers.{lengthAnswer};
 ghost use Rattle.pim.specs.Stored.{noCounts, checkAnswer, sheetAnswer};
 
@@ -57,7 +56,7 @@ fn check_answer(c: Verdict) -> CheckAnswer
 // Whether a sheet is valid, and how many entries it has.
 #[no_mangle]
 pub extern "C" fn pim_check_sheet(o: &[u8]) -> CheckAnswer
-    ensures { λ r. ⌜ r ≡ checkAnswer (checking base ipv4 (now (o .entry))) ⌝ }
+    ensures { λ r. ⌜ r ≡ checkAnswer (checkSheet ipv4 (now (o .entry))) ⌝ }
 {
     check_answer(sheet::check_sheet(o))
 }
@@ -84,9 +83,9 @@ fn sheet_answer(s: SheetRead) -> SheetAnswer
 // A sheet's two entry lists, copied, and its table.
 #[no_mangle]
 pub extern "C" fn pim_read_sheet(o: &[u8], asserts: &mut [u8], pairs: &mut [u8]) -> SheetAnswer
-    ensures answer { λ r. ⌜ r ≡ sheetAnswer (reading base ipv4 (now (o .entry)) (now (asserts .entry)) (now (pairs .entry)) .table) (reading base ipv4 (now (o .entry)) (now (asserts .entry)) (now (pairs .entry)) .answer) ⌝ }
-    ensures asserts { λ _. ⌜ now (asserts .exit) ≡ reading base ipv4 (now (o .entry)) (now (asserts .entry)) (now (pairs .entry)) .asserts ⌝ }
-    ensures pairs { λ _. ⌜ now (pairs .exit) ≡ reading base ipv4 (now (o .entry)) (now (asserts .entry)) (now (pairs .entry)) .pairs ⌝ }
+    ensures answer { λ r. ⌜ r ≡ sheetAnswer (readSheet ipv4 (now (o .entry)) (now (asserts .entry)) (now (pairs .entry)) .table) (readSheet ipv4 (now (o .entry)) (now (asserts .entry)) (now (pairs .entry)) .answer) ⌝ }
+    ensures asserts { λ _. ⌜ now (asserts .exit) ≡ readSheet ipv4 (now (o .entry)) (now (asserts .entry)) (now (pairs .entry)) .asserts ⌝ }
+    ensures pairs { λ _. ⌜ now (pairs .exit) ≡ readSheet ipv4 (now (o .entry)) (now (asserts .entry)) (now (pairs .entry)) .pairs ⌝ }
 {
     sheet_answer(sheet::read_sheet(o, asserts, pairs))
 }
@@ -99,8 +98,8 @@ pub extern "C" fn pim_write_sheet(
     table: Table,
     d: &mut [u8],
 ) -> LengthAnswer
-    ensures answer { λ r. ⌜ r ≡ lengthAnswer (writing base ipv4 (now (asserts .entry)) (now (pairs .entry)) table (now (d .entry)) .answer) ⌝ }
-    ensures buffer { λ _. ⌜ now (d .exit) ≡ writing base ipv4 (now (asserts .entry)) (now (pairs .entry)) table (now (d .entry)) .buffer ⌝ }
+    ensures answer { λ r. ⌜ r ≡ lengthAnswer (writeSheet ipv4 (now (asserts .entry)) (now (pairs .entry)) table (now (d .entry)) .answer) ⌝ }
+    ensures buffer { λ _. ⌜ now (d .exit) ≡ writeSheet ipv4 (now (asserts .entry)) (now (pairs .entry)) table (now (d .entry)) .buffer ⌝ }
 {
     length_answer(sheet::write_sheet(asserts, pairs, table, d))
 }

@@ -18,20 +18,20 @@ use Rattle.sections.specs.declared.Verdict.the-variants.{Valid, Refused}
 use Rattle.sections.specs.declared.section.Section.{Section}
 use Rattle.sections.specs.declared.section.Section.the-variants.{Sound, Fault}
 
-module _ (L : Layout) (f : Family) (o : List ℕ) (c : Counts) {a : Section}
-    (asserts : sectionBy a ≡ checkEntries (assertsIn f) o (headerSize L) (c .asserts)) where
+module _ (L : Layout) (f : Family) (o : List ℕ) (c : Counts) {first : ℕ} (past-header : first ≡ headerSize L) {a : Section}
+    (asserts : sectionBy a ≡ checkEntries (assertsIn f) o first (c .asserts)) where
   pub sections-asserts : {p : ℕ} → a ≡ Fault p → sectionBy a ≡ checkSections L f o c
   unfolding checkSections sectionBy _>>_
-  sections-asserts e = rw (← asserts, e) refl
+  sections-asserts e = rw (← past-header, ← asserts, e) refl
 
   module _ (sound : a ≡ Sound) {from : ℕ} (past : from ≡ pairsFrom L f c) {b : Section} (pairs : sectionBy b ≡ checkEntries (pairsIn f) o from (c .pairs)) where
     pub sections-pairs : {p : ℕ} → b ≡ Fault p → sectionBy b ≡ checkSections L f o c
     unfolding checkSections sectionBy _>>_
-    sections-pairs e = rw (← asserts, sound, ← past, ← pairs, e) refl
+    sections-pairs e = rw (← past-header, ← asserts, sound, ← past, ← pairs, e) refl
 
     pub sections-rows : b ≡ Sound → {r : Outcome (Unit {0})} {last : ℕ} → last ≡ rowsFrom L f c → r ≡ checkRows f o [] last (c .neighbours) → r ≡ checkSections L f o c
     unfolding checkSections sectionBy _>>_
-    sections-rows e end rows = rw (← asserts, sound, ← past, ← pairs, e, ← end) rows
+    sections-rows e end rows = rw (← past-header, ← asserts, sound, ← past, ← pairs, e, ← end) rows
 
 -- a line more after three
 regroup : {A : Type 0} (a b r : Outcome (Unit {0})) (y : Outcome A) → a >> (b >> (r >> y)) ≡ (a >> (b >> r)) >> y

@@ -1,12 +1,13 @@
 -- The header of a sheet, test by test.
---     counts-within                                               counts that are allowed
+--     counts-within, few-entries                                  counts that are allowed, and that they are small
+--     no-more-rows                                                a sheet has no more rows than a table
 --     counts-are, few                                             the counts as code reads them; their products are small
---     no-places, are-places, pairs-place, rows-place, end-place   where the sections are
---     agree-is, base-places                                       the offsets, and the places in IPv4, by the numbers that code has
---     header-short, header-counts, header-offsets, header-fine    what a header comes to
+--     no-places, are-places, asserts-place, pairs-place, rows-place, end-place   where the sections are
+--     agree-is, places-are                                        the offsets, and the places in IPv4, by the numbers that code has
+--     header-short, header-front, header-counts, header-offsets, header-fine    what a header comes to
 --     Offsets, InOrder, in-order, agreed                          what a header in order says of the counts, the offsets and the end
 -- Assumes nothing.
-use mathlib.Core.Path.{_≡_, refl, ap, _∙_}
+use mathlib.Core.Path.{_≡_, refl, sym, ap, _∙_}
 use mathlib.Core.Bool.{Bool, true, false, not, _&&_}
 use mathlib.Core.List.{List}
 use Prim.Native.Nat.{ℕ, _+_, _*_, _≤_, _<_}
@@ -14,48 +15,62 @@ use native.Mathlib.Nat.{mul-le-mul-left}
 use native.Mathlib.Omega.{arith}
 use borrow.Author.Tests.{lt-ltb, le-ltb, leb-true, ltb-false, eqb-true, not-false}
 use lib.ListN.{length}
-use lib.Dec.{eqb, leb}
-use Rattle.octets.specs.Octets.{numberAt}
+use lib.Dec.{lit≤, eqb, leb}
 use Rattle.format.specs.Outcome.{gives, refuses, refuseIf, _>>_}
 use Rattle.format.specs.Family.{Family, ipv4}
 use Rattle.format.proofs.Outcomes.{gives-same, unless-gives}
+use Rattle.neighbours.specs.Rows.{most}
 use Rattle.neighbours.proofs.Tables.{and-true}
-use Rattle.sections.specs.Layout.{Layout, base, headerSize, pairsFrom, rowsFrom, end}
-use Rattle.sections.specs.Checking.{fault, countsIn, countsAllowed, offsetsAgree, checkHeader}
+use Rattle.sections.specs.Layout.{Layout, layoutOf, headerSize, pairsFrom, rowsFrom, end}
+use Rattle.sections.specs.Checking.{fault, begins, numberIn, countsIn, countsAllowed, offsetsAgree, checkHeader}
 use Rattle.sections.specs.Sections.{placesOf}
 use Rattle.sections.specs.declared.Counts.{Counts}
+use Rattle.sections.specs.declared.layout.Form.{Form}
+use Rattle.sections.specs.declared.layout.Form.the-variants.{Base, Large}
 use Rattle.sections.specs.declared.layout.Places.{Places}
 
 pub counts-within : (L : Layout) (c : Counts) → countsAllowed L c ≡ true
-    → (c .asserts ≤ L .assertLimit) × (c .pairs ≤ L .pairLimit) × (c .neighbours ≤ L .rowLimit)
+    → (c .asserts ≤ L .limits .asserts) × (c .pairs ≤ L .limits .pairs) × (c .neighbours ≤ L .limits .neighbours)
 unfolding countsAllowed
 counts-within L c e =
-    let first = and-true (leb (c .asserts) (L .assertLimit)) _ e in
-    let second = and-true (leb (c .pairs) (L .pairLimit)) _ (first .1) in
+    let first = and-true (leb (c .asserts) (L .limits .asserts)) _ e in
+    let second = and-true (leb (c .pairs) (L .limits .pairs)) _ (first .1) in
     (leb-true _ _ (first .0), leb-true _ _ (second .0), leb-true _ _ (second .1))
 
-pub counts-are : (o : List ℕ) {x y z : ℕ} → x ≡ numberAt 2 o 0 → y ≡ numberAt 2 o 4 → z ≡ numberAt 2 o 8
-    → record { asserts = x; pairs = y; neighbours = z } ≡ countsIn base o
+-- of either form
+pub few-entries : (k : Form) (c : Counts) → countsAllowed (layoutOf k) c ≡ true → (c .asserts ≤ 8192) × (c .pairs ≤ 8192) × (c .neighbours ≤ most)
+few-entries Base c e = let w = counts-within (layoutOf Base) c e in (omega (arith, w), omega (arith, w), omega (arith, w))
+few-entries Large c e = counts-within (layoutOf Large) c e
+
+pub no-more-rows : (k : Form) → layoutOf k .limits .neighbours ≤ most
+no-more-rows Base = lit≤ tt
+no-more-rows Large = lit≤ tt
+
+pub counts-are : (L : Layout) (o : List ℕ) {x y z : ℕ} → x ≡ numberIn L o 0 → y ≡ numberIn L o 2 → z ≡ numberIn L o 4
+    → record { asserts = x; pairs = y; neighbours = z } ≡ countsIn L o
 unfolding countsIn
-counts-are o ex ey ez = rw (ex, ey, ez) refl
+counts-are L o ex ey ez = rw (ex, ey, ez) refl
 
 -- no product of a size and a count is past 64 bits
-pub few : (size n : ℕ) → size ≤ 40 → n ≤ 1024 → size * n ≤ 40960
+pub few : (size n : ℕ) → size ≤ 40 → n ≤ 8192 → size * n ≤ 327680
 few size n h g = omega (arith, mul-le-mul-left size g)
 
 -- ---- the places of the sections
 
 module _ (L : Layout) (f : Family) (c : Counts) where
-  pub no-places : countsAllowed L c ≡ false → placesOf L f c ≡ record { pairs = 0; rows = 0; end = 0 }
+  pub no-places : countsAllowed L c ≡ false → placesOf L f c ≡ record { asserts = 0; pairs = 0; rows = 0; end = 0 }
   unfolding placesOf
   no-places e = rw e
 
   module _ (allowed : countsAllowed L c ≡ true) where
-    pub are-places : placesOf L f c ≡ record { pairs = pairsFrom L f c; rows = rowsFrom L f c; end = end L f c }
+    pub are-places : placesOf L f c ≡ record { asserts = headerSize L; pairs = pairsFrom L f c; rows = rowsFrom L f c; end = end L f c }
     unfolding placesOf
     are-places = rw allowed
 
     module _ {p : Places} (e : p ≡ placesOf L f c) where
+      pub asserts-place : p .asserts ≡ headerSize L
+      asserts-place = ap (λ q. q .asserts) (e ∙ are-places)
+
       pub pairs-place : p .pairs ≡ pairsFrom L f c
       pairs-place = ap (λ q. q .pairs) (e ∙ are-places)
 
@@ -65,17 +80,21 @@ module _ (L : Layout) (f : Family) (c : Counts) where
       pub end-place : p .end ≡ end L f c
       end-place = ap (λ q. q .end) (e ∙ are-places)
 
-pub agree-is : (f : Family) (o : List ℕ) (c : Counts) {p : Places} {x y z : ℕ} → countsAllowed base c ≡ true → p ≡ placesOf base f c
-    → x ≡ numberAt 2 o 2 → y ≡ numberAt 2 o 6 → z ≡ numberAt 2 o 10
-    → offsetsAgree base f o c ≡ (eqb x 12 && (eqb y (p .pairs) && (eqb z (p .rows) && eqb (length o) (p .end))))
+pub agree-is : (L : Layout) (f : Family) (o : List ℕ) (c : Counts) {p : Places} {x y z : ℕ} → countsAllowed L c ≡ true → p ≡ placesOf L f c
+    → x ≡ numberIn L o 1 → y ≡ numberIn L o 3 → z ≡ numberIn L o 5
+    → offsetsAgree L f o c ≡ (eqb x (p .asserts) && (eqb y (p .pairs) && (eqb z (p .rows) && eqb (length o) (p .end))))
 unfolding offsetsAgree
-agree-is f o c ok e ex ey ez = rw (ex, ey, ez, pairs-place base f c ok e, rows-place base f c ok e, end-place base f c ok e)
+agree-is L f o c ok e ex ey ez = rw (ex, ey, ez, asserts-place L f c ok e, pairs-place L f c ok e, rows-place L f c ok e, end-place L f c ok e)
 
 -- in IPv4, as code reckons with them
-pub base-places : (c : Counts) {p : Places} → countsAllowed base c ≡ true → p ≡ placesOf base ipv4 c
-    → (p .pairs ≡ 12 + 16 * c .asserts) × (p .rows ≡ 12 + 16 * c .asserts + 8 * c .pairs) × (p .end ≡ 12 + 16 * c .asserts + 8 * c .pairs + 12 * c .neighbours)
+pub places-are : (L : Layout) (c : Counts) {p : Places} → countsAllowed L c ≡ true → p ≡ placesOf L ipv4 c
+    → (p .asserts ≡ headerSize L) × (p .pairs ≡ p .asserts + 16 * c .asserts) × (p .rows ≡ p .pairs + 8 * c .pairs) × (p .end ≡ p .rows + 12 * c .neighbours)
 unfolding pairsFrom rowsFrom end
-base-places c ok e = (pairs-place base ipv4 c ok e, rows-place base ipv4 c ok e, end-place base ipv4 c ok e)
+places-are L c ok e =
+    let a = asserts-place L ipv4 c ok e in
+    let p = pairs-place L ipv4 c ok e in
+    let r = rows-place L ipv4 c ok e in
+    (a, p ∙ ap (λ n. n + 16 * c .asserts) (sym a), r ∙ ap (λ n. n + 8 * c .pairs) (sym p), end-place L ipv4 c ok e ∙ ap (λ n. n + 12 * c .neighbours) (sym r))
 
 -- ---- test by test
 
@@ -84,31 +103,35 @@ module _ (L : Layout) (f : Family) (o : List ℕ) where
   unfolding checkHeader fault refuseIf _>>_
   header-short h = rw (lt-ltb (length o) (headerSize L) h)
 
-  module _ {c : Counts} (is : c ≡ countsIn L o) (long : headerSize L ≤ length o) {a : Bool} (allowed : a ≡ countsAllowed L c) where
-    pub header-counts : not a ≡ true → checkHeader L f o ≡ refuses 14 0
+  module _ (long : headerSize L ≤ length o) {s : Bool} (start : s ≡ begins L o) where
+    pub header-front : not s ≡ true → checkHeader L f o ≡ refuses 14 0
     unfolding checkHeader fault refuseIf _>>_
-    header-counts over = rw (le-ltb (length o) (headerSize L) long, ← is, ← allowed, over)
+    header-front other = rw (le-ltb (length o) (headerSize L) long, ← start, other)
 
-    module _ (within : not a ≡ false) {b : Bool} (agrees : b ≡ offsetsAgree L f o c) where
-      pub header-offsets : not b ≡ true → checkHeader L f o ≡ refuses 14 0
+    module _ (same : not s ≡ false) {c : Counts} (is : c ≡ countsIn L o) {a : Bool} (allowed : a ≡ countsAllowed L c) where
+      pub header-counts : not a ≡ true → checkHeader L f o ≡ refuses 14 0
       unfolding checkHeader fault refuseIf _>>_
-      header-offsets gap = rw (le-ltb (length o) (headerSize L) long, ← is, ← allowed, within, ← agrees, gap)
+      header-counts over = rw (le-ltb (length o) (headerSize L) long, ← start, same, ← is, ← allowed, over)
 
-      pub header-fine : not b ≡ false → checkHeader L f o ≡ gives c
-      unfolding checkHeader fault refuseIf _>>_
-      header-fine none = rw (le-ltb (length o) (headerSize L) long, ← is, ← allowed, within, ← agrees, none)
+      module _ (within : not a ≡ false) {b : Bool} (agrees : b ≡ offsetsAgree L f o c) where
+        pub header-offsets : not b ≡ true → checkHeader L f o ≡ refuses 14 0
+        unfolding checkHeader fault refuseIf _>>_
+        header-offsets gap = rw (le-ltb (length o) (headerSize L) long, ← start, same, ← is, ← allowed, within, ← agrees, gap)
+
+        pub header-fine : not b ≡ false → checkHeader L f o ≡ gives c
+        unfolding checkHeader fault refuseIf _>>_
+        header-fine none = rw (le-ltb (length o) (headerSize L) long, ← start, same, ← is, ← allowed, within, ← agrees, none)
 
 -- ---- a header in order
 
 -- the three offsets that a header gives
 abbrev pub Offsets : Layout → Family → List ℕ → Counts → Type 0
 Offsets L f o c =
-    (numberAt (L .width) o (L .width) ≡ headerSize L)
-    × (numberAt (L .width) o (3 * L .width) ≡ pairsFrom L f c)
-    × (numberAt (L .width) o (5 * L .width) ≡ rowsFrom L f c)
+    (numberIn L o 1 ≡ headerSize L) × (numberIn L o 3 ≡ pairsFrom L f c) × (numberIn L o 5 ≡ rowsFrom L f c)
 
 pub record InOrder (L : Layout) (f : Family) (o : List ℕ) (c : Counts) : Type 0 where
   pub there : headerSize L ≤ length o
+  pub front : begins L o ≡ true
   pub counts : countsIn L o ≡ c
   pub allowed : countsAllowed L c ≡ true
   pub agree : offsetsAgree L f o c ≡ true
@@ -119,15 +142,17 @@ module _ (L : Layout) (f : Family) (o : List ℕ) (c : Counts) where
   in-order e =
       unless-gives _ 14 0 _ c e
       (λ short e₁. unless-gives _ 14 0 _ c e₁
-      (λ over e₂. unless-gives _ 14 0 _ c e₂
-      (λ apart e₃.
-      let is : countsIn L o ≡ c = gives-same e₃ in
+      (λ other e₂. unless-gives _ 14 0 _ c e₂
+      (λ over e₃. unless-gives _ 14 0 _ c e₃
+      (λ apart e₄.
+      let is : countsIn L o ≡ c = gives-same e₄ in
       record {
         there = ltb-false _ _ short;
+        front = not-false (begins L o) other;
         counts = is;
         allowed = rw is at (not-false (countsAllowed L (countsIn L o)) over);
         agree = rw is at (not-false (offsetsAgree L f o (countsIn L o)) apart);
-      })))
+      }))))
 
   pub agreed : offsetsAgree L f o c ≡ true → Offsets L f o c × (length o ≡ end L f c)
   unfolding offsetsAgree

@@ -1,11 +1,12 @@
 -- A sheet is checked "in the order: header there, counts, offsets and end (place 0); then entries in octet order (place: the entry's first octet)".
 -- "Any fault is 14."
 --     fault                            14 at a place, if a test holds
---     countsIn, offsetsAgree           what the header says
+--     begins                           the octets before the counts are those of the layout
+--     numberIn, countsIn, offsetsAgree     what the header says
 --     checkHeader                      the header: its counts
 --     checkEntries                     n entries from a place on
 --     rowForm, rowFits, checkRows      n rows from a place on, of which none has the address of an earlier one
---     checking                         the call
+--     checking, checkSheet             a sheet of a layout, and the call: of the layout that the sheet has
 --     checkedBy                        01's number and values for each case of an answer
 -- Assumes nothing: these are definitions.
 use Prim.Native.Nat.{ℕ, zero, suc, _+_, _*_}
@@ -13,13 +14,13 @@ use mathlib.Core.Bool.{Bool, not, _&&_}
 use mathlib.Core.List.{List, [], _∷_}
 use lib.ListN.{length}
 use lib.Dec.{eqb, leb, ltb}
-use Rattle.octets.specs.Octets.{numberAt}
+use Rattle.octets.specs.Octets.{numberAt, value}
 use Rattle.format.specs.Outcome.{Outcome, gives, refuses, refuseIf, _>>=_, _>>_}
 use Rattle.format.specs.Family.{Family}
 use Rattle.format.specs.Entry.{Entries}
 use Rattle.neighbours.specs.Rows.{addressOf, allowed, has}
 use Rattle.neighbours.specs.declared.Neighbour.{Neighbour}
-use Rattle.sections.specs.Layout.{Layout, assertsIn, pairsIn, rowSize, headerSize, pairsFrom, rowsFrom, end}
+use Rattle.sections.specs.Layout.{Layout, layoutOf, formOf, assertsIn, pairsIn, rowSize, numberPlace, headerSize, pairsFrom, rowsFrom, end}
 use Rattle.sections.specs.Contents.{flagsAt, rowAt}
 use Rattle.sections.specs.declared.Counts.{Counts}
 use Rattle.sections.specs.declared.Verdict.{Verdict}
@@ -30,27 +31,33 @@ fault test place = refuseIf test 14 place
 
 -- ---- the header
 
+-- E6: "14 also for a number other than 2, before the offsets"
+unfoldable pub begins : Layout → List ℕ → Bool
+begins L o = eqb (numberAt (length (L .front)) o 0) (value (L .front))
+
+-- the k-th number, counted from 0
+unfoldable pub numberIn : Layout → List ℕ → ℕ → ℕ
+numberIn L o k = numberAt (L .width) o (numberPlace L k)
+
 unfoldable pub countsIn : Layout → List ℕ → Counts
-countsIn L o = record {
-  asserts = numberAt (L .width) o 0;
-  pairs = numberAt (L .width) o (2 * L .width);
-  neighbours = numberAt (L .width) o (4 * L .width);
-}
+countsIn L o = record { asserts = numberIn L o 0; pairs = numberIn L o 2; neighbours = numberIn L o 4 }
 
 unfoldable pub countsAllowed : Layout → Counts → Bool
-countsAllowed L c = leb (c .asserts) (L .assertLimit) && (leb (c .pairs) (L .pairLimit) && leb (c .neighbours) (L .rowLimit))
+countsAllowed L c =
+    leb (c .asserts) (L .limits .asserts) && (leb (c .pairs) (L .limits .pairs) && leb (c .neighbours) (L .limits .neighbours))
 
 -- "in that order, without gaps, to the end"
 unfoldable pub offsetsAgree : Layout → Family → List ℕ → Counts → Bool
 offsetsAgree L f o c =
-    eqb (numberAt (L .width) o (L .width)) (headerSize L)
-    && (eqb (numberAt (L .width) o (3 * L .width)) (pairsFrom L f c)
-    && (eqb (numberAt (L .width) o (5 * L .width)) (rowsFrom L f c)
+    eqb (numberIn L o 1) (headerSize L)
+    && (eqb (numberIn L o 3) (pairsFrom L f c)
+    && (eqb (numberIn L o 5) (rowsFrom L f c)
     && eqb (length o) (end L f c)))
 
 unfoldable pub checkHeader : Layout → Family → List ℕ → Outcome Counts
 checkHeader L f o = do
   fault (ltb (length o) (headerSize L)) 0
+  fault (not (begins L o)) 0
   fault (not (countsAllowed L (countsIn L o))) 0
   fault (not (offsetsAgree L f o (countsIn L o))) 0
   gives (countsIn L o)
@@ -84,6 +91,9 @@ checking L f o = do
   checkEntries (pairsIn f) o (pairsFrom L f c) (c .pairs)
   checkRows f o [] (rowsFrom L f c) (c .neighbours)
   gives c
+
+abbrev pub checkSheet : Family → List ℕ → Outcome Counts
+checkSheet f o = checking (layoutOf (formOf o)) f o
 
 unfoldable pub checkedBy : Verdict → Outcome Counts
 checkedBy (Valid c) = gives c

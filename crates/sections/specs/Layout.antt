@@ -1,29 +1,48 @@
--- How a sheet is laid out (01, "The sheet"): "A stored sheet is a 12-octet header of three pairs, count 16 and offset 16, for asserts, pairs and
--- neighbours, then the three sections in that order, without gaps, to the end."
---     Layout, base                     what may differ between the forms of a sheet, and the form of 01
+-- How a sheet is laid out (01, "The sheet", and E6): "a .. header of three pairs, count .. and offset .., for asserts, pairs and neighbours, then the
+-- three sections in that order, without gaps, to the end."
+--     Layout, base, large              what differs between the forms of a sheet: that of 01, and that of E6
+--     layoutOf, formOf                 the layout of a form, and the form that a sheet has
 --     assertsIn, pairsIn, rowSize      the entries of the three sections
---     headerSize, pairsFrom, rowsFrom, end     where the sections begin, for the counts, and where the sheet ends
+--     numberPlace, headerSize          where the numbers of the header stand, and its octets
+--     pairsFrom, rowsFrom, end         where the sections begin, for the counts, and where the sheet ends
 --     headerOctets                     the header of some counts
 -- Assumes nothing: these are definitions.
 use Prim.Native.Nat.{ℕ, _+_, _*_}
-use mathlib.Core.Bool.{true}
-use mathlib.Core.List.{List}
-use Rattle.octets.specs.Octets.{be, _&_}
+use mathlib.Core.Bool.{true, cond}
+use mathlib.Core.List.{List, [], _∷_}
+use lib.ListN.{length}
+use lib.Dec.{eqb}
+use Rattle.octets.specs.Octets.{numberAt, be, _&_}
 use Rattle.format.specs.Family.{Family}
 use Rattle.format.specs.Entry.{Entries, assertEntries, pairEntries}
 use Rattle.neighbours.specs.Rows.{most}
 use Rattle.sections.specs.declared.Counts.{Counts}
+use Rattle.sections.specs.declared.layout.Form.{Form}
+use Rattle.sections.specs.declared.layout.Form.the-variants.{Base, Large}
 
 pub record Layout : Type 0 where
+  -- the octets before the counts and offsets
+  pub front : List ℕ
   -- octets of a count and of an offset
   pub width : ℕ
-  pub assertLimit : ℕ
-  pub pairLimit : ℕ
-  pub rowLimit : ℕ
+  -- the most entries of each section
+  pub limits : Counts
 
--- "At most 1,024, 1,024 and 16 entries" (E6 adds another form)
+-- 01: "count 16 and offset 16"; "At most 1,024, 1,024 and 16 entries"
 abbrev pub base : Layout
-base = record { width = 2; assertLimit = 1024; pairLimit = 1024; rowLimit = most }
+base = record { front = []; width = 2; limits = record { asserts = 1024; pairs = 1024; neighbours = 16 } }
+
+-- E6: "three pairs of 32-bit numbers, 24 octets, after a 16-bit 0xFFFF and 16 bits holding 2"; "8,192 asserts, 8,192 pairs and 64 neighbours"
+abbrev pub large : Layout
+large = record { front = 0xFF ∷ 0xFF ∷ 0 ∷ 2 ∷ []; width = 4; limits = record { asserts = 8192; pairs = 8192; neighbours = most } }
+
+abbrev pub layoutOf : Form → Layout
+layoutOf Base = base
+layoutOf Large = large
+
+-- E6: "An old sheet, whose first count is at most 1,024": 0xFFFF is no count that it may have
+unfoldable pub formOf : List ℕ → Form
+formOf o = cond (eqb (numberAt 2 o 0) 0xFFFF) Large Base
 
 -- "groups and sources as in messages, source 0 allowed in a pair"
 abbrev pub assertsIn : Family → Entries
@@ -36,9 +55,13 @@ pairsIn f = pairEntries f true
 abbrev pub rowSize : Family → ℕ
 rowSize f = f .width + 8
 
+-- the k-th number of the header, counted from 0
+abbrev pub numberPlace : Layout → ℕ → ℕ
+numberPlace L k = length (L .front) + k * L .width
+
 -- "three pairs"
 abbrev pub headerSize : Layout → ℕ
-headerSize L = 6 * L .width
+headerSize L = numberPlace L 6
 
 -- "Offsets count from the sheet's start"
 unfoldable pub pairsFrom : Layout → Family → Counts → ℕ
@@ -52,6 +75,7 @@ end L f c = rowsFrom L f c + rowSize f * c .neighbours
 
 unfoldable pub headerOctets : Layout → Family → Counts → List ℕ
 headerOctets L f c =
-    be (L .width) (c .asserts) & be (L .width) (headerSize L)
+    L .front
+    & be (L .width) (c .asserts) & be (L .width) (headerSize L)
     & be (L .width) (c .pairs) & be (L .width) (pairsFrom L f c)
     & be (L .width) (c .neighbours) & be (L .width) (rowsFrom L f c)

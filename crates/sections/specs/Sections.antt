@@ -25,8 +25,8 @@ earlierRows f o from (suc i) = rowAt f o (from + rowSize f * i) ∷ earlierRows 
 -- where the sections begin and the last ends, of counts that are allowed: others have no places
 unfoldable pub placesOf : Layout → Family → Counts → Places
 placesOf L f c =
-    cond (countsAllowed L c) (record { pairs = pairsFrom L f c; rows = rowsFrom L f c; end = end L f c })
-    (record { pairs = 0; rows = 0; end = 0 })
+    cond (countsAllowed L c) (record { asserts = headerSize L; pairs = pairsFrom L f c; rows = rowsFrom L f c; end = end L f c })
+    (record { asserts = 0; pairs = 0; rows = 0; end = 0 })
 
 unfoldable pub checkSections : Layout → Family → List ℕ → Counts → Outcome (Unit {0})
 checkSections L f o c = do

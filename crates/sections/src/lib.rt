@@ -1,6 +1,6 @@
 // The sections of a stored sheet, and whether a sheet is valid. Reading and writing a sheet are in `sheet`.
 //
-// layout.rt      which counts are allowed, and where the sections begin
+// layout.rt      the two forms, which counts they allow, and where the sections begin
 // row.rt         a neighbour's row
 // head.rt        the header
 // section.rt     the sections one by one
@@ -11,8 +11,10 @@ mod section;
 
 use format::Refusal;
 use head::check_header;
+pub use layout::Form;
 pub use layout::Places;
 pub use layout::counts_allowed;
+pub use layout::form_of;
 pub use layout::places_of;
 pub use row::row_at;
 use section::Section;
@@ -20,17 +22,9 @@ use section::check_sections;
 ghost use mathlib.Core.Path.{_≡_};
 ghost use Rattle.format.specs.Outcome.{refuses};
 ghost use Rattle.format.specs.Family.{ipv4};
-ghost use Rattle.sections.specs.Layout.{base};
-ghost use Rattle.sections.specs.Checking.{checking, checkedBy};
+ghost use Rattle.sections.specs.Checking.{checkSheet, checkedBy};
 
-// The most entries of the first two sections; of neighbours there are at most `ROWS`.
-pub(crate) const ASSERT_LIMIT: usize = 1024;
-
-pub(crate) const PAIR_LIMIT: usize = 1024;
-
-// The octets of a header, and of an assert, a pair and a neighbour in IPv4.
-pub const HEADER: usize = 12;
-
+// The octets of an assert, a pair and a neighbour in IPv4.
 pub const ASSERT: usize = 16;
 
 pub const PAIR: usize = 8;
@@ -58,15 +52,16 @@ pub(crate) fn refused(place: usize) -> Verdict
     Verdict::Refused(Refusal { number: 14, place })
 }
 
-// Checks a sheet: how many entries its sections have, or 14 with the place at fault.
+// Checks a sheet of either form: how many entries its sections have, or 14 with the place at fault.
 pub fn check_sheet(o: &[u8]) -> Verdict
-    ensures { λ r. ⌜ checkedBy r ≡ checking base ipv4 (now (o .entry)) ⌝ }
+    ensures { λ r. ⌜ checkedBy r ≡ checkSheet ipv4 (now (o .entry)) ⌝ }
 {
-    let x = check_header(false, o);
+    let form = form_of(o);
+    let x = check_header(form, false, o);
     let Verdict::Valid(c) = x else {
         return x;
     };
-    let s = check_sections(o, c);
+    let s = check_sections(form, o, c);
     match s {
         Section::Sound => x,
         Section::Fault(place) => refused(place),

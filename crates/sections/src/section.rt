@@ -1,7 +1,7 @@
 // The sections of a sheet whose header is in order: entries as messages may have them, and rows of which none has the
 // address of an earlier one.
 use crate::Counts;
-use crate::HEADER;
+use crate::Form;
 use crate::ROW;
 use crate::layout::places_of;
 use crate::row::number8;
@@ -20,7 +20,7 @@ ghost use lib.ListN.{length};
 ghost use Rattle.format.specs.Family.{ipv4};
 ghost use Rattle.neighbours.specs.Rows.{has};
 ghost use Rattle.entries.specs.Kinds.{entriesFor};
-ghost use Rattle.sections.specs.Layout.{base, end};
+ghost use Rattle.sections.specs.Layout.{layoutOf, end};
 ghost use Rattle.sections.specs.Checking.{countsAllowed, checkEntries, rowFits, checkRows};
 ghost use Rattle.sections.specs.Sections.{earlierRows, checkSections, sectionBy};
 
@@ -95,12 +95,12 @@ fn check_rows(o: &[u8], from: usize, count: usize) -> Section
 }
 
 // The three sections, in their order: rows are IPv4, and so are the entries beside them.
-pub(crate) fn check_sections(o: &[u8], c: Counts) -> Section
-    requires { ⌜ (countsAllowed base c ≡ true) × (length (now o) ≡ end base ipv4 c) ⌝ }
-    ensures { λ r. ⌜ sectionBy r ≡ checkSections base ipv4 (now (o .entry)) c ⌝ }
+pub(crate) fn check_sections(form: Form, o: &[u8], c: Counts) -> Section
+    requires { ⌜ (countsAllowed (layoutOf form) c ≡ true) × (length (now o) ≡ end (layoutOf form) ipv4 c) ⌝ }
+    ensures { λ r. ⌜ sectionBy r ≡ checkSections (layoutOf form) ipv4 (now (o .entry)) c ⌝ }
 {
-    let from = places_of(false, c);
-    let a = check_entries(false, Kind::Simple, o, HEADER, c.asserts);
+    let from = places_of(form, false, c);
+    let a = check_entries(false, Kind::Simple, o, from.asserts, c.asserts);
     let Section::Sound = a else {
         return a;
     };

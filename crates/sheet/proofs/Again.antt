@@ -2,20 +2,24 @@
 --     at-part, part-from           octets of a sheet from a place on
 --     Checks, checked              what the check asked of a sheet
 --     asserts-long, pairs-long     the lists have as many entries as the header says
+--     contents-again, counts-again     writing is given these contents
+--     held                         the table is one that code can hold
 --     sheet-again                  the sheet of its contents is the sheet
---     writes-again, short-again    so writing asks for these octets, or refuses with 8
+--     accepted-again, writes-again, short-again    of any layout that allows the counts, writing asks for the sheet of these contents, or refuses with 8
 --     sizes                        the parts of a sheet that passes the check lie in it
 -- Assumes nothing.
-use Prim.Native.Nat.{ℕ, _+_, _*_, _/_, _%_, _≤_, _<_}
+use Prim.Native.Nat.{ℕ, zero, suc, _+_, _*_, _/_, _%_, _≤_, _<_}
 use native.Mathlib.Nat.{mul-div-right, mul-mod-right}
 use native.Mathlib.Omega.{arith}
 use mathlib.Core.Path.{_≡_, refl, sym, ap, subst, _∙_}
 use mathlib.Core.Bool.{true}
 use mathlib.Core.List.{List, [], _++_, append-assoc, append-nil}
-use borrow.Author.Tests.{lt-ltb, le-ltb, eq-eqb}
+use borrow.Author.Tests.{lt-ltb, le-ltb, eq-eqb, eqb-true}
 use lib.ListN.{length, take, drop, length-drop, take-append-drop}
 use lib.Seq.{length-take-le, drop-drop, drop-length}
-use Rattle.octets.specs.Octets.{Octets}
+use Rattle.octets.specs.Octets.{Octets, value}
+use Rattle.octets.proofs.Laws.{be-value}
+use Rattle.records.specs.Every.{Every}
 use Rattle.format.specs.Outcome
 use Rattle.format.specs.Outcome.{Outcome, gives, refuses, refuseIf}
 use Rattle.format.specs.Family.{Family, ipv4}
@@ -25,16 +29,19 @@ use Rattle.format.specs.Record.{each}
 use Rattle.format.proofs.Outcomes.{gives-same, bind-gives, then-gives}
 use Rattle.format.proofs.Readers.{At}
 use Rattle.format.proofs.Calls.{list-fine}
+use Rattle.format.proofs.Entries.{numberAt-lt}
 use Rattle.neighbours.specs.Rows.{most, used, valid, tableOf}
-use Rattle.neighbours.proofs.Kept.{used-of, valid-of}
-use Rattle.sections.specs.Layout.{Layout, base, assertsIn, pairsIn, rowSize, headerSize, pairsFrom, rowsFrom, end, headerOctets}
-use Rattle.sections.specs.Contents.{Contents, rowOctets, countsOf, contentsAt, sheetOctets}
-use Rattle.sections.specs.Checking.{countsIn, countsAllowed, checkHeader, checkEntries, checkRows, checking}
+use Rattle.neighbours.proofs.Kept.{used-of, full-of, valid-of}
+use Rattle.sections.specs.Layout.{Layout, layoutOf, formOf, assertsIn, pairsIn, rowSize, headerSize, pairsFrom, rowsFrom, end, headerOctets}
+use Rattle.sections.specs.Contents.{Contents, rowAt, rowsAt, rowOctets, countsOf, contentsAt, sheetOctets}
+use Rattle.sections.specs.Checking.{begins, numberIn, countsIn, countsAllowed, checkHeader, checkEntries, checkRows, checking, checkSheet}
 use Rattle.sections.specs.declared.Counts.{Counts}
-use Rattle.sections.proofs.Header.{counts-within, InOrder, in-order, agreed}
+use Rattle.sections.proofs.Header.{counts-within, few-entries, InOrder, in-order, agreed}
 use Rattle.sheet.specs.Calls.{contentsOf, atZero, asked}
+use Rattle.sheet.specs.Valid.{RowFits, Held}
 use Rattle.sheet.proofs.Places.{Local, asserts-local, pairs-local, check-every, number-from}
 use Rattle.sheet.proofs.Rows.{length-rowsAt, rows-sheet, rows-from}
+use Rattle.sheet.proofs.Written.{Accepted}
 
 -- ---- parts of a sheet
 
@@ -64,18 +71,23 @@ checked L f o c e =
     subst (λ (x : Counts). Checks L f o x) (gives-same e4) (record { header = header; asserts = asserts; pairs = pairs; rows = rows })))))
 
 module _ (L : Layout) (f : Family) (o : List ℕ) (c : Counts) (h : InOrder L f o c) where
-  header-from : Octets o → {x : List ℕ} → drop (headerSize L) o ≡ x → o ≡ headerOctets L f c ++ x
-  unfolding headerOctets countsIn
-  header-from octets {x} r =
+  header-from : Octets (L .front) → Octets o → {x : List ℕ} → drop (headerSize L) o ≡ x → o ≡ headerOctets L f c ++ x
+  unfolding headerOctets begins countsIn numberIn
+  header-from start octets {x} r =
       let w : ℕ = L .width in
-      let there : 6 * w ≤ length o = h .there in
+      let k : ℕ = length (L .front) in
+      let there : k + 6 * w ≤ length o = h .there in
+      let offsets = agreed L f o c (h .agree) .0 in
+      let numbers =
+      number-from o octets w (c .asserts) (k + 0 * w) (k + 1 * w) (ap (λ (n : Counts). n .asserts) (sym (h .counts))) (omega arith) (omega arith)
+      (number-from o octets w (headerSize L) (k + 1 * w) (k + 2 * w) (sym (offsets .0)) (omega arith) (omega arith)
+      (number-from o octets w (c .pairs) (k + 2 * w) (k + 3 * w) (ap (λ (n : Counts). n .pairs) (sym (h .counts))) (omega arith) (omega arith)
+      (number-from o octets w (pairsFrom L f c) (k + 3 * w) (k + 4 * w) (sym (offsets .1)) (omega arith) (omega arith)
+      (number-from o octets w (c .neighbours) (k + 4 * w) (k + 5 * w) (ap (λ (n : Counts). n .neighbours) (sym (h .counts))) (omega arith) (omega arith)
+      (number-from o octets w (rowsFrom L f c) (k + 5 * w) (k + 6 * w) (sym (offsets .2)) (omega arith) (omega arith) r))))) in
       simp append-assoc
-      (number-from o octets w (c .asserts) 0 w (ap (λ (n : Counts). n .asserts) (sym (h .counts))) (omega arith) (omega arith)
-      (number-from o octets w (headerSize L) w (2 * w) (sym (agreed L f o c (h .agree) .0 .0)) (omega arith) (omega arith)
-      (number-from o octets w (c .pairs) (2 * w) (3 * w) (ap (λ (n : Counts). n .pairs) (sym (h .counts))) (omega arith) (omega arith)
-      (number-from o octets w (pairsFrom L f c) (3 * w) (4 * w) (sym (agreed L f o c (h .agree) .0 .1)) (omega arith) (omega arith)
-      (number-from o octets w (c .neighbours) (4 * w) (5 * w) (ap (λ (n : Counts). n .neighbours) (sym (h .counts))) (omega arith) (omega arith)
-      (number-from o octets w (rowsFrom L f c) (5 * w) (6 * w) (sym (agreed L f o c (h .agree) .0 .2)) (omega arith) (omega arith) r))))))
+      (rw (be-value (L .front) start) at
+      (number-from o octets k (value (L .front)) 0 (k + 0 * w) (sym (eqb-true _ _ (h .front))) (omega arith) (omega arith) numbers))
 
 -- ---- the sheet
 
@@ -100,13 +112,31 @@ listed E loc some o at n h g =
       fine = list-fine E e (rw many (check-every E loc e (at-part o at (E .size * n) h) n 0 (omega arith) (omega arith) g));
     }
 
+-- rows of octets
+rows-fit : (f : Family) (o : List ℕ) → Octets o → (at n : ℕ) → Every (RowFits f) (rowsAt f o at n)
+unfolding rowsAt rowAt Every
+rows-fit f o octets at zero = tt
+rows-fit f o octets at (suc n) = (
+  record {
+    address = numberAt-lt (f .width) o at octets;
+    priority = numberAt-lt 4 o (at + f .width) octets;
+    holdtime = numberAt-lt 2 o (at + f .width + 6) octets;
+  },
+  rows-fit f o octets (at + rowSize f) n,
+)
+
 -- of a family with addresses, and a layout with no more rows than a table
-module _ (L : Layout) (f : Family) (some : 0 < f .width) (few : L .rowLimit ≤ most) (o : List ℕ) (octets : Octets o) (c : Counts) (checks : Checks L f o c) where
+module _ (L : Layout) (f : Family) (some : 0 < f .width) (few : L .limits .neighbours ≤ most) (o : List ℕ) (octets : Octets o) (c : Counts) (checks : Checks L f o c) where
   abbrev these : Contents
   these = contentsAt L f o c
 
   abbrev again : Contents
   again = contentsOf (contentsAt L f o c .asserts) (contentsAt L f o c .pairs) (tableOf (contentsAt L f o c .rows))
+
+  -- the rows in use of their table are the rows
+  pub contents-again : again ≡ these
+  unfolding contentsOf
+  contents-again = λ i. record { asserts = these .asserts; pairs = these .pairs; rows = used-of (these .rows) i }
 
   header : InOrder L f o c
   header = in-order L f o c (checks .header)
@@ -133,11 +163,15 @@ module _ (L : Layout) (f : Family) (some : 0 < f .width) (few : L .rowLimit ≤ 
   unfolding contentsAt
   few-rows = rw (length-rowsAt f o (rowsFrom L f c) (c .neighbours)) (omega (arith, counts-within L c (header .allowed) .2))
 
+  pub held : Held f (tableOf (these .rows))
+  unfolding contentsAt
+  held = record { full = full-of (these .rows) few-rows; fits = rw (used-of (these .rows)) (rows-fit f o octets (rowsFrom L f c) (c .neighbours)) }
+
   table-valid : valid (tableOf (these .rows)) ≡ true
   unfolding contentsAt
   table-valid = valid-of (these .rows) few-rows (rows-sheet f o (c .neighbours) [] (rowsFrom L f c) (checks .rows) .0)
 
-  counts-again : countsOf f again ≡ c
+  pub counts-again : countsOf f again ≡ c
   unfolding countsOf contentsOf contentsAt
   counts-again =
       let a = asserts-listed .many in
@@ -157,34 +191,49 @@ module _ (L : Layout) (f : Family) (some : 0 < f .width) (few : L .rowLimit ≤ 
   unfolding end
   rows-end = agreed L f o c (header .agree) .1
 
-  pub sheet-again : sheetOctets L f again ≡ o
-  unfolding sheetOctets contentsOf contentsAt
-  sheet-again =
+  pub sheet-again : Octets (L .front) → sheetOctets L f these ≡ o
+  unfolding sheetOctets contentsAt
+  sheet-again start =
       let rows : drop (rowsFrom L f c) o ≡ each (rowOctets f) (these .rows) ++ [] =
       rows-from f o octets (c .neighbours) [] (rowsFrom L f c) {p = length o} rows-end (omega arith) (checks .rows) (drop-length o) in
-      rw (counts-again, used-of (these .rows))
-      (sym (header-from L f o c header octets
+      rw (ap (countsOf f) (sym contents-again) ∙ counts-again)
+      (sym (header-from L f o c header start octets
       (part-from o (assertsIn f .size * c .asserts) (headerSize L) (pairsFrom L f c) pairs-start
       (part-from o (pairsIn f .size * c .pairs) (pairsFrom L f c) (rowsFrom L f c) rows-start
       (rw append-nil at rows)))))
 
-  pub writes-again : (room : ℕ) → length o ≤ room → asked L f (these .asserts) (these .pairs) (tableOf (these .rows)) room ≡ gives o
-  unfolding asked atZero refuseIf Outcome._>>_
-  writes-again room h =
-      let a = asserts-listed in
-      let p = pairs-listed in
-      rw (a .isWhole, p .isWhole, counts-again, header .allowed, table-valid, sheet-again, le-ltb room (length o) h, a .fine, p .fine)
+  -- written in a layout that allows the counts
+  module _ (M : Layout) (allowed : countsAllowed M c ≡ true) where
+    pub accepted-again : Accepted M f (these .asserts) (these .pairs) (tableOf (these .rows))
+    accepted-again = record {
+      asserts = asserts-listed .isWhole;
+      pairs = pairs-listed .isWhole;
+      counts = rw counts-again allowed;
+      table = table-valid;
+      assertsFine = asserts-listed .fine;
+      pairsFine = pairs-listed .fine;
+    }
 
-  pub short-again : (room : ℕ) → room < length o → asked L f (these .asserts) (these .pairs) (tableOf (these .rows)) room ≡ refuses 8 0
-  unfolding asked atZero refuseIf Outcome._>>_
-  short-again room h =
-      rw (asserts-listed .isWhole, pairs-listed .isWhole, counts-again, header .allowed, table-valid, sheet-again, lt-ltb room (length o) h)
+    pub writes-again : (room : ℕ) → length (sheetOctets M f these) ≤ room
+        → asked M f (these .asserts) (these .pairs) (tableOf (these .rows)) room ≡ gives (sheetOctets M f these)
+    unfolding asked atZero refuseIf Outcome._>>_
+    writes-again room h =
+        let a = asserts-listed in
+        let p = pairs-listed in
+        rw (a .isWhole, p .isWhole, counts-again, allowed, table-valid, contents-again, le-ltb room (length (sheetOctets M f these)) h, a .fine, p .fine)
+
+    pub short-again : (room : ℕ) → room < length (sheetOctets M f these)
+        → asked M f (these .asserts) (these .pairs) (tableOf (these .rows)) room ≡ refuses 8 0
+    unfolding asked atZero refuseIf Outcome._>>_
+    short-again room h =
+        rw (asserts-listed .isWhole, pairs-listed .isWhole, counts-again, allowed, table-valid, contents-again, lt-ltb room (length (sheetOctets M f these)) h)
 
 -- ---- for code: the parts of a sheet that passes the check lie in it
 
-pub sizes : (o : List ℕ) (c : Counts) → checking base ipv4 o ≡ gives c
-    → (c .neighbours ≤ most) × (12 + 16 * c .asserts + 8 * c .pairs + 12 * c .neighbours ≡ length o) × (countsAllowed base c ≡ true)
+pub sizes : (o : List ℕ) (c : Counts) → checkSheet ipv4 o ≡ gives c
+    → (c .neighbours ≤ most) × (headerSize (layoutOf (formOf o)) + 16 * c .asserts + 8 * c .pairs + 12 * c .neighbours ≡ length o) × (countsAllowed (layoutOf (formOf o)) c ≡ true)
 unfolding end rowsFrom pairsFrom
 sizes o c e =
-    let h = in-order base ipv4 o c (checked base ipv4 o c e .header) in
-    (counts-within base c (h .allowed) .2, sym (agreed base ipv4 o c (h .agree) .1), h .allowed)
+    let L : Layout = layoutOf (formOf o) in
+    let h = in-order L ipv4 o c (checked L ipv4 o c e .header) in
+    (few-entries (formOf o) c (h .allowed) .2, sym (agreed L ipv4 o c (h .agree) .1), h .allowed)

@@ -39,14 +39,14 @@ use Rattle.neighbours.specs.Rows.{most, used, valid}
 use Rattle.neighbours.specs.declared.Table.{Table}
 use Rattle.neighbours.proofs.Rows.{used-long}
 use Rattle.neighbours.proofs.Tables.{and-true, valid-over, valid-parts}
-use Rattle.sections.specs.Layout.{Layout, base, assertsIn, pairsIn, rowSize, pairsFrom, rowsFrom, end, headerOctets}
+use Rattle.sections.specs.Layout.{Layout, large, assertsIn, pairsIn, rowSize, pairsFrom, rowsFrom, end, headerOctets}
 use Rattle.sections.specs.Contents.{rowOctets, countsOf, sheetOctets}
 use Rattle.sections.specs.Checking.{countsAllowed}
 use Rattle.sections.specs.Sections.{placesOf}
 use Rattle.sections.specs.declared.Counts.{Counts}
 use Rattle.sections.specs.declared.layout.Places.{Places}
 use Rattle.sections.proofs.Header.{end-place}
-use Rattle.sheet.specs.Calls.{contentsOf, counted, atZero, asked, writing}
+use Rattle.sheet.specs.Calls.{contentsOf, counted, atZero, asked, writing, writeSheet}
 use Rattle.sheet.proofs.Rows.{length-rows}
 use Rattle.sheet.proofs.Written.{accepted, asked-is, length-header}
 
@@ -84,29 +84,29 @@ with-rows a p n = record { asserts = a; pairs = p; neighbours = n }
 
 -- the rows in use are as many as the table says, or it is refused
 rows-same : (t : Table) → length (t .rows) ≡ most → (a p : ℕ) (b : Bool) → leb (t .count) most ≡ b
-    → (countsAllowed base (with-rows a p (t .count)) && valid t) ≡ (countsAllowed base (with-rows a p (length (used t))) && valid t)
+    → (countsAllowed large (with-rows a p (t .count)) && valid t) ≡ (countsAllowed large (with-rows a p (length (used t))) && valid t)
 rows-same t full a p true e =
     let many : length (used t) ≡ t .count = used-long (t .rows) (t .count) (omega (arith, full, leb-true (t .count) most e)) in
     rw many
 rows-same t full a p false e =
-    either (countsAllowed base (with-rows a p (t .count))) (countsAllowed base (with-rows a p (length (used t)))) (valid-over t (leb-false (t .count) most e))
+    either (countsAllowed large (with-rows a p (t .count))) (countsAllowed large (with-rows a p (length (used t)))) (valid-over t (leb-false (t .count) most e))
 
 -- the counts as code has them, and the table
 module _ (f : Family) (ea ep : List ℕ) (t : Table) (full : length (t .rows) ≡ most) {c : Counts} (counts : c ≡ counted f ea ep (t .count)) where
-  storable-same : (countsAllowed base (counted f ea ep (t .count)) && valid t) ≡ (countsAllowed base (countsOf f (contentsOf ea ep t)) && valid t)
+  storable-same : (countsAllowed large (counted f ea ep (t .count)) && valid t) ≡ (countsAllowed large (countsOf f (contentsOf ea ep t)) && valid t)
   unfolding counted countsOf contentsOf
   storable-same = rows-same t full (count (assertsIn f) ea) (count (pairsIn f) ep) (leb (t .count) most) refl
 
-  pub storable-is : {r : Bool} → r ≡ (countsAllowed base c && valid t) → r ≡ (countsAllowed base (countsOf f (contentsOf ea ep t)) && valid t)
-  storable-is e = e ∙ (ap (λ x. countsAllowed base x && valid t) counts ∙ storable-same)
+  pub storable-is : {r : Bool} → r ≡ (countsAllowed large c && valid t) → r ≡ (countsAllowed large (countsOf f (contentsOf ea ep t)) && valid t)
+  storable-is e = e ∙ (ap (λ x. countsAllowed large x && valid t) counts ∙ storable-same)
 
   -- the length that is due is where the last section ends
-  pub due-long : {p : Places} → (whole (assertsIn f) ea && whole (pairsIn f) ep) ≡ true → (countsAllowed base c && valid t) ≡ true → p ≡ placesOf base f c
-      → length (sheetOctets base f (contentsOf ea ep t)) ≡ p .end
+  pub due-long : {p : Places} → (whole (assertsIn f) ea && whole (pairsIn f) ep) ≡ true → (countsAllowed large c && valid t) ≡ true → p ≡ placesOf large f c
+      → length (sheetOctets large f (contentsOf ea ep t)) ≡ p .end
   due-long w s e =
-      let ok = and-true (countsAllowed base c) (valid t) s in
+      let ok = and-true (countsAllowed large c) (valid t) s in
       let many : length (used t) ≡ t .count = used-long (t .rows) (t .count) (omega (arith, full, valid-parts t (ok .1) .within)) in
-      length-sheet base f ea ep t w many ∙ sym (end-place base f c (ok .0) e ∙ ap (end base f) counts)
+      length-sheet large f ea ep t w many ∙ sym (end-place large f c (ok .0) e ∙ ap (end large f) counts)
 
 -- ---- 7
 
@@ -130,18 +130,18 @@ seven-fine b p q = p ∙ ap (λ c. cond c (gives tt) (refuses 7 0)) (not-false b
 
 module _ (f : Family) (ea ep : List ℕ) (t : Table) (room : ℕ) where
   abbrev Due : Outcome ℕ
-  Due = lengthOf (asked base f ea ep t room)
+  Due = lengthOf (asked large f ea ep t room)
 
   pub due-10 : (whole (assertsIn f) ea && whole (pairsIn f) ep) ≡ false → Due ≡ refuses 10 0
   unfolding asked lengthOf refuseIf Outcome._>>_
   due-10 e = rw e
 
   module _ (w : (whole (assertsIn f) ea && whole (pairsIn f) ep) ≡ true) where
-    pub due-14 : (countsAllowed base (countsOf f (contentsOf ea ep t)) && valid t) ≡ false → Due ≡ refuses 14 0
+    pub due-14 : (countsAllowed large (countsOf f (contentsOf ea ep t)) && valid t) ≡ false → Due ≡ refuses 14 0
     unfolding asked lengthOf refuseIf Outcome._>>_
     due-14 e = rw (w, e)
 
-    module _ (s : (countsAllowed base (countsOf f (contentsOf ea ep t)) && valid t) ≡ true) {n : ℕ} (long : length (sheetOctets base f (contentsOf ea ep t)) ≡ n) where
+    module _ (s : (countsAllowed large (countsOf f (contentsOf ea ep t)) && valid t) ≡ true) {n : ℕ} (long : length (sheetOctets large f (contentsOf ea ep t)) ≡ n) where
       pub due-8 : room < n → Due ≡ refuses 8 0
       unfolding asked lengthOf refuseIf Outcome._>>_
       due-8 h = rw (w, s, long, lt-ltb room n h)
@@ -160,33 +160,33 @@ module _ (f : Family) (ea ep : List ℕ) (t : Table) (room : ℕ) where
           unfolding asked lengthOf refuseIf Outcome._>>_
           due-fine e = rw (w, s, long, le-ltb room n enough, fine, e) (ap gives long)
 
-module _ (ea ep : List ℕ) (t : Table) (d : List ℕ) (x : Writing) (said : lengthBy x ≡ lengthOf (asked base ipv4 ea ep t (length d))) where
+module _ (ea ep : List ℕ) (t : Table) (d : List ℕ) (x : Writing) (said : lengthBy x ≡ lengthOf (asked large ipv4 ea ep t (length d))) where
   -- what the answer says
-  pub due-gives : {n : ℕ} → x ≡ Wrote n → asked base ipv4 ea ep t (length d) ≡ gives (sheetOctets base ipv4 (contentsOf ea ep t))
+  pub due-gives : {n : ℕ} → x ≡ Wrote n → asked large ipv4 ea ep t (length d) ≡ gives (sheetOctets large ipv4 (contentsOf ea ep t))
   unfolding lengthBy lengthOf
-  due-gives {n} q = go (asked base ipv4 ea ep t (length d)) refl (sym said ∙ ap lengthBy q)
+  due-gives {n} q = go (asked large ipv4 ea ep t (length d)) refl (sym said ∙ ap lengthBy q)
     where
-      go : (a : Outcome (List ℕ)) → asked base ipv4 ea ep t (length d) ≡ a → lengthOf a ≡ gives n
-          → asked base ipv4 ea ep t (length d) ≡ gives (sheetOctets base ipv4 (contentsOf ea ep t))
-      go (gives o) e g = asked-is base ipv4 ea ep t (length d) o e .0
+      go : (a : Outcome (List ℕ)) → asked large ipv4 ea ep t (length d) ≡ a → lengthOf a ≡ gives n
+          → asked large ipv4 ea ep t (length d) ≡ gives (sheetOctets large ipv4 (contentsOf ea ep t))
+      go (gives o) e g = asked-is large ipv4 ea ep t (length d) o e .0
       go (refuses m p) e g = absurd (no-refusal g)
 
-  pub writing-answer : lengthBy x ≡ writing base ipv4 ea ep t d .answer
+  pub writing-answer : lengthBy x ≡ writing large ipv4 ea ep t d .answer
   unfolding writing intoBuffer lengthOf
-  writing-answer = said ∙ go (asked base ipv4 ea ep t (length d))
+  writing-answer = said ∙ go (asked large ipv4 ea ep t (length d))
     where
       go : (a : Outcome (List ℕ)) → lengthOf a ≡ intoBuffer d a .answer
       go (gives o) = refl
       go (refuses m p) = refl
 
   pub writing-buffer : {n : ℕ} {d′ : List ℕ} → x ≡ Wrote n
-      → d′ ≡ put d 0 (sheetOctets base ipv4 (contentsOf ea ep t)) → d′ ≡ writing base ipv4 ea ep t d .buffer
+      → d′ ≡ put d 0 (sheetOctets large ipv4 (contentsOf ea ep t)) → d′ ≡ writing large ipv4 ea ep t d .buffer
   unfolding writing intoBuffer
   writing-buffer q p = p ∙ rw (due-gives q)
 
-  pub writing-nothing : {r : Refusal} → x ≡ Refused r → d ≡ writing base ipv4 ea ep t d .buffer
+  pub writing-nothing : {r : Refusal} → x ≡ Refused r → d ≡ writing large ipv4 ea ep t d .buffer
   unfolding writing intoBuffer lengthBy lengthOf
-  writing-nothing {r} q = go (asked base ipv4 ea ep t (length d)) (sym said ∙ ap lengthBy q)
+  writing-nothing {r} q = go (asked large ipv4 ea ep t (length d)) (sym said ∙ ap lengthBy q)
     where
       go : (a : Outcome (List ℕ)) → lengthOf a ≡ refuses (r .number) (r .place) → d ≡ intoBuffer d a .buffer
       go (gives o) g = absurd (no-refusal (sym g))
@@ -197,17 +197,17 @@ module _ (ea ep : List ℕ) (t : Table) (d : List ℕ) (x : Writing) (said : len
 -- what filling a buffer asks, with the counts as code has them
 pub record Filling (ea ep : List ℕ) (t : Table) (room : ℕ) : Type 0 where
   pub within : t .count ≤ most
-  pub fits : 12 + length ea + length ep + 12 * t .count ≤ room
+  pub fits : 28 + length ea + length ep + 12 * t .count ≤ room
   pub counts : counted ipv4 ea ep (t .count) ≡ countsOf ipv4 (contentsOf ea ep t)
-  pub allowed : countsAllowed base (counted ipv4 ea ep (t .count)) ≡ true
-  pub pairs : pairsFrom base ipv4 (counted ipv4 ea ep (t .count)) ≡ 12 + length ea
-  pub rows : rowsFrom base ipv4 (counted ipv4 ea ep (t .count)) ≡ 12 + length ea + length ep
+  pub allowed : countsAllowed large (counted ipv4 ea ep (t .count)) ≡ true
+  pub pairs : pairsFrom large ipv4 (counted ipv4 ea ep (t .count)) ≡ 28 + length ea
+  pub rows : rowsFrom large ipv4 (counted ipv4 ea ep (t .count)) ≡ 28 + length ea + length ep
 
-pub filling : (ea ep : List ℕ) (t : Table) (room : ℕ) (o : List ℕ) → length (t .rows) ≡ most → asked base ipv4 ea ep t room ≡ gives o
+pub filling : (ea ep : List ℕ) (t : Table) (room : ℕ) (o : List ℕ) → length (t .rows) ≡ most → asked large ipv4 ea ep t room ≡ gives o
     → Filling ea ep t room
 unfolding counted countsOf contentsOf pairsFrom rowsFrom end
 filling ea ep t room o full e =
-    let was = accepted base ipv4 ea ep t room o e in
+    let was = accepted large ipv4 ea ep t room o e in
     let few = valid-parts t (was .table) .within in
     let many : length (used t) ≡ t .count = used-long (t .rows) (t .count) (omega (arith, full, few)) in
     let same : counted ipv4 ea ep (t .count) ≡ countsOf ipv4 (contentsOf ea ep t) =
@@ -215,9 +215,9 @@ filling ea ep t room o full e =
     let asserts : 16 * count (assertsIn ipv4) ea ≡ length ea = whole-long (assertsIn ipv4) ea (was .asserts) in
     let pairs : 8 * count (pairsIn ipv4) ep ≡ length ep = whole-long (pairsIn ipv4) ep (was .pairs) in
     let both : (whole (assertsIn ipv4) ea && whole (pairsIn ipv4) ep) ≡ true = rw (was .asserts, was .pairs) refl in
-    let long : length (sheetOctets base ipv4 (contentsOf ea ep t)) ≡ 12 + 16 * count (assertsIn ipv4) ea + 8 * count (pairsIn ipv4) ep + 12 * t .count =
-    length-sheet base ipv4 ea ep t both many in
-    let enough = asked-is base ipv4 ea ep t room o e .1 in
+    let long : length (sheetOctets large ipv4 (contentsOf ea ep t)) ≡ 28 + 16 * count (assertsIn ipv4) ea + 8 * count (pairsIn ipv4) ep + 12 * t .count =
+    length-sheet large ipv4 ea ep t both many in
+    let enough = asked-is large ipv4 ea ep t room o e .1 in
     record {
       within = few;
       fits = omega (arith, asserts, pairs, long, enough);
@@ -228,14 +228,14 @@ filling ea ep t room o full e =
     }
 
 -- the four parts, each past the one before
-pub filled : (ea ep : List ℕ) (t : Table) (d : List ℕ) {c : Counts} {d₁ d₂ d₃ d₄ : List ℕ} {p q : ℕ} → c ≡ countsOf ipv4 (contentsOf ea ep t)
-    → d₁ ≡ put d 0 (headerOctets base ipv4 c) → d₂ ≡ put d₁ 12 (take (length ea) (drop 0 ea))
+pub filled : (ea ep : List ℕ) (t : Table) (d : List ℕ) {c : Counts} {d₁ d₂ d₃ d₄ : List ℕ} {s p q : ℕ} → c ≡ countsOf ipv4 (contentsOf ea ep t)
+    → d₁ ≡ put d 0 (headerOctets large ipv4 c) → d₂ ≡ put d₁ s (take (length ea) (drop 0 ea))
     → d₃ ≡ put d₂ p (take (length ep) (drop 0 ep)) → d₄ ≡ put d₃ q (each (rowOctets ipv4) (used t))
-    → p ≡ 12 + length ea → q ≡ p + length ep → d₄ ≡ put d 0 (sheetOctets base ipv4 (contentsOf ea ep t))
+    → s ≡ 28 → p ≡ 28 + length ea → q ≡ p + length ep → d₄ ≡ put d 0 (sheetOctets large ipv4 (contentsOf ea ep t))
 unfolding sheetOctets contentsOf
-filled ea ep t d {c} {d₁} {d₂} {d₃} {d₄} {p} {q} same h a b r ep′ eq′ =
+filled ea ep t d {c} {d₁} {d₂} {d₃} {d₄} {s} {p} {q} same h a b r es ep′ eq′ =
     let rows : List ℕ = each (rowOctets ipv4) (used t) in
-    let head : length (headerOctets base ipv4 c) ≡ 12 = length-header base ipv4 c in
+    let head : length (headerOctets large ipv4 c) ≡ 28 = length-header large ipv4 c in
     let pairs : d₄ ≡ put d₂ p (ep ++ rows) = put-next d₂ p ep rows (b ∙ ap (put d₂ p) (take-length ep)) r (omega arith) in
-    let lists : d₄ ≡ put d₁ 12 (ea ++ (ep ++ rows)) = put-next d₁ 12 ea (ep ++ rows) (a ∙ ap (put d₁ 12) (take-length ea)) pairs (omega arith) in
-    rw (← same) (put-next d 0 (headerOctets base ipv4 c) (ea ++ (ep ++ rows)) h lists (omega (arith, head)))
+    let lists : d₄ ≡ put d₁ s (ea ++ (ep ++ rows)) = put-next d₁ s ea (ep ++ rows) (a ∙ ap (put d₁ s) (take-length ea)) pairs (omega arith) in
+    rw (← same) (put-next d 0 (headerOctets large ipv4 c) (ea ++ (ep ++ rows)) h lists (omega (arith, head)))

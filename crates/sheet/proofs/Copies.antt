@@ -1,27 +1,29 @@
 -- Octets copied and numbers stored, as the code does it.
 --     Copying                           where a loop that copies stands: copying-start, copying-there, copying-next, copying-end
 --     written-next                      a number written where it fits, and what is written past it
+--     header-written                    a header, by its three pairs
 --     Rowing                            where a loop that writes rows stands: rowing-start, rowing-there, rowing-next, rowing-end
 -- Assumes nothing.
 use Prim.Native.Nat.{ℕ, suc, _+_, _*_, _≤_, _<_}
 use native.Mathlib.Nat.{mul-suc, mul-le-mul-left}
 use native.Mathlib.Omega.{arith}
 use mathlib.Core.Path.{_≡_, refl, sym, ap, _∙_}
-use mathlib.Core.List.{List, [], _∷_, _++_, append-nil}
-use lib.ListN.{length, getD, set, take, drop, length-drop}
+use mathlib.Core.List.{List, [], _∷_, _++_, append-assoc, append-nil}
+use lib.ListN.{length, getD, set, take, drop, length-append, length-drop}
 use lib.Seq.{take-add, take-all, take-suc, drop-drop, drop-cons, getD-take, length-take-le}
 use Rattle.octets.specs.Octets.{put, be}
 use Rattle.octets.specs.Field.{fitted}
-use Rattle.octets.proofs.Laws.{stores-put, put-nil, put-next, put-number-next, length-put, number-fits, length-fitted}
-use Rattle.format.specs.Family.{Family}
+use Rattle.octets.proofs.Laws.{length-be, stores-put, put-nil, put-next, put-number-next, length-put, number-fits, length-fitted}
+use Rattle.format.specs.Family.{Family, ipv4}
 use Rattle.format.specs.Record.{each}
 use Rattle.format.proofs.Lengths.{each-append}
 use Rattle.neighbours.specs.Rows.{used}
 use Rattle.neighbours.specs.declared.Neighbour.{Neighbour}
 use Rattle.neighbours.specs.declared.Table.{Table}
 use Rattle.neighbours.proofs.Rows.{used-long}
-use Rattle.sections.specs.Layout.{rowSize}
+use Rattle.sections.specs.Layout.{large, rowSize, headerSize, pairsFrom, rowsFrom, headerOctets}
 use Rattle.sections.specs.Contents.{rowOctets}
+use Rattle.sections.specs.declared.Counts.{Counts}
 use Rattle.sheet.proofs.Rows.{length-row, length-rows}
 
 -- ---- octets copied
@@ -70,6 +72,30 @@ pub written-next : (k : ℕ) (d : List ℕ) (at n : ℕ) (f : List ℕ) {d′ d�
 written-next k d at n f {d′} m p h r q =
     let same : length d′ ≡ length d = ap length p ∙ length-fitted d at (be k n) in
     put-number-next k d at n f (p ∙ number-fits k d at n (omega arith)) (q (omega arith)) r
+
+-- ---- the header
+
+-- what it begins with, as one number
+front-is : be 4 0xFFFF_0002 ≡ large .front
+unfolding be
+front-is = refl
+
+length-two : (x y : ℕ) → length (be 4 x ++ be 4 y) ≡ 8
+length-two x y = simp (length-append, length-be) (omega arith)
+
+pub header-written : (c : Counts) (d : List ℕ) {d₁ d₂ d₃ d₄ : List ℕ} {a p r : ℕ} → d₁ ≡ put d 0 (be 4 0xFFFF_0002)
+    → d₂ ≡ put d₁ 4 (be 4 (c .asserts) ++ be 4 a) → d₃ ≡ put d₂ 12 (be 4 (c .pairs) ++ be 4 p) → d₄ ≡ put d₃ 20 (be 4 (c .neighbours) ++ be 4 r)
+    → a ≡ headerSize large → p ≡ pairsFrom large ipv4 c → r ≡ rowsFrom large ipv4 c → d₄ ≡ put d 0 (headerOctets large ipv4 c)
+unfolding headerOctets
+header-written c d {d₁} {d₂} {d₃} {d₄} {a} {p} {r} e e₁ e₂ e₃ ea ep er =
+    let asserts : List ℕ = be 4 (c .asserts) ++ be 4 a in
+    let pairs : List ℕ = be 4 (c .pairs) ++ be 4 p in
+    let rows : List ℕ = be 4 (c .neighbours) ++ be 4 r in
+    let last : d₄ ≡ put d₂ 12 (pairs ++ rows) = put-next d₂ 12 pairs rows e₂ e₃ (omega (arith, length-two (c .pairs) p)) in
+    let most : d₄ ≡ put d₁ 4 (asserts ++ (pairs ++ rows)) = put-next d₁ 4 asserts (pairs ++ rows) e₁ last (omega (arith, length-two (c .asserts) a)) in
+    let all : d₄ ≡ put d 0 (be 4 0xFFFF_0002 ++ (asserts ++ (pairs ++ rows))) =
+    put-next d 0 (be 4 0xFFFF_0002) (asserts ++ (pairs ++ rows)) e most (omega (arith, length-be 4 0xFFFF_0002)) in
+    rw (← ea, ← ep, ← er) (all ∙ ap (put d 0) (rw front-is (simp append-assoc)))
 
 -- ---- rows one after another
 

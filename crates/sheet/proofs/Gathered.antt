@@ -20,13 +20,13 @@ use Rattle.neighbours.specs.Rows.{most, noRow, tableOf}
 use Rattle.neighbours.specs.declared.Neighbour.{Neighbour}
 use Rattle.neighbours.specs.declared.Table.{Table}
 use Rattle.neighbours.proofs.Changes.{table-is}
-use Rattle.sections.specs.Layout.{base, rowSize, pairsFrom, rowsFrom}
+use Rattle.sections.specs.Layout.{Layout, layoutOf, formOf, rowSize, headerSize, pairsFrom, rowsFrom}
 use Rattle.sections.specs.Contents.{rowAt, rowsAt, contentsAt}
-use Rattle.sections.specs.Checking.{checking, checkedBy}
+use Rattle.sections.specs.Checking.{checkSheet, checkedBy}
 use Rattle.sections.specs.declared.Counts.{Counts}
 use Rattle.sections.specs.declared.Verdict.{Verdict}
 use Rattle.sections.specs.declared.Verdict.the-variants.{Valid, Refused}
-use Rattle.sheet.specs.Calls.{ReadingCall, roomFor, delivered, reading}
+use Rattle.sheet.specs.Calls.{ReadingCall, roomFor, delivered, reading, readSheet}
 use Rattle.sheet.proofs.Rows.{length-rowsAt}
 use Rattle.sheet.proofs.Again.{sizes}
 
@@ -85,12 +85,12 @@ module _ {f : Family} {o : List ℕ} {at n : ℕ} {t : Table} {i : ℕ} (g : Gat
 
 -- ---- what the check answered
 
-module _ (o : List ℕ) {x : Verdict} (said : checkedBy x ≡ checking base ipv4 o) where
-  pub checked-gives : {c : Counts} → x ≡ Valid c → checking base ipv4 o ≡ gives c
+module _ (o : List ℕ) {x : Verdict} (said : checkedBy x ≡ checkSheet ipv4 o) where
+  pub checked-gives : {c : Counts} → x ≡ Valid c → checkSheet ipv4 o ≡ gives c
   unfolding checkedBy
   checked-gives q = sym said ∙ ap checkedBy q
 
-  pub checked-refuses : {r : Refusal} → x ≡ Refused r → checking base ipv4 o ≡ refuses (r .number) (r .place)
+  pub checked-refuses : {r : Refusal} → x ≡ Refused r → checkSheet ipv4 o ≡ refuses (r .number) (r .place)
   unfolding checkedBy
   checked-refuses q = sym said ∙ ap checkedBy q
 
@@ -100,42 +100,45 @@ abbrev pub nothingRead : ℕ → ℕ → List ℕ → List ℕ → ReadingCall
 nothingRead n p da dp = record { answer = refuses n p; asserts = da; pairs = dp; table = tableOf [] }
 
 module _ (o da dp : List ℕ) where
-  pub read-bad : {n p : ℕ} → checking base ipv4 o ≡ refuses n p → reading base ipv4 o da dp ≡ nothingRead n p da dp
+  abbrev layout : Layout
+  layout = layoutOf (formOf o)
+
+  pub read-bad : {n p : ℕ} → checkSheet ipv4 o ≡ refuses n p → readSheet ipv4 o da dp ≡ nothingRead n p da dp
   unfolding reading delivered Outcome._>>=_
   read-bad e = rw e
 
-  module _ (c : Counts) (e : checking base ipv4 o ≡ gives c) where
-    asserts-long : length (contentsAt base ipv4 o c .asserts) ≡ 16 * c .asserts
+  module _ (c : Counts) (e : checkSheet ipv4 o ≡ gives c) where
+    asserts-long : length (contentsAt layout ipv4 o c .asserts) ≡ 16 * c .asserts
     unfolding contentsAt
-    asserts-long = let s = sizes o c e in length-take-le (16 * c .asserts) (drop 12 o) (simp length-drop (omega (arith, s)))
+    asserts-long = let s = sizes o c e in length-take-le (16 * c .asserts) (drop (headerSize layout) o) (simp length-drop (omega (arith, s)))
 
-    pairs-long : length (contentsAt base ipv4 o c .pairs) ≡ 8 * c .pairs
+    pairs-long : length (contentsAt layout ipv4 o c .pairs) ≡ 8 * c .pairs
     unfolding contentsAt pairsFrom
-    pairs-long = let s = sizes o c e in length-take-le (8 * c .pairs) (drop (12 + 16 * c .asserts) o) (simp length-drop (omega (arith, s)))
+    pairs-long = let s = sizes o c e in length-take-le (8 * c .pairs) (drop (headerSize layout + 16 * c .asserts) o) (simp length-drop (omega (arith, s)))
 
-    pub read-short : length da < 16 * c .asserts → reading base ipv4 o da dp ≡ nothingRead 8 0 da dp
+    pub read-short : length da < 16 * c .asserts → readSheet ipv4 o da dp ≡ nothingRead 8 0 da dp
     unfolding reading delivered roomFor refuseIf Outcome._>>=_ Outcome._>>_
     read-short h = rw (e, asserts-long, lt-ltb (length da) (16 * c .asserts) h)
 
-    pub read-short-pairs : 16 * c .asserts ≤ length da → length dp < 8 * c .pairs → reading base ipv4 o da dp ≡ nothingRead 8 0 da dp
+    pub read-short-pairs : 16 * c .asserts ≤ length da → length dp < 8 * c .pairs → readSheet ipv4 o da dp ≡ nothingRead 8 0 da dp
     unfolding reading delivered roomFor refuseIf Outcome._>>=_ Outcome._>>_
     read-short-pairs h g = rw (e, asserts-long, pairs-long, le-ltb (length da) (16 * c .asserts) h, lt-ltb (length dp) (8 * c .pairs) g)
 
     -- the two lists and the table, by the places that code reads at
-    module _ {p q : ℕ} (pairs : p ≡ pairsFrom base ipv4 c) (rows : q ≡ rowsFrom base ipv4 c) where
+    module _ {h p q : ℕ} (header : h ≡ headerSize layout) (pairs : p ≡ pairsFrom layout ipv4 c) (rows : q ≡ rowsFrom layout ipv4 c) where
       abbrev allRead : ReadingCall
       allRead = record {
         answer = gives c;
-        asserts = put da 0 (take (16 * c .asserts) (drop 12 o));
+        asserts = put da 0 (take (16 * c .asserts) (drop h o));
         pairs = put dp 0 (take (8 * c .pairs) (drop p o));
         table = tableOf (rowsAt ipv4 o q (c .neighbours));
       }
 
-      delivered-is : delivered base ipv4 o da dp (gives c) ≡ allRead
+      delivered-is : delivered layout ipv4 o da dp (gives c) ≡ allRead
       unfolding delivered contentsAt
-      delivered-is = rw (pairs, rows) refl
+      delivered-is = rw (header, pairs, rows) refl
 
-      pub read-fine : 16 * c .asserts ≤ length da → 8 * c .pairs ≤ length dp → reading base ipv4 o da dp ≡ allRead
+      pub read-fine : 16 * c .asserts ≤ length da → 8 * c .pairs ≤ length dp → readSheet ipv4 o da dp ≡ allRead
       unfolding reading roomFor refuseIf Outcome._>>=_ Outcome._>>_
-      read-fine h g =
-          rw (e, asserts-long, pairs-long, le-ltb (length da) (16 * c .asserts) h, le-ltb (length dp) (8 * c .pairs) g) delivered-is
+      read-fine k g =
+          rw (e, asserts-long, pairs-long, le-ltb (length da) (16 * c .asserts) k, le-ltb (length dp) (8 * c .pairs) g) delivered-is

@@ -6,3 +6,4 @@ pub mod RoundTrip
 pub mod Copies
 pub mod Asks
 pub mod Gathered
+pub mod Older

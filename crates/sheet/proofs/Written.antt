@@ -17,7 +17,7 @@ use mathlib.Core.Bool.{true, false}
 use mathlib.Core.List.{List, [], _∷_, _++_}
 use borrow.Author.Tests.{not-false, ltb-false, lt-ltb, le-ltb, eq-eqb}
 use lib.ListN.{length, take, drop, length-append}
-use Rattle.octets.specs.Octets.{numberAt, be, put}
+use Rattle.octets.specs.Octets.{numberAt, value, be, put}
 use Rattle.octets.proofs.Laws.{length-be}
 use Rattle.records.specs.Every.{Every}
 use Rattle.format.specs.Outcome
@@ -37,7 +37,7 @@ use Rattle.neighbours.proofs.Tables.{and-true, valid-parts}
 use Rattle.neighbours.proofs.Changes.{valid-table}
 use Rattle.sections.specs.Layout.{Layout, assertsIn, pairsIn, rowSize, headerSize, pairsFrom, rowsFrom, end, headerOctets}
 use Rattle.sections.specs.Contents.{Contents, rowOctets, countsOf, contentsAt, sheetOctets}
-use Rattle.sections.specs.Checking.{fault, countsIn, countsAllowed, offsetsAgree, checkHeader, checkEntries, checkRows, checking}
+use Rattle.sections.specs.Checking.{fault, begins, numberIn, countsIn, countsAllowed, offsetsAgree, checkHeader, checkEntries, checkRows, checking}
 use Rattle.sections.specs.declared.Counts.{Counts}
 use Rattle.sections.proofs.Header.{Offsets}
 use Rattle.sheet.specs.Calls.{contentsOf, atZero, asked, roomFor, delivered, reading}
@@ -105,32 +105,40 @@ module _ (L : Layout) (f : Family) (roomy : Roomy L f) (c : Counts) (ok : counts
   unfolding rowsFrom
   second-below = omega arith
 
+  -- it begins as its layout says
+  front-read : {o : List ℕ} (x : List ℕ) → At o 0 (L .front ++ x) → begins L o ≡ true
+  unfolding begins numberAt
+  front-read x h = eq-eqb _ _ (ap value (at-left (L .front) x h .stands))
+
   -- its numbers are read as they were
   header-read : {o : List ℕ} → At o 0 (headerOctets L f c)
-      → (countsIn L o ≡ c) × Offsets L f o c
-  unfolding headerOctets countsIn
+      → (begins L o ≡ true) × (countsIn L o ≡ c) × Offsets L f o c
+  unfolding headerOctets countsIn numberIn
   header-read {o} h =
       let w : ℕ = L .width in
+      let k : ℕ = length (L .front) in
       let last : rowsFrom L f c < 256 ^ w = roomy .offsets c ok in
-      let h1 = rest-at w _ _ h in
+      let h0 = at-right (L .front) _ h in
+      let h1 = rest-at w _ _ h0 in
       let h2 = rest-at w _ _ h1 in
       let h3 = rest-at w _ _ h2 in
       let h4 = rest-at w _ _ h3 in
       let h5 = rest-at w _ _ h4 in
-      let a : numberAt w o 0 ≡ c .asserts = number-at w _ (at-left (be w (c .asserts)) _ h) refl (roomy .asserts c ok) in
-      let b : numberAt w o w ≡ headerSize L = number-at w _ (at-left (be w (headerSize L)) _ h1) (omega arith) (omega (arith, last, first-below, second-below)) in
-      let d : numberAt w o (2 * w) ≡ c .pairs = number-at w _ (at-left (be w (c .pairs)) _ h2) (omega arith) (roomy .pairs c ok) in
-      let e : numberAt w o (3 * w) ≡ pairsFrom L f c = number-at w _ (at-left (be w (pairsFrom L f c)) _ h3) (omega arith) (omega (arith, last, second-below)) in
-      let g : numberAt w o (4 * w) ≡ c .neighbours = number-at w _ (at-left (be w (c .neighbours)) _ h4) (omega arith) (roomy .neighbours c ok) in
-      let j : numberAt w o (5 * w) ≡ rowsFrom L f c = number-at w _ h5 (omega arith) last in
-      (λ i. record { asserts = a i; pairs = d i; neighbours = g i }, (b, e, j))
+      let a : numberAt w o (k + 0 * w) ≡ c .asserts = number-at w _ (at-left (be w (c .asserts)) _ h0) (omega arith) (roomy .asserts c ok) in
+      let b : numberAt w o (k + 1 * w) ≡ headerSize L = number-at w _ (at-left (be w (headerSize L)) _ h1) (omega arith) (omega (arith, last, first-below, second-below)) in
+      let d : numberAt w o (k + 2 * w) ≡ c .pairs = number-at w _ (at-left (be w (c .pairs)) _ h2) (omega arith) (roomy .pairs c ok) in
+      let e : numberAt w o (k + 3 * w) ≡ pairsFrom L f c = number-at w _ (at-left (be w (pairsFrom L f c)) _ h3) (omega arith) (omega (arith, last, second-below)) in
+      let g : numberAt w o (k + 4 * w) ≡ c .neighbours = number-at w _ (at-left (be w (c .neighbours)) _ h4) (omega arith) (roomy .neighbours c ok) in
+      let j : numberAt w o (k + 5 * w) ≡ rowsFrom L f c = number-at w _ h5 (omega arith) last in
+      (front-read _ h, λ i. record { asserts = a i; pairs = d i; neighbours = g i }, (b, e, j))
 
   pub header-checks : {o : List ℕ} → At o 0 (headerOctets L f c) → length o ≡ end L f c → checkHeader L f o ≡ gives c
   unfolding checkHeader offsetsAgree fault refuseIf _>>_
   header-checks {o} h long =
       let r = header-read h in
       let there : headerSize L ≤ length o = omega (arith, h .fits, length-header L f c) in
-      rw (le-ltb (length o) (headerSize L) there, r .0, ok, eq-eqb _ _ (r .1 .0), eq-eqb _ _ (r .1 .1), eq-eqb _ _ (r .1 .2), eq-eqb _ _ long)
+      let at = r .2 in
+      rw (le-ltb (length o) (headerSize L) there, r .0, r .1, ok, eq-eqb _ _ (at .0), eq-eqb _ _ (at .1), eq-eqb _ _ (at .2), eq-eqb _ _ long)
 
 -- ---- the sheet
 

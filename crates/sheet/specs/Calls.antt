@@ -1,9 +1,10 @@
--- Reading and writing a sheet (01, "The sheet").
---     ReadingCall, delivered, reading      "Reading one gives its two entry lists, copied, and the table; 8 last"
+-- Reading and writing a sheet (01, "The sheet", and E6).
+--     ReadingCall, delivered, reading      "Reading one gives its two entry lists, copied, and the table; 8 last": of a layout
 --     roomFor                              whether lent room is enough for both lists
+--     readSheet                            the call: of the layout that the sheet has
 --     foundBy                              01's number and values for each case of a reading's answer
 --     atZero, contentsOf, counted, asked   what writing refuses: "by 10, 14 .. , 8, 7, at place 0"
---     writing                              the call
+--     writing, writeSheet                  a sheet of a layout, and the call: of E6's alone
 -- Checking is in `sections`. Assumes nothing: these are definitions.
 use Prim.Native.Nat.{ℕ}
 use mathlib.Core.Bool.{not, _&&_, _||_}
@@ -18,7 +19,7 @@ use Rattle.format.specs.Packing.{firstBad}
 use Rattle.format.specs.Writing.{WritingCall, intoBuffer}
 use Rattle.neighbours.specs.Rows.{used, valid, tableOf}
 use Rattle.neighbours.specs.declared.Table.{Table}
-use Rattle.sections.specs.Layout.{Layout, assertsIn, pairsIn}
+use Rattle.sections.specs.Layout.{Layout, large, layoutOf, formOf, assertsIn, pairsIn}
 use Rattle.sections.specs.Contents.{Contents, countsOf, contentsAt, sheetOctets}
 use Rattle.sections.specs.Checking.{countsAllowed, checking}
 use Rattle.sections.specs.declared.Counts.{Counts}
@@ -50,6 +51,10 @@ reading L f o da dp = delivered L f o da dp do
   roomFor (contentsAt L f o c) da dp
   gives c
 
+-- E6: "An old sheet .. is still read with its old limits"
+abbrev pub readSheet : Family → List ℕ → List ℕ → List ℕ → ReadingCall
+readSheet f o da dp = reading (layoutOf (formOf o)) f o da dp
+
 unfoldable pub foundBy : Found → Outcome Counts
 foundBy (Copied c) = gives c
 foundBy (NotFound r) = refuses (r .number) (r .place)
@@ -79,3 +84,7 @@ asked L f ea ep t room = do
 
 unfoldable pub writing : Layout → Family → List ℕ → List ℕ → Table → List ℕ → WritingCall
 writing L f ea ep t d = intoBuffer d (asked L f ea ep t (length d))
+
+-- E6: "it is never written again"
+abbrev pub writeSheet : Family → List ℕ → List ℕ → Table → List ℕ → WritingCall
+writeSheet f ea ep t d = writing large f ea ep t d

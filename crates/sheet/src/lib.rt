@@ -1,4 +1,5 @@
-// The stored sheet: reading one into two lent entry buffers and a table, and writing one. Checking is in `sections`.
+// The stored sheet: reading one, of either form, into two lent entry buffers and a table, and writing one in the newest form. Checking is in
+// `sections`.
 //
 // copy.rt        octets of one slice copied into another
 // put.rt         a header and rows, written into a lent buffer

@@ -1,37 +1,44 @@
-// The header of a sheet and its rows, written into a lent buffer. Each function knows that its octets fit.
+// The header of a sheet and its rows, written into a lent buffer, in the form that is written. Each function knows that its octets fit.
 use neighbours::Neighbour;
 use neighbours::Table;
 use octets::write8;
 use octets::write16;
 use octets::write32;
 use sections::Counts;
-use sections::HEADER;
+use sections::Form;
 use sections::ROW;
 use sections::places_of;
 ghost use mathlib.Core.Path.{_≡_};
 ghost use mathlib.Core.Bool.{true, cond};
 ghost use Prim.Native.Nat.{_+_, _*_, _≤_};
 ghost use lib.ListN.{length};
-ghost use Rattle.octets.specs.Octets.{put};
+ghost use Rattle.octets.specs.Octets.{be, put, _&_};
 ghost use Rattle.format.specs.Family.{ipv4};
 ghost use Rattle.format.specs.Record.{each};
 ghost use Rattle.neighbours.specs.Rows.{most, used};
-ghost use Rattle.sections.specs.Layout.{base, headerOctets};
+ghost use Rattle.sections.specs.Layout.{large, headerOctets};
 ghost use Rattle.sections.specs.Contents.{rowOctets};
 ghost use Rattle.sections.specs.Checking.{countsAllowed};
 
-// Three counts, each with the offset of its section.
-pub(crate) fn put_header(d: &mut [u8], c: Counts)
-    requires { ⌜ (12 ≤ length (now d)) × (countsAllowed base c ≡ true) ⌝ }
-    ensures { λ _. ⌜ now (d .exit) ≡ put (now (d .entry)) 0 (headerOctets base ipv4 c) ⌝ }
+// A count and the offset of its section.
+fn put_pair(d: &mut [u8], at: usize, count: u32, offset: u32)
+    requires { ⌜ at + 8 ≤ length (now d) ⌝ }
+    ensures { λ _. ⌜ now (d .exit) ≡ put (now (d .entry)) at (be 4 count & be 4 offset) ⌝ }
 {
-    let s = places_of(false, c);
-    write16(d, 0, c.asserts as u16);
-    write16(d, 2, HEADER as u16);
-    write16(d, 4, c.pairs as u16);
-    write16(d, 6, s.pairs as u16);
-    write16(d, 8, c.neighbours as u16);
-    write16(d, 10, s.rows as u16);
+    write32(d, at, count);
+    write32(d, at + 4, offset);
+}
+
+// 0xFFFF and 2, then three counts, each with the offset of its section.
+pub(crate) fn put_header(d: &mut [u8], c: Counts)
+    requires { ⌜ (28 ≤ length (now d)) × (countsAllowed large c ≡ true) ⌝ }
+    ensures { λ _. ⌜ now (d .exit) ≡ put (now (d .entry)) 0 (headerOctets large ipv4 c) ⌝ }
+{
+    let s = places_of(Form::Large, false, c);
+    write32(d, 0, 0xffff_0002);
+    put_pair(d, 4, c.asserts as u32, s.asserts as u32);
+    put_pair(d, 12, c.pairs as u32, s.pairs as u32);
+    put_pair(d, 20, c.neighbours as u32, s.rows as u32);
 }
 
 // 1: has a priority; 2: packs.

@@ -1,4 +1,4 @@
-// Reading a sheet: it is checked, then its two lists are copied and its rows gathered. 8 is the last refusal.
+// Reading a sheet of either form: it is checked, then its two lists are copied and its rows gathered. 8 is the last refusal.
 use crate::Found;
 use crate::SheetRead;
 use crate::copy::copy;
@@ -6,11 +6,11 @@ use format::Refusal;
 use neighbours::Table;
 use sections::ASSERT;
 use sections::Counts;
-use sections::HEADER;
 use sections::PAIR;
 use sections::ROW;
 use sections::Verdict;
 use sections::check_sheet;
+use sections::form_of;
 use sections::places_of;
 use sections::row_at;
 ghost use mathlib.Core.Path.{_≡_};
@@ -20,10 +20,9 @@ ghost use lib.ListN.{length};
 ghost use Rattle.format.specs.Outcome.{gives, refuses};
 ghost use Rattle.format.specs.Family.{ipv4};
 ghost use Rattle.neighbours.specs.Rows.{most, tableOf};
-ghost use Rattle.sections.specs.Layout.{base};
 ghost use Rattle.sections.specs.Contents.{rowsAt};
-ghost use Rattle.sections.specs.Checking.{checking};
-ghost use Rattle.sheet.specs.Calls.{reading, foundBy};
+ghost use Rattle.sections.specs.Checking.{checkSheet};
+ghost use Rattle.sheet.specs.Calls.{readSheet, foundBy};
 
 // A refusal, with a table without neighbours.
 fn refused(why: Refusal) -> SheetRead
@@ -54,13 +53,13 @@ fn gather(o: &[u8], at: usize, n: usize) -> Table
 
 // The lists and the table of a sheet that passed the check.
 fn deliver(o: &[u8], c: Counts, asserts: &mut [u8], pairs: &mut [u8]) -> SheetRead
-    requires { ⌜ checking base ipv4 (now o) ≡ gives c ⌝ }
-    ensures found { λ r. ⌜ foundBy (r .found) ≡ reading base ipv4 (now (o .entry)) (now (asserts .entry)) (now (pairs .entry)) .answer ⌝ }
-    ensures table { λ r. ⌜ r .table ≡ reading base ipv4 (now (o .entry)) (now (asserts .entry)) (now (pairs .entry)) .table ⌝ }
-    ensures asserts { λ _. ⌜ now (asserts .exit) ≡ reading base ipv4 (now (o .entry)) (now (asserts .entry)) (now (pairs .entry)) .asserts ⌝ }
-    ensures pairs { λ _. ⌜ now (pairs .exit) ≡ reading base ipv4 (now (o .entry)) (now (asserts .entry)) (now (pairs .entry)) .pairs ⌝ }
+    requires { ⌜ checkSheet ipv4 (now o) ≡ gives c ⌝ }
+    ensures found { λ r. ⌜ foundBy (r .found) ≡ readSheet ipv4 (now (o .entry)) (now (asserts .entry)) (now (pairs .entry)) .answer ⌝ }
+    ensures table { λ r. ⌜ r .table ≡ readSheet ipv4 (now (o .entry)) (now (asserts .entry)) (now (pairs .entry)) .table ⌝ }
+    ensures asserts { λ _. ⌜ now (asserts .exit) ≡ readSheet ipv4 (now (o .entry)) (now (asserts .entry)) (now (pairs .entry)) .asserts ⌝ }
+    ensures pairs { λ _. ⌜ now (pairs .exit) ≡ readSheet ipv4 (now (o .entry)) (now (asserts .entry)) (now (pairs .entry)) .pairs ⌝ }
 {
-    let s = places_of(false, c);
+    let s = places_of(form_of(o), false, c);
     let n = ASSERT * c.asserts;
     let m = PAIR * c.pairs;
     if asserts.len() < n {
@@ -75,7 +74,7 @@ fn deliver(o: &[u8], c: Counts, asserts: &mut [u8], pairs: &mut [u8]) -> SheetRe
             place: 0,
         });
     }
-    copy(o, HEADER, n, asserts, 0);
+    copy(o, s.asserts, n, asserts, 0);
     copy(o, s.pairs, m, pairs, 0);
     SheetRead {
         table: gather(o, s.rows, c.neighbours),
@@ -85,10 +84,10 @@ fn deliver(o: &[u8], c: Counts, asserts: &mut [u8], pairs: &mut [u8]) -> SheetRe
 
 // Reads a sheet: its two entry lists into lent buffers, and its table.
 pub fn read_sheet(o: &[u8], asserts: &mut [u8], pairs: &mut [u8]) -> SheetRead
-    ensures found { λ r. ⌜ foundBy (r .found) ≡ reading base ipv4 (now (o .entry)) (now (asserts .entry)) (now (pairs .entry)) .answer ⌝ }
-    ensures table { λ r. ⌜ r .table ≡ reading base ipv4 (now (o .entry)) (now (asserts .entry)) (now (pairs .entry)) .table ⌝ }
-    ensures asserts { λ _. ⌜ now (asserts .exit) ≡ reading base ipv4 (now (o .entry)) (now (asserts .entry)) (now (pairs .entry)) .asserts ⌝ }
-    ensures pairs { λ _. ⌜ now (pairs .exit) ≡ reading base ipv4 (now (o .entry)) (now (asserts .entry)) (now (pairs .entry)) .pairs ⌝ }
+    ensures found { λ r. ⌜ foundBy (r .found) ≡ readSheet ipv4 (now (o .entry)) (now (asserts .entry)) (now (pairs .entry)) .answer ⌝ }
+    ensures table { λ r. ⌜ r .table ≡ readSheet ipv4 (now (o .entry)) (now (asserts .entry)) (now (pairs .entry)) .table ⌝ }
+    ensures asserts { λ _. ⌜ now (asserts .exit) ≡ readSheet ipv4 (now (o .entry)) (now (asserts .entry)) (now (pairs .entry)) .asserts ⌝ }
+    ensures pairs { λ _. ⌜ now (pairs .exit) ≡ readSheet ipv4 (now (o .entry)) (now (asserts .entry)) (now (pairs .entry)) .pairs ⌝ }
 {
     let x = check_sheet(o);
     match x {

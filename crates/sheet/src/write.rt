@@ -1,4 +1,4 @@
-// Writing a sheet: what is asked first, in the order 10, 14, 8, 7, then the octets.
+// Writing a sheet, always in the newest form: what is asked first, in the order 10, 14, 8, 7, then the octets.
 use crate::copy::copy;
 use crate::put::put_header;
 use crate::put::put_rows;
@@ -11,7 +11,7 @@ use format::Writing;
 use neighbours::Table;
 use neighbours::is_valid;
 use sections::Counts;
-use sections::HEADER;
+use sections::Form;
 use sections::counts_allowed;
 use sections::places_of;
 ghost use mathlib.Core.Path.{_≡_};
@@ -25,10 +25,10 @@ ghost use Rattle.format.specs.Packing.{firstBad};
 ghost use Rattle.format.specs.Writing.{lengthOf, lengthBy};
 ghost use Rattle.entries.specs.Kinds.{entriesFor};
 ghost use Rattle.neighbours.specs.Rows.{valid};
-ghost use Rattle.sections.specs.Layout.{base, assertsIn, pairsIn};
+ghost use Rattle.sections.specs.Layout.{large, assertsIn, pairsIn};
 ghost use Rattle.sections.specs.Contents.{sheetOctets};
 ghost use Rattle.sections.specs.Checking.{countsAllowed};
-ghost use Rattle.sheet.specs.Calls.{contentsOf, counted, atZero, asked, writing};
+ghost use Rattle.sheet.specs.Calls.{contentsOf, counted, atZero, asked, writeSheet};
 
 // Refused, at place 0.
 fn refused(number: u8) -> Writing
@@ -60,9 +60,9 @@ fn counts_of(ipv6: bool, asserts: &[u8], pairs: &[u8], rows: usize) -> Counts
 
 // Whether no count is over its limit, and the table is one that a sheet may hold.
 fn are_storable(c: Counts, table: Table) -> bool
-    ensures { λ r. ⌜ r ≡ countsAllowed base c && valid table ⌝ }
+    ensures { λ r. ⌜ r ≡ countsAllowed large c && valid table ⌝ }
 {
-    if counts_allowed(c) {
+    if counts_allowed(Form::Large, c) {
         return is_valid(table);
     }
     false
@@ -80,7 +80,7 @@ fn all_allowed(ipv6: bool, kind: Kind, e: &[u8]) -> bool
 
 // The length of the sheet that is due, or a refusal.
 fn due(ipv6: bool, asserts: &[u8], pairs: &[u8], table: Table, room: usize) -> Writing
-    ensures { λ r. ⌜ lengthBy r ≡ lengthOf (asked base (familyOf ipv6) (now (asserts .entry)) (now (pairs .entry)) table room) ⌝ }
+    ensures { λ r. ⌜ lengthBy r ≡ lengthOf (asked large (familyOf ipv6) (now (asserts .entry)) (now (pairs .entry)) table room) ⌝ }
 {
     if !are_whole(ipv6, asserts, pairs) {
         return refused(10);
@@ -89,7 +89,7 @@ fn due(ipv6: bool, asserts: &[u8], pairs: &[u8], table: Table, room: usize) -> W
     if !are_storable(c, table) {
         return refused(14);
     }
-    let n = places_of(ipv6, c).end;
+    let n = places_of(Form::Large, ipv6, c).end;
     if room < n {
         return refused(8);
     }
@@ -104,21 +104,21 @@ fn due(ipv6: bool, asserts: &[u8], pairs: &[u8], table: Table, room: usize) -> W
 
 // The octets of a sheet that is due.
 fn fill(asserts: &[u8], pairs: &[u8], table: Table, d: &mut [u8])
-    requires { ⌜ asked base ipv4 (now asserts) (now pairs) table (length (now d)) ≡ gives (sheetOctets base ipv4 (contentsOf (now asserts) (now pairs) table)) ⌝ }
-    ensures { λ _. ⌜ now (d .exit) ≡ put (now (d .entry)) 0 (sheetOctets base ipv4 (contentsOf (now (asserts .entry)) (now (pairs .entry)) table)) ⌝ }
+    requires { ⌜ asked large ipv4 (now asserts) (now pairs) table (length (now d)) ≡ gives (sheetOctets large ipv4 (contentsOf (now asserts) (now pairs) table)) ⌝ }
+    ensures { λ _. ⌜ now (d .exit) ≡ put (now (d .entry)) 0 (sheetOctets large ipv4 (contentsOf (now (asserts .entry)) (now (pairs .entry)) table)) ⌝ }
 {
     let c = counts_of(false, asserts, pairs, table.count);
-    let s = places_of(false, c);
+    let s = places_of(Form::Large, false, c);
     put_header(d, c);
-    copy(asserts, 0, asserts.len(), d, HEADER);
+    copy(asserts, 0, asserts.len(), d, s.asserts);
     copy(pairs, 0, pairs.len(), d, s.pairs);
     put_rows(d, s.rows, table);
 }
 
 // Writes the one sheet of two entry lists and a table.
 pub fn write_sheet(asserts: &[u8], pairs: &[u8], table: Table, d: &mut [u8]) -> Writing
-    ensures answer { λ r. ⌜ lengthBy r ≡ writing base ipv4 (now (asserts .entry)) (now (pairs .entry)) table (now (d .entry)) .answer ⌝ }
-    ensures buffer { λ _. ⌜ now (d .exit) ≡ writing base ipv4 (now (asserts .entry)) (now (pairs .entry)) table (now (d .entry)) .buffer ⌝ }
+    ensures answer { λ r. ⌜ lengthBy r ≡ writeSheet ipv4 (now (asserts .entry)) (now (pairs .entry)) table (now (d .entry)) .answer ⌝ }
+    ensures buffer { λ _. ⌜ now (d .exit) ≡ writeSheet ipv4 (now (asserts .entry)) (now (pairs .entry)) table (now (d .entry)) .buffer ⌝ }
 {
     let answer = due(false, asserts, pairs, table, d.len());
     let Writing::Wrote(_) = answer else {

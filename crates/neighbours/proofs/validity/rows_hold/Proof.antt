@@ -17,7 +17,7 @@ abbrev Inv-loop : tie.InvT-loop
 Inv-loop table count i₀ j₀ i j = Comparing (used table) (table .count) i j
 
 abbrev μ-loop : tie.MeasureT-loop
-μ-loop table count i₀ j₀ i j = (most - i) * 18 + (18 - j)
+μ-loop table count i₀ j₀ i j = (most - i) * (most + 2) + (most + 2 - j)
 
 -- the rows in use are rows of the array
 within : (c : tie.Start Inv-loop μ-loop) → c .args .t1 .count ≤ length (c .args .t1 .rows)

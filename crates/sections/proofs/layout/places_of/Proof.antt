@@ -9,40 +9,43 @@ use borrow.Author.Needs.{needs}
 use Rattle.format.specs.Family.{familyOf}
 use Rattle.format.specs.declared.Kind.the-variants.{Simple, RegisterStop}
 use Rattle.entries.proofs.ByKind.{size-range}
-use Rattle.sections.specs.Layout.{base, pairsFrom, rowsFrom, end}
+use Rattle.sections.specs.Layout.{layoutOf, pairsFrom, rowsFrom, end}
 use Rattle.sections.specs.Checking.{countsAllowed}
-use Rattle.sections.proofs.Header.{counts-within, few, no-places, are-places}
+use Rattle.sections.proofs.Header.{few-entries, few, no-places, are-places}
 use Rattle.sections.proofs.layout.places_of.Statement.{statement}
 use Rattle.sections.proofs.layout.places_of.Tie as tie
 
-allowed : (c : tie.Else1) → countsAllowed base (c .before .before .args .c) ≡ true
+allowed : (c : tie.Else1) → countsAllowed (layoutOf (c .before .before .args .form)) (c .before .before .args .c) ≡ true
 allowed c = sym (c .before .counts-allowed .ensures) ∙ not-false _ (c .if1 .left)
 
 -- the octets of the asserts, of the pairs and of the rows
-first : (c : tie.After-struct-known) → c .before .entry-size .result * c .before .before .before .before .args .c .asserts ≤ 40960
+first : (c : tie.After-struct-known) → c .before .entry-size .result * c .before .before .before .before .before .args .c .asserts ≤ 327680
 first c =
-    let a = c .before .before .before .before .args in
-    few _ _ (omega (arith, c .before .entry-size .ensures, size-range (a .ipv6) Simple)) (counts-within base (a .c) (allowed (c .before .before)) .0)
+    let a = c .before .before .before .before .before .args in
+    few _ _ (omega (arith, c .before .entry-size .ensures, size-range (a .ipv6) Simple)) (few-entries (a .form) (a .c) (allowed (c .before .before .before)) .0)
 
-second : (c : tie.After-struct-known2) → c .before .entry-size2 .result * c .before .before .before .before .before .before .args .c .pairs ≤ 40960
+second : (c : tie.After-struct-known2) → c .before .entry-size2 .result * c .before .before .before .before .before .before .before .args .c .pairs ≤ 327680
 second c =
-    let a = c .before .before .before .before .before .before .args in
-    few _ _ (omega (arith, c .before .entry-size2 .ensures, size-range (a .ipv6) RegisterStop)) (counts-within base (a .c) (allowed (c .before .before .before .before)) .1)
+    let a = c .before .before .before .before .before .before .before .args in
+    few _ _ (omega (arith, c .before .entry-size2 .ensures, size-range (a .ipv6) RegisterStop)) (few-entries (a .form) (a .c) (allowed (c .before .before .before .before .before)) .1)
 
-third : (c : tie.After-struct-known3) → c .before .row-size .result * c .before .before .before .before .before .before .before .before .args .c .neighbours ≤ 40960
+third : (c : tie.After-struct-known3) → c .before .row-size .result * c .before .before .before .before .before .before .before .before .before .args .c .neighbours ≤ 327680
 third c =
-    let a = c .before .before .before .before .before .before .before .before .args in
-    few _ _ (omega (arith, c .before .row-size .ensures)) (omega (arith, counts-within base (a .c) (allowed (c .before .before .before .before .before .before)) .2))
+    let a = c .before .before .before .before .before .before .before .before .before .args in
+    few _ _ (omega (arith, c .before .row-size .ensures)) (omega (arith, few-entries (a .form) (a .c) (allowed (c .before .before .before .before .before .before .before)) .2))
 
 returns : tie.Need-returns
-returns c = sym (no-places base (familyOf (c .before .before .args .ipv6)) (c .before .before .args .c) (sym (c .before .counts-allowed .ensures) ∙ not-true _ (c .if1 .taken)))
+returns c =
+    let a = c .before .before .args in
+    sym (no-places (layoutOf (a .form)) (familyOf (a .ipv6)) (a .c) (sym (c .before .counts-allowed .ensures) ∙ not-true _ (c .if1 .taken)))
 
 returns-2 : tie.Need-returns-2
 unfolding pairsFrom rowsFrom end
 returns-2 c =
-    let a = c .before .before .before .before .before .before .before .before .args in
+    let a = c .before .before .before .before .before .before .before .before .before .args in
     rw (
-      are-places base (familyOf (a .ipv6)) (a .c) (allowed (c .before .before .before .before .before .before)),
+      are-places (layoutOf (a .form)) (familyOf (a .ipv6)) (a .c) (allowed (c .before .before .before .before .before .before .before)),
+      c .before .before .before .before .before .before .header-size .ensures .0,
       c .before .before .before .before .before .entry-size .ensures,
       c .before .before .before .entry-size2 .ensures,
       c .before .row-size .ensures .0,
@@ -54,6 +57,7 @@ places-of-spec =
     (tie.spec
     (λ c κs. search needs)
     returns
+    (λ c κs. search needs)
     (λ c κs. search needs)
     (λ c. let h = first c in search needs)
     (λ c. let h = first c in search needs)

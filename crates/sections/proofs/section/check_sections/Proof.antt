@@ -1,14 +1,16 @@
 -- `sections::section::check_sections` meets its contract, section by section. The places lie in the sheet.
 -- Assumes nothing.
-use mathlib.Core.Path.{_≡_}
-use Prim.Native.Nat.{_+_, _*_}
+use mathlib.Core.Path.{_≡_, sym, _∙_}
+use mathlib.Core.List.{List}
+use Prim.Native.Nat.{ℕ, _+_, _*_}
 use native.Mathlib.Omega.{arith}
 use lib.ListN.{length}
 use denote.Ref.{now}
 use borrow.Author.Needs.{needs}
 use Rattle.format.specs.Family.{ipv4}
-use Rattle.sections.specs.Layout.{base, pairsFrom, rowsFrom, end}
-use Rattle.sections.proofs.Header.{base-places, pairs-place, rows-place}
+use Rattle.sections.specs.Layout.{Layout, layoutOf, headerSize}
+use Rattle.sections.specs.declared.Counts.{Counts}
+use Rattle.sections.proofs.Header.{places-are, asserts-place, pairs-place, rows-place, end-place}
 use Rattle.sections.proofs.Checks.{sections-asserts, sections-pairs, sections-rows}
 use Rattle.sections.proofs.section.check_sections.Statement.{statement}
 use Rattle.sections.proofs.section.check_sections.Tie as tie
@@ -16,50 +18,58 @@ use Rattle.sections.proofs.section.check_sections.Tie as tie
 abbrev start : tie.After-places-of → tie.Start
 start c = c .before .before
 
--- the sheet by its parts, and where they begin
-total : (c : tie.Start) → length (now (c .args .o)) ≡ 12 + 16 * c .args .c .asserts + 8 * c .args .c .pairs + 12 * c .args .c .neighbours
-unfolding pairsFrom rowsFrom end
-total c = c .pre .1
+abbrev layout : tie.After-places-of → Layout
+layout c = layoutOf (start c .args .form)
 
-parts : (c : tie.After-places-of) → (c .places-of .result .pairs ≡ 12 + 16 * start c .args .c .asserts)
-    × (c .places-of .result .rows ≡ 12 + 16 * start c .args .c .asserts + 8 * start c .args .c .pairs)
-    × (c .places-of .result .end ≡ 12 + 16 * start c .args .c .asserts + 8 * start c .args .c .pairs + 12 * start c .args .c .neighbours)
-parts c = base-places (start c .args .c) (start c .pre .0) (c .places-of .ensures)
+abbrev octets : tie.After-places-of → List ℕ
+octets c = now (start c .args .o)
+
+abbrev counts : tie.After-places-of → Counts
+counts c = start c .args .c
+
+-- where the sections begin, and where the sheet ends
+parts : (c : tie.After-places-of) → (c .places-of .result .asserts ≡ headerSize (layout c)) × (c .places-of .result .pairs ≡ c .places-of .result .asserts + 16 * counts c .asserts)
+    × (c .places-of .result .rows ≡ c .places-of .result .pairs + 8 * counts c .pairs)
+    × (c .places-of .result .end ≡ c .places-of .result .rows + 12 * counts c .neighbours)
+parts c = places-are (layout c) (counts c) (start c .pre .0) (c .places-of .ensures)
+
+total : (c : tie.After-places-of) → length (octets c) ≡ c .places-of .result .end
+total c = start c .pre .1 ∙ sym (end-place (layout c) ipv4 (counts c) (start c .pre .0) (c .places-of .ensures))
 
 check-entries-requires : tie.Need-check-entries-requires
-check-entries-requires c κs = omega (arith, total (start c))
+check-entries-requires c κs = omega (arith, total c, parts c)
 
 returns : tie.Need-returns
 returns c =
-    let a = start (c .before .before .before) .args in
-    sections-asserts base ipv4 (now (a .o)) (a .c) (c .before .before .check-entries .ensures) (c .enum-told2 .given .1)
+    let p = c .before .before .before in
+    sections-asserts (layout p) ipv4 (octets p) (counts p) (asserts-place (layout p) ipv4 (counts p) (start p .pre .0) (p .places-of .ensures)) (c .before .before .check-entries .ensures) (c .enum-told2 .given .1)
 
 check-entries-requires-2 : tie.Need-check-entries-requires-2
 check-entries-requires-2 c κs =
     let p = c .before .before .before in
-    omega (arith, total (start p), parts p)
+    omega (arith, total p, parts p)
 
 returns-2 : tie.Need-returns-2
 returns-2 c =
-    let e = c .before .before .before in
-    let p = e .before .before .before in
-    let s = start p in
-    sections-pairs base ipv4 (now (s .args .o)) (s .args .c) (e .before .before .check-entries .ensures) (e .enum-told .given .1)
-    (pairs-place base ipv4 (s .args .c) (s .pre .0) (p .places-of .ensures)) (c .before .before .check-entries2 .ensures) (c .enum-told4 .given .1)
+    let p = c .before .before .before .before .before .before in
+    let ok = start p .pre .0 in
+    let is = p .places-of .ensures in
+    sections-pairs (layout p) ipv4 (octets p) (counts p) (asserts-place (layout p) ipv4 (counts p) ok is) (c .before .before .before .before .before .check-entries .ensures) (c .before .before .before .enum-told .given .1)
+    (pairs-place (layout p) ipv4 (counts p) ok is) (c .before .before .check-entries2 .ensures) (c .enum-told4 .given .1)
 
 check-rows-requires : tie.Need-check-rows-requires
 check-rows-requires c κs =
     let p = c .before .before .before .before .before .before in
-    omega (arith, total (start p), parts p)
+    omega (arith, total p, parts p)
 
 returns-3 : tie.Need-returns-3
 returns-3 c =
-    let e = c .before .before .before .before in
-    let p = e .before .before .before in
-    let s = start p in
-    sections-rows base ipv4 (now (s .args .o)) (s .args .c) (e .before .before .check-entries .ensures) (e .enum-told .given .1)
-    (pairs-place base ipv4 (s .args .c) (s .pre .0) (p .places-of .ensures)) (c .before .before .before .check-entries2 .ensures) (c .before .enum-told3 .given .1)
-    (rows-place base ipv4 (s .args .c) (s .pre .0) (p .places-of .ensures)) (c .check-rows .ensures)
+    let p = c .before .before .before .before .before .before .before in
+    let ok = start p .pre .0 in
+    let is = p .places-of .ensures in
+    sections-rows (layout p) ipv4 (octets p) (counts p) (asserts-place (layout p) ipv4 (counts p) ok is) (c .before .before .before .before .before .before .check-entries .ensures) (c .before .before .before .before .enum-told .given .1)
+    (pairs-place (layout p) ipv4 (counts p) ok is) (c .before .before .before .check-entries2 .ensures) (c .before .enum-told3 .given .1)
+    (rows-place (layout p) ipv4 (counts p) ok is) (c .check-rows .ensures)
 
 pub check-sections-spec : {M : Type 1} → statement M
 check-sections-spec =

@@ -1,69 +1,85 @@
--- `sheet::put::put_header` meets its contract: six numbers, each written past the one before.
+-- `sheet::put::put_header` meets its contract: what it begins with and three pairs, each written past the one before.
 -- Assumes nothing.
 use Prim.Native.Nat.{_+_, _*_, _≤_}
-use mathlib.Core.Path.{_≡_, refl, _∙_}
+use mathlib.Core.Path.{_≡_, ap, _∙_}
+use native.Mathlib.Omega.{arith}
+use lib.ListN.{length}
 use denote.Ref.{now}
-use Rattle.octets.proofs.Laws.{number-fits}
+use borrow.Author.Needs.{needs}
+use Rattle.octets.proofs.Laws.{length-put, number-fits}
 use Rattle.format.specs.Family.{ipv4}
 use Rattle.neighbours.specs.Rows.{most}
-use Rattle.sections.specs.Layout.{base, headerOctets}
-use Rattle.sections.proofs.Header.{counts-within, pairs-place, rows-place, base-places}
-use Rattle.sheet.proofs.Copies.{written-next}
-use borrow.Author.Needs.{needs}
+use Rattle.sections.specs.Layout.{large, headerSize, headerOctets}
+use Rattle.sections.proofs.Header.{counts-within, asserts-place, pairs-place, rows-place, places-are}
+use Rattle.sheet.proofs.Written.{length-header}
+use Rattle.sheet.proofs.Copies.{header-written}
 use Rattle.sheet.proofs.put.put_header.Statement.{statement}
 use Rattle.sheet.proofs.put.put_header.Tie as tie
-
-limits : (s : tie.Start) → (s .args .c .asserts ≤ base .assertLimit) × (s .args .c .pairs ≤ base .pairLimit) × (s .args .c .neighbours ≤ most)
-limits s = counts-within base (s .args .c) (s .pre .1)
 
 abbrev start : tie.After-places-of → tie.Start
 start c = c .before .before
 
-at : (c : tie.After-places-of) → (c .places-of .result .pairs ≡ 12 + 16 * start c .args .c .asserts)
-    × (c .places-of .result .rows ≡ 12 + 16 * start c .args .c .asserts + 8 * start c .args .c .pairs)
-    × (c .places-of .result .end ≡ 12 + 16 * start c .args .c .asserts + 8 * start c .args .c .pairs + 12 * start c .args .c .neighbours)
-at c = base-places (start c .args .c) (start c .pre .1) (c .places-of .ensures)
+limits : (c : tie.After-places-of) → (start c .args .c .asserts ≤ large .limits .asserts) × (start c .args .c .pairs ≤ large .limits .pairs) × (start c .args .c .neighbours ≤ most)
+limits c = counts-within large (start c .args .c) (start c .pre .1)
 
-cast-write16 : tie.Need-cast-write16
-cast-write16 c =
-    let l = limits (c .before .before .before .before) in
-    search needs
+at : (c : tie.After-places-of) → (c .places-of .result .asserts ≡ headerSize large) × (c .places-of .result .pairs ≡ c .places-of .result .asserts + 16 * start c .args .c .asserts)
+    × (c .places-of .result .rows ≡ c .places-of .result .pairs + 8 * start c .args .c .pairs)
+    × (c .places-of .result .end ≡ c .places-of .result .rows + 12 * start c .args .c .neighbours)
+at c = places-are large (start c .args .c) (start c .pre .1) (c .places-of .ensures)
 
-cast-write16-3 : tie.Need-cast-write16-3
-cast-write16-3 c =
+cast-put-pair : tie.Need-cast-put-pair
+cast-put-pair c = let l = limits (c .before .before .before .before .before .before) in search needs
+
+cast-put-pair-2 : tie.Need-cast-put-pair-2
+cast-put-pair-2 c = let p = at (c .before .before .before .before .before .before .before) in search needs
+
+cast-put-pair-3 : tie.Need-cast-put-pair-3
+cast-put-pair-3 c = let l = limits (c .before .before .before .before .before .before .before .before .before .before .before .before) in search needs
+
+cast-put-pair-4 : tie.Need-cast-put-pair-4
+cast-put-pair-4 c =
     let l = limits (c .before .before .before .before .before .before .before .before .before .before .before .before .before) in
+    let p = at (c .before .before .before .before .before .before .before .before .before .before .before .before .before) in
     search needs
 
-cast-write16-4 : tie.Need-cast-write16-4
-cast-write16-4 c =
-    let l = limits (c .before .before .before .before .before .before .before .before .before .before .before .before .before .before .before .before .before .before) in
-    let p = at (c .before .before .before .before .before .before .before .before .before .before .before .before .before .before .before .before) in
-    search needs
+cast-put-pair-5 : tie.Need-cast-put-pair-5
+cast-put-pair-5 c = let l = limits (c .before .before .before .before .before .before .before .before .before .before .before .before .before .before .before .before .before .before) in search needs
 
-cast-write16-5 : tie.Need-cast-write16-5
-cast-write16-5 c =
-    let l = limits (c .before .before .before .before .before .before .before .before .before .before .before .before .before .before .before .before .before .before .before .before .before .before .before) in
-    search needs
-
-cast-write16-6 : tie.Need-cast-write16-6
-cast-write16-6 c =
-    let l = limits (c .before .before .before .before .before .before .before .before .before .before .before .before .before .before .before .before .before .before .before .before .before .before .before .before .before .before .before .before) in
-    let p = at (c .before .before .before .before .before .before .before .before .before .before .before .before .before .before .before .before .before .before .before .before .before .before .before .before .before .before) in
+cast-put-pair-6 : tie.Need-cast-put-pair-6
+cast-put-pair-6 c =
+    let l = limits (c .before .before .before .before .before .before .before .before .before .before .before .before .before .before .before .before .before .before .before) in
+    let p = at (c .before .before .before .before .before .before .before .before .before .before .before .before .before .before .before .before .before .before .before) in
     search needs
 
 returns : tie.Need-returns
-unfolding headerOctets
 returns c =
-    let s = c .before .before .before .before .before .before .before .before .before .before .before .before .before .before .before .before .before .before .before .before .before .before .before .before .before .before .before .before .before .before .before in
-    let p = c .before .before .before .before .before .before .before .before .before .before .before .before .before .before .before .before .before .before .before .before .before .before .before .before .before .before .before .before .before .places-of .ensures in
+    let k = c .before .before .before .before .before .before .before .before .before .before .before .before .before .before .before .before .before .before .before .before .before .before in
+    let s = start k in
+    let p = k .places-of .ensures in
     let ok = s .pre .1 in
-    rw (← pairs-place base ipv4 (s .args .c) ok p, ← rows-place base ipv4 (s .args .c) ok p)
-    (written-next 2 (now (s .args .d)) 0 _ _ 10 (c .before .before .before .before .before .before .before .before .before .before .before .before .before .before .before .before .before .before .before .before .before .before .before .before .before .before .write16 .ensures .1) (s .pre .0) refl (λ h.
-    written-next 2 _ 2 _ _ 8 (c .before .before .before .before .before .before .before .before .before .before .before .before .before .before .before .before .before .before .before .before .before .before .write162 .ensures .1) h refl (λ h.
-    written-next 2 _ 4 _ _ 6 (c .before .before .before .before .before .before .before .before .before .before .before .before .before .before .before .before .before .write163 .ensures .1) h refl (λ h.
-    written-next 2 _ 6 _ _ 4 (c .before .before .before .before .before .before .before .before .before .before .before .before .write164 .ensures .1) h refl (λ h.
-    written-next 2 _ 8 _ _ 2 (c .before .before .before .before .before .before .before .write165 .ensures .1) h refl (λ h.
-    c .before .before .write166 .ensures .1 ∙ number-fits 2 _ 10 _ h))))))
+    header-written (s .args .c) (now (s .args .d)) (c .before .before .before .before .before .before .before .before .before .before .before .before .before .before .before .before .before .before .before .before .write32 .ensures .1 ∙ number-fits 4 _ 0 _ (omega (arith, s .pre .0)))
+    (c .before .before .before .before .before .before .before .before .before .before .before .before .before .before .put-pair .ensures) (c .before .before .before .before .before .before .before .before .put-pair2 .ensures) (c .before .before .put-pair3 .ensures)
+    (asserts-place large ipv4 (s .args .c) ok p) (pairs-place large ipv4 (s .args .c) ok p) (rows-place large ipv4 (s .args .c) ok p)
+
+same-length : tie.Need-same-length
+same-length c =
+    let s = start (c .before .before .before .before .before .before .before .before .before .before .before .before .before .before .before .before .before .before .before .before .before .before) in
+    ap length (returns c) ∙ length-put (now (s .args .d)) 0 (headerOctets large ipv4 (s .args .c)) (omega (arith, s .pre .0, length-header large ipv4 (s .args .c)))
 
 pub put-header-spec : {M : Type 1} → statement M
-put-header-spec = tie.close (tie.spec (λ c κs. search needs) cast-write16 (λ c κs. search needs) (λ c. search needs) (λ c κs. search needs) cast-write16-3 (λ c κs. search needs) cast-write16-4 (λ c κs. search needs) cast-write16-5 (λ c κs. search needs) cast-write16-6 (λ c κs. search needs) (λ c. search needs) returns)
+put-header-spec =
+    tie.close
+    (tie.spec
+    (λ c κs. search needs)
+    (λ c κs. search needs)
+    cast-put-pair
+    cast-put-pair-2
+    (λ c κs. search needs)
+    cast-put-pair-3
+    cast-put-pair-4
+    (λ c κs. search needs)
+    cast-put-pair-5
+    cast-put-pair-6
+    (λ c κs. search needs)
+    same-length
+    returns)

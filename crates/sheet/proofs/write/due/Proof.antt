@@ -14,7 +14,7 @@ use Rattle.format.specs.Writing.{lengthBy}
 use Rattle.neighbours.specs.Rows.{most, valid}
 use Rattle.neighbours.specs.declared.Table.{Table}
 use Rattle.neighbours.proofs.Rows.{all-rows}
-use Rattle.sections.specs.Layout.{base, assertsIn, pairsIn}
+use Rattle.sections.specs.Layout.{large, assertsIn, pairsIn}
 use Rattle.sections.specs.Contents.{countsOf, sheetOctets}
 use Rattle.sections.specs.Checking.{countsAllowed}
 use Rattle.sheet.specs.Calls.{contentsOf}
@@ -48,16 +48,16 @@ both c = sym (c .before .before .are-whole .ensures) ∙ not-false _ (c .before 
 
 -- what the second test asked
 kept : (c : tie.After-are-storable)
-    → c .are-storable .result ≡ (countsAllowed base (countsOf (family (c .before)) (contentsOf (asserts (c .before)) (pairs (c .before)) (table (c .before)))) && valid (table (c .before)))
+    → c .are-storable .result ≡ (countsAllowed large (countsOf (family (c .before)) (contentsOf (asserts (c .before)) (pairs (c .before)) (table (c .before)))) && valid (table (c .before)))
 kept c = storable-is _ (asserts (c .before)) (pairs (c .before)) (table (c .before)) (full (start (c .before))) (c .before .counts-of .ensures) (c .are-storable .ensures)
 
 fine : (c : tie.Else2)
-    → (countsAllowed base (countsOf (family (c .before .before)) (contentsOf (asserts (c .before .before)) (pairs (c .before .before)) (table (c .before .before)))) && valid (table (c .before .before))) ≡ true
+    → (countsAllowed large (countsOf (family (c .before .before)) (contentsOf (asserts (c .before .before)) (pairs (c .before .before)) (table (c .before .before)))) && valid (table (c .before .before))) ≡ true
 fine c = sym (kept (c .before)) ∙ not-false _ (c .if2 .left)
 
 -- the length as code has it
 long : (c : tie.After-places-of)
-    → length (sheetOctets base (family (c .before .before .before)) (contentsOf (asserts (c .before .before .before)) (pairs (c .before .before .before)) (table (c .before .before .before)))) ≡ c .places-of .result .end
+    → length (sheetOctets large (family (c .before .before .before)) (contentsOf (asserts (c .before .before .before)) (pairs (c .before .before .before)) (table (c .before .before .before)))) ≡ c .places-of .result .end
 long c =
     let k = c .before .before .before in
     due-long (family k) (asserts k) (pairs k) (table k) (full (start k)) (k .counts-of .ensures) (both k)
