@@ -4,7 +4,9 @@
 --     without-sheet                 an address forgotten
 --     refused-14                    a table that is not valid is refused by every call
 --     hearing-sound, forgetting-sound       a valid table stays valid
+--     has-after, sheet-after        a new row after the others
 --     forgets-new                   forgetting after hearing a new address gives the table back
+--     sheet-middle                  a row among others
 --     reached                       a table of valid rows is reached from the empty one
 -- Assumes nothing.
 use mathlib.Core.Path.{_≡_, refl, sym, ap, subst, _∙_}
@@ -212,7 +214,7 @@ module _ (t : Table) (s : Sound t) (a : ℕ) where
 
 -- ---- a table that is not valid
 
--- "a table with over 16 rows, rows that a sheet may not hold, or unused rows not 0": 14, before anything else is looked at
+-- a table with too many rows, "rows that a sheet may not hold, or unused rows not 0": 14, before anything else is looked at
 pub record Refused14 (t : Table) : Type 0 where
   pub of-hearing : (a : ℕ) (h : Hello) → hearing t a h ≡ refuses 14 0
   pub of-forgetting : (a : ℕ) → forgetting t a ≡ refuses 14 0
@@ -245,19 +247,18 @@ without-last n (m ∷ l) e = go (eqb (addressOf m) (addressOf n)) e (without-las
     go true f k = never f
     go false f k = ap (λ x. m ∷ x) (k f)
 
-has-last : (n : Neighbour) (l : List Neighbour) → has (addressOf n) (l ++ (n ∷ [])) ≡ true
+pub has-after : (a : ℕ) (n : Neighbour) (l : List Neighbour) → has a (l ++ (n ∷ [])) ≡ (eqb (addressOf n) a || has a l)
 unfolding has
-has-last n [] = rw (eq-eqb (addressOf n) (addressOf n) refl)
-has-last n (m ∷ l) = rw (has-last n l) (go (eqb (addressOf m) (addressOf n)))
-  where
-    go : (b : Bool) → (b || true) ≡ true
-    go true = refl
-    go false = refl
+has-after a n [] = refl
+has-after a n (m ∷ l) = rw (has-after a n l) (or-comm-3 (eqb (addressOf m) a) (eqb (addressOf n) a) (has a l))
+
+pub sheet-after : (n : Neighbour) (l : List Neighbour) → allowed n ≡ true → has (addressOf n) l ≡ false → sheetRows l ≡ true → sheetRows (l ++ (n ∷ [])) ≡ true
+sheet-after n l e h s = rw (← entered-last n l h) (entered-sheet n l e s)
 
 forgets-last : (n : Neighbour) (l : List Neighbour) → valid (tableOf (l ++ (n ∷ []))) ≡ true → (addressOf n ≡ 0 → ⊥) → has (addressOf n) l ≡ false
     → tableAfter (tableOf (l ++ (n ∷ []))) (forgetting (tableOf (l ++ (n ∷ []))) (addressOf n)) ≡ tableOf l
 unfolding forgetting leaving refuseIf _>>_ tableAfter
-forgets-last n l ok some new = rw (ask-fine (tableOf (l ++ (n ∷ []))) (addressOf n) ok some, used-of (l ++ (n ∷ [])), has-last n l, without-last n l new)
+forgets-last n l ok some new = rw (ask-fine (tableOf (l ++ (n ∷ []))) (addressOf n) ok some, used-of (l ++ (n ∷ [])), has-after (addressOf n) n l, eq-eqb (addressOf n) (addressOf n) refl, without-last n l new)
 
 module _ (t : Table) (s : Sound t) (a : ℕ) (h : Hello) (some : a ≡ 0 → ⊥) (stays : h .holdtime ≡ 0 → ⊥) (new : has a (used t) ≡ false) (room : t .count < most) where
   pub hearing-new : hearing t a h ≡ gives (after appended (used t ++ (rowOf a h ∷ [])))
@@ -330,7 +331,7 @@ sheet-front (m ∷ k) l e =
     sheet-join m k (record { fit = p .fit; once = has-front (addressOf m) k l (p .once); others = sheet-front k l (p .others) })
 
 -- a row among others: it is allowed, and its address does not stand before it
-sheet-middle : (k : List Neighbour) (n : Neighbour) (l : List Neighbour) → sheetRows (k ++ n ∷ l) ≡ true → (allowed n ≡ true) × (has (addressOf n) k ≡ false)
+pub sheet-middle : (k : List Neighbour) (n : Neighbour) (l : List Neighbour) → sheetRows (k ++ n ∷ l) ≡ true → (allowed n ≡ true) × (has (addressOf n) k ≡ false)
 unfolding has
 sheet-middle [] n l e = (sheet-parts n l e .fit, refl)
 sheet-middle (m ∷ k) n l e =

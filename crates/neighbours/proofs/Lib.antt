@@ -1,5 +1,6 @@
 pub mod Rows
 pub mod Tables
+pub mod Slots
 pub mod Ranks
 pub mod Highest
 pub mod Among
@@ -8,3 +9,4 @@ pub mod Gaps
 pub mod Changes
 pub mod Entering
 pub mod Kept
+pub mod Holding

@@ -3,18 +3,20 @@
 --     used-long, next-row, no-row-left      the rows in use one by one
 --     scan-next, scan-stop, scan-end        a loop that tests rows: the rows that are left give what all of them give
 --     place-here, place-next, place-none    where an address stands, row by row
---     place-all, has-place, has-none        an address stands somewhere exactly if its place is one of the rows
+--     place-all                             a place is at most the number of rows
+--     has-before, none-before               an address stands before a row exactly if its place does
+--     has-place, has-none                   it stands somewhere exactly if its place is one of the rows
 -- Assumes nothing.
 use mathlib.Core.Path.{_≡_, refl, sym, ap, _∙_}
 use mathlib.Core.Bool.{Bool, true, false, cond, _&&_, _||_}
 use mathlib.Core.List.{List, [], _∷_, map}
-use Prim.Native.Nat.{ℕ, suc, _+_, _-_, _≤_, _<_}
+use Prim.Native.Nat.{ℕ, zero, suc, _+_, _-_, _≤_, _<_}
 use native.Mathlib.Nat.{add-zero}
 use native.Mathlib.Omega.{arith}
 use borrow.Author.Tests.{eq-eqb, ne-eqb}
 use lib.Dec.{eqb}
 use lib.ListN.{length, getD, take, drop, length-map, drop-of-length-le}
-use lib.Seq.{drop-cons, getD-take, length-take-le}
+use lib.Seq.{drop-cons, getD-take, length-take-le, take-length}
 use Rattle.neighbours.specs.declared.Neighbour.{Neighbour}
 use Rattle.neighbours.specs.Rows.{addressOf, place, has}
 use Rattle.neighbours.proofs.Neighbour as neighbour
@@ -80,20 +82,30 @@ place-all a (x ∷ l) = go (eqb (addressOf x) a) (place-all a l)
     go true h = omega arith
     go false h = omega arith
 
-pub has-place : (a : ℕ) (l : List Neighbour) → place a l < length l → has a l ≡ true
+pub has-before : (a i : ℕ) (l : List Neighbour) → place a l < i → i ≤ length l → has a (take i l) ≡ true
 unfolding place has
-has-place a [] h = absurd (omega arith)
-has-place a (x ∷ l) h = go (eqb (addressOf x) a) (has-place a l) h
+has-before a zero [] h w = absurd (omega arith)
+has-before a zero (x ∷ l) h w = absurd (omega arith)
+has-before a (suc i) [] h w = absurd (omega arith)
+has-before a (suc i) (x ∷ l) h w = go (eqb (addressOf x) a) (λ g. has-before a i l g (omega arith)) h
   where
-    go : (b : Bool) → (place a l < length l → has a l ≡ true) → cond b 0 (suc (place a l)) < suc (length l) → (b || has a l) ≡ true
+    go : (b : Bool) → (place a l < i → has a (take i l) ≡ true) → cond b 0 (suc (place a l)) < suc i → (b || has a (take i l)) ≡ true
     go true k g = refl
     go false k g = k (omega arith)
 
-pub has-none : (a : ℕ) (l : List Neighbour) → length l ≤ place a l → has a l ≡ false
+pub none-before : (a i : ℕ) (l : List Neighbour) → i ≤ place a l → has a (take i l) ≡ false
 unfolding place has
-has-none a [] h = refl
-has-none a (x ∷ l) h = go (eqb (addressOf x) a) (has-none a l) h
+none-before a zero [] h = refl
+none-before a zero (x ∷ l) h = refl
+none-before a (suc i) [] h = refl
+none-before a (suc i) (x ∷ l) h = go (eqb (addressOf x) a) (none-before a i l) h
   where
-    go : (b : Bool) → (length l ≤ place a l → has a l ≡ false) → suc (length l) ≤ cond b 0 (suc (place a l)) → (b || has a l) ≡ false
+    go : (b : Bool) → (i ≤ place a l → has a (take i l) ≡ false) → suc i ≤ cond b 0 (suc (place a l)) → (b || has a (take i l)) ≡ false
     go true k g = absurd (omega arith)
     go false k g = k (omega arith)
+
+pub has-place : (a : ℕ) (l : List Neighbour) → place a l < length l → has a l ≡ true
+has-place a l h = rw (take-length l) at (has-before a (length l) l h (omega arith))
+
+pub has-none : (a : ℕ) (l : List Neighbour) → length l ≤ place a l → has a l ≡ false
+has-none a l h = rw (take-length l) at (none-before a (length l) l h)

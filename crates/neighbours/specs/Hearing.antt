@@ -53,7 +53,7 @@ asked t a = do
   refuseIf (not (valid t)) 14 0
   refuseIf (eqb a 0) 7 0
 
--- 11: "a new neighbour and 16 rows in use"
+-- 11: "a new neighbour and 16 rows in use"; E6: "11 comes at 64"
 unfoldable pub entering : Neighbour → List Neighbour → Outcome After
 entering n l =
     cond (has (addressOf n) l) (gives (after replaced (entered n l)))

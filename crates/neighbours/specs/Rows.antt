@@ -1,4 +1,5 @@
--- The neighbour table (01, "Neighbours and election"): "The table holds at most 16 neighbours as a state by value with its array inside."
+-- The neighbour table (01, "Neighbours and election"): "The table holds at most 16 neighbours as a state by value with its array inside"; E6 makes
+-- them 64: "The neighbour table grows with it, and 11 comes at 64."
 --     most                      how many rows there are, as `ROWS` of src/ says it of the code
 --     addressOf                 the address of a row, as a number
 --     noRow, isZero, allZero    "rows not in use are all 0"
@@ -56,7 +57,7 @@ sheetRows (n ∷ l) = (allowed n && not (has (addressOf n) l)) && sheetRows l
 abbrev pub used : Table → List Neighbour
 used t = take (t .count) (t .rows)
 
--- 14: "a table with over 16 rows, rows that a sheet may not hold, or unused rows not 0"
+-- 14: "a table with over 16 rows", 64 since E6, "rows that a sheet may not hold, or unused rows not 0"
 unfoldable pub valid : Table → Bool
 valid t = leb (t .count) most && (sheetRows (used t) && allZero (drop (t .count) (t .rows)))
 

@@ -18,23 +18,18 @@ pub(crate) fn no_row() -> Neighbour
     }
 }
 
-// Whether a row is all 0.
+// Whether a row is all 0. The sum is one test in place of three: every call goes through the rows not in use.
 pub(crate) fn is_zero(row: Neighbour) -> bool
     ensures { λ r. ⌜ r ≡ isZero row ⌝ }
 {
-    if row.address != 0 {
-        return false;
-    }
-    if row.priority != 0 {
+    let numbers = row.address as u64 + row.priority as u64 + row.holdtime as u64;
+    if numbers != 0 {
         return false;
     }
     if row.has_priority {
         return false;
     }
-    if row.packs {
-        return false;
-    }
-    row.holdtime == 0
+    !row.packs
 }
 
 // Whether a sheet may hold a row.

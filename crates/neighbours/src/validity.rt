@@ -1,5 +1,4 @@
-// The tests of a whole table: where an address stands, whether a sheet may hold the rows in use, whether the others are all 0; then what
-// every call asks first.
+// The tests of a whole table: where an address stands, whether the table is valid; then what every call asks first.
 use crate::ROWS;
 use crate::Table;
 use crate::row::is_allowed;
@@ -7,8 +6,7 @@ use crate::row::is_zero;
 use format::Refusal;
 ghost use mathlib.Core.Path.{_≡_};
 ghost use Prim.Native.Nat.{_≤_};
-ghost use lib.ListN.{drop};
-ghost use Rattle.neighbours.specs.Rows.{most, allZero, place, sheetRows, used, valid};
+ghost use Rattle.neighbours.specs.Rows.{most, place, used, valid};
 ghost use Rattle.neighbours.specs.Hearing.{asked};
 ghost use Rattle.neighbours.specs.Answers.{askedBy};
 
@@ -34,59 +32,37 @@ pub(crate) fn find(table: Table, address: u32) -> usize
     count
 }
 
-// Whether a sheet may hold the rows in use. A row is compared with those after it in the same loop: a table that is passed
-// on for each row is copied for each row.
-fn rows_hold(table: Table) -> bool
-    requires { ⌜ table .count ≤ most ⌝ }
-    ensures { λ r. ⌜ r ≡ sheetRows (used table) ⌝ }
-{
-    let count = table.count;
-    let mut i = 0;
-    let mut j = 1;
-    while i < count {
-        if j < count {
-            if table.rows[i].address == table.rows[j].address {
-                return false;
-            }
-            j += 1;
-        } else {
-            if !is_allowed(table.rows[i]) {
-                return false;
-            }
-            i += 1;
-            j = i + 1;
-        }
-    }
-    true
-}
-
-// Whether the rows not in use are all 0.
-fn rest_is_zero(table: Table) -> bool
-    requires { ⌜ table .count ≤ most ⌝ }
-    ensures { λ r. ⌜ r ≡ allZero (drop (table .count) (table .rows)) ⌝ }
-{
-    let mut i = table.count;
-    while i < ROWS {
-        if is_zero(table.rows[i]) {
-            i += 1;
-        } else {
-            return false;
-        }
-    }
-    true
-}
-
-// Whether row 14 of 01's table lets a table pass.
+// Whether row 14 of 01's table lets a table pass. An address whose last octet was not met is new, and only another is looked for: so
+// most rows are looked at once. The rows in use and the others are in one loop, since a function that reads a table's rows copies them.
 pub fn is_valid(table: Table) -> bool
     ensures { λ r. ⌜ r ≡ valid table ⌝ }
 {
-    if table.count > ROWS {
+    let count = table.count;
+    if count > ROWS {
         return false;
     }
-    if rows_hold(table) {
-        return rest_is_zero(table);
+    let mut met = [false; 256];
+    let mut i = 0;
+    while i < ROWS {
+        let row = table.rows[i];
+        if i < count {
+            if !is_allowed(row) {
+                return false;
+            }
+            let slot = (row.address % 256) as usize;
+            if met[slot] && find(table, row.address) < i {
+                return false;
+            }
+            met[slot] = true;
+            i += 1;
+        } else {
+            if !is_zero(row) {
+                return false;
+            }
+            i += 1;
+        }
     }
-    false
+    true
 }
 
 // What every call asks first: the table, then the address.

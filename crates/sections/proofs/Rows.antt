@@ -3,6 +3,7 @@
 --     row-is       a row by its four numbers
 --     row-none     past the end a row is all 0
 --     earlier-here, earlier-next, earlier-none     a loop that looks for an address among the earlier rows, the last first
+--     row-new, row-marked     the marks of last octets of addresses: a row whose one is not marked is new; a row more
 --     fits-flags, fits-zero, fits-not, fits-is     whether a row fits, by the octets that code reads
 --     RowsLeft     where a loop over the rows stands: rows-start, rows-bad, rows-next, rows-end
 -- Assumes nothing.
@@ -14,7 +15,7 @@ use native.Mathlib.Nat.{add-zero, mul-zero, mul-suc}
 use native.Mathlib.Numerals.{add-one}
 use native.Mathlib.Omega.{arith}
 use borrow.Author.Tests.{lt-ltb, le-ltb, eq-eqb, ne-eqb}
-use lib.ListN.{length, getD}
+use lib.ListN.{length, getD, set}
 use lib.Dec.{eqb, ltb}
 use Rattle.octets.specs.Octets.{value, numberAt}
 use Rattle.octets.proofs.Laws.{number-is}
@@ -23,6 +24,7 @@ use Rattle.format.specs.Family.{Family}
 use Rattle.format.specs.Outcome.{gives, refuses, refuseIf, _>>_}
 use Rattle.neighbours.specs.Rows.{addressOf, noRow, allowed, has}
 use Rattle.neighbours.specs.declared.Neighbour.{Neighbour}
+use Rattle.neighbours.proofs.Slots.{Marked, marked-new, marked-next}
 use Rattle.sections.specs.Layout.{rowSize}
 use Rattle.sections.specs.Contents.{flagsAt, rowAt}
 use Rattle.sections.specs.Checking.{fault, rowForm, rowFits, checkRows}
@@ -68,6 +70,15 @@ module _ (f : Family) (a : ℕ) (o : List ℕ) (from i : ℕ) {w : Bool} (so : h
   earlier-none h =
       let none : i ≡ 0 = omega arith in
       rw none at so
+
+module _ (f : Family) (o : List ℕ) (from i : ℕ) {x : ℕ} {met : List Bool} (m : Marked (earlierRows f o from i) met) (is : x ≡ numberAt (f .width) o (from + rowSize f * i)) where
+  pub row-new : (d : Bool) → getD met (x % 256) d ≡ false → has (addressOf (rowAt f o (from + rowSize f * i))) (earlierRows f o from i) ≡ false
+  unfolding rowAt
+  row-new d e = rw (← is) (marked-new m x d e)
+
+  pub row-marked : Marked (earlierRows f o from (i + 1)) (set met (x % 256) true)
+  unfolding earlierRows has rowAt
+  row-marked = rw (add-one, is) (marked-next m (rowAt f o (from + rowSize f * i)) _ (λ a. refl))
 
 -- ---- one row
 

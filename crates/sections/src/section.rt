@@ -13,14 +13,15 @@ use format::Kind;
 use neighbours::is_allowed;
 use octets::number32;
 ghost use mathlib.Core.Path.{_≡_};
-ghost use mathlib.Core.Bool.{true};
+ghost use mathlib.Core.Bool.{true, false};
 ghost use mathlib.Core.List.{[]};
 ghost use Prim.Native.Nat.{_+_, _*_, _≤_};
 ghost use lib.ListN.{length};
 ghost use Rattle.format.specs.Family.{ipv4};
-ghost use Rattle.neighbours.specs.Rows.{has};
+ghost use Rattle.neighbours.specs.Rows.{addressOf, has};
 ghost use Rattle.entries.specs.Kinds.{entriesFor};
 ghost use Rattle.sections.specs.Layout.{layoutOf, end};
+ghost use Rattle.sections.specs.Contents.{rowAt};
 ghost use Rattle.sections.specs.Checking.{countsAllowed, checkEntries, rowFits, checkRows};
 ghost use Rattle.sections.specs.Sections.{earlierRows, checkSections, sectionBy};
 
@@ -60,9 +61,9 @@ fn is_earlier(o: &[u8], from: usize, count: usize, address: u32) -> bool
     false
 }
 
-// Whether a row is one that a sheet may hold after the rows before it.
-fn row_fits(o: &[u8], from: usize, i: usize) -> bool
-    requires { ⌜ from + 12 * i + 12 ≤ length (now o) ⌝ }
+// Whether a row is one that a sheet may hold after the rows before it. Where no address before it has its last octet, its own is new.
+fn row_fits(o: &[u8], from: usize, i: usize, met: bool) -> bool
+    requires { ⌜ (from + 12 * i + 12 ≤ length (now o)) × (met ≡ false → has (addressOf (rowAt ipv4 (now o) (from + 12 * i))) (earlierRows ipv4 (now o) from i) ≡ false) ⌝ }
     ensures { λ r. ⌜ r ≡ rowFits ipv4 (now (o .entry)) (from + 12 * i) (earlierRows ipv4 (now (o .entry)) from i) ⌝ }
 {
     let at = from + ROW * i;
@@ -73,22 +74,29 @@ fn row_fits(o: &[u8], from: usize, i: usize) -> bool
         return false;
     }
     let row = row_at(o, at);
-    if is_allowed(row) {
+    if !is_allowed(row) {
+        return false;
+    }
+    if met {
         return !is_earlier(o, from, i, row.address);
     }
-    false
+    true
 }
 
-// So many rows from a place on.
+// So many rows from a place on. The last octets of their addresses are marked, so that only few rows are compared with others.
 fn check_rows(o: &[u8], from: usize, count: usize) -> Section
     requires { ⌜ from + 12 * count ≤ length (now o) ⌝ }
     ensures { λ r. ⌜ sectionBy r ≡ checkRows ipv4 (now (o .entry)) [] from count ⌝ }
 {
+    let mut met = [false; 256];
     let mut i = 0;
     while i < count {
-        if !row_fits(o, from, i) {
-            return Section::Fault(from + ROW * i);
+        let at = from + ROW * i;
+        let last = (number32(o, at) % 256) as usize;
+        if !row_fits(o, from, i, met[last]) {
+            return Section::Fault(at);
         }
+        met[last] = true;
         i += 1;
     }
     Section::Sound

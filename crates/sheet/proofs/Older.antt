@@ -32,7 +32,7 @@ use Rattle.sections.specs.declared.layout.Form.the-variants.{Base, Large}
 use Rattle.sections.proofs.Header.{counts-within, header-short, header-front, header-counts, InOrder, in-order}
 use Rattle.sheet.specs.Calls.{readSheet}
 use Rattle.sheet.specs.RoundTrip.{WritesBack}
-use Rattle.sheet.specs.Older.{countsBefore, headerBefore, checkBefore, CallBefore, givenBefore, readBefore, asBefore, E6}
+use Rattle.sheet.specs.Older.{countsBefore, allowedBefore, offsetsBefore, headerBefore, checkBefore, CallBefore, givenBefore, readBefore, asBefore, E6}
 use Rattle.sheet.proofs.Again.{checked}
 use Rattle.sheet.proofs.Gathered.{read-bad, read-short, read-short-pairs, read-fine}
 use Rattle.sheet.proofs.RoundTrip.{written-by, ipv4-round-trip}
@@ -40,7 +40,7 @@ use Rattle.sheet.proofs.RoundTrip.{written-by, ipv4-round-trip}
 -- ---- 01's layout, by its figures
 
 check-same : (o : List ℕ) → checkBefore o ≡ checking base ipv4 o
-unfolding checkBefore headerBefore countsBefore checking checkHeader begins numberIn countsIn countsAllowed offsetsAgree pairsFrom rowsFrom end fault numberAt value refuseIf _>>_
+unfolding checkBefore headerBefore countsBefore allowedBefore offsetsBefore checking checkHeader begins numberIn countsIn countsAllowed offsetsAgree pairsFrom rowsFrom end fault numberAt value refuseIf _>>_
 check-same o = refl
 
 form-base : (o : List ℕ) → (numberAt 2 o 0 ≡ 0xFFFF → ⊥) → formOf o ≡ Base
@@ -181,7 +181,7 @@ pub old-octets : Octets old-sheet
 old-octets = number 48 _ .below
 
 pub old-checks : checkBefore old-sheet ≡ gives old-counts
-unfolding checkBefore headerBefore countsBefore checkEntries checkRows rowFits rowForm rowAt flagsAt assertAt pairAt allowedAssert allowedPair mayBeSource allowed has fault numberAt value be refuseIf _>>=_ _>>_
+unfolding checkBefore headerBefore countsBefore allowedBefore offsetsBefore checkEntries checkRows rowFits rowForm rowAt flagsAt assertAt pairAt allowedAssert allowedPair mayBeSource allowed has fault numberAt value be refuseIf _>>=_ _>>_
 old-checks = refl
 
 pub old-reads : (da dp : List ℕ) → 16 ≤ length da → 8 ≤ length dp → readBefore old-sheet da dp .answer ≡ gives old-counts

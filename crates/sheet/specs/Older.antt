@@ -1,5 +1,5 @@
 -- Sheets of 01's form: what they were read as before E6, and the claims that they still are.
---     countsBefore, headerBefore, checkBefore     a sheet checked, with 01's figures
+--     countsBefore, allowedBefore, offsetsBefore, headerBefore, checkBefore     a sheet checked, with 01's figures
 --     CallBefore, givenBefore, readBefore         a sheet read: the answer, the two lent buffers, and the neighbours in the table
 --     asBefore                                    what of a call of now a call of before gave
 --     E6                                          the claims
@@ -7,7 +7,7 @@
 -- definitions.
 use Prim.Native.Nat.{ℕ, _+_, _*_, _≤_, _<_}
 use mathlib.Core.Path.{_≡_}
-use mathlib.Core.Bool.{not, _&&_, _||_}
+use mathlib.Core.Bool.{Bool, not, _&&_, _||_}
 use mathlib.Core.List.{List, []}
 use lib.ListN.{length, take, drop}
 use lib.Dec.{eqb, leb, ltb}
@@ -30,20 +30,25 @@ use Rattle.sheet.specs.RoundTrip.{WritesBack}
 unfoldable pub countsBefore : List ℕ → Counts
 countsBefore o = record { asserts = numberAt 2 o 0; pairs = numberAt 2 o 4; neighbours = numberAt 2 o 8 }
 
--- "in the order: header there, counts, offsets and end (place 0)"; "At most 1,024, 1,024 and 16 entries"
+-- "At most 1,024, 1,024 and 16 entries"
+unfoldable pub allowedBefore : Counts → Bool
+allowedBefore c = leb (c .asserts) 1024 && (leb (c .pairs) 1024 && leb (c .neighbours) 16)
+
+-- "then the three sections in that order, without gaps, to the end"
+unfoldable pub offsetsBefore : List ℕ → Counts → Bool
+offsetsBefore o c =
+    eqb (numberAt 2 o 2) 12
+    && (eqb (numberAt 2 o 6) (12 + 16 * c .asserts)
+    && (eqb (numberAt 2 o 10) (12 + 16 * c .asserts + 8 * c .pairs)
+    && eqb (length o) (12 + 16 * c .asserts + 8 * c .pairs + 12 * c .neighbours)))
+
+-- "in the order: header there, counts, offsets and end (place 0)"
 unfoldable pub headerBefore : List ℕ → Outcome Counts
-headerBefore o =
-    let c = countsBefore o in
-    do
-      fault (ltb (length o) 12) 0
-      fault (not (leb (c .asserts) 1024 && (leb (c .pairs) 1024 && leb (c .neighbours) 16))) 0
-      fault (not (
-          eqb (numberAt 2 o 2) 12
-          && (eqb (numberAt 2 o 6) (12 + 16 * c .asserts)
-          && (eqb (numberAt 2 o 10) (12 + 16 * c .asserts + 8 * c .pairs)
-          && eqb (length o) (12 + 16 * c .asserts + 8 * c .pairs + 12 * c .neighbours)))
-          )) 0
-      gives c
+headerBefore o = do
+  fault (ltb (length o) 12) 0
+  fault (not (allowedBefore (countsBefore o))) 0
+  fault (not (offsetsBefore o (countsBefore o))) 0
+  gives (countsBefore o)
 
 -- "then entries in octet order"
 unfoldable pub checkBefore : List ℕ → Outcome Counts
