@@ -28,7 +28,7 @@
 #define FIELD(type, field, at, size) HOLDS(offsetof(type, field) == (at) && sizeof(((type *)0)->field) == (size))
 
 /* Whoever changes a size, an offset, a constant or a place that is asserted here raises the version. */
-HOLDS(PIM_VERSION == 7);
+HOLDS(PIM_VERSION == 8);
 
 HOLDS(sizeof(size_t) == 8);
 HOLDS(sizeof(bool) == 1);
@@ -87,14 +87,14 @@ FIELD(pim_neighbour, has_priority, 8, 1);
 FIELD(pim_neighbour, packs, 9, 1);
 FIELD(pim_neighbour, holdtime, 10, 2);
 
-HOLDS(sizeof(pim_table) == 200);
-FIELD(pim_table, rows, 0, 192);
-FIELD(pim_table, count, 192, 8);
+HOLDS(sizeof(pim_table) == 776);
+FIELD(pim_table, rows, 0, 768);
+FIELD(pim_table, count, 768, 8);
 
-HOLDS(sizeof(pim_table_answer) == 224);
+HOLDS(sizeof(pim_table_answer) == 800);
 FIELD(pim_table_answer, refusal, 0, 16);
-FIELD(pim_table_answer, table, 16, 200);
-FIELD(pim_table_answer, done, 216, 1);
+FIELD(pim_table_answer, table, 16, 776);
+FIELD(pim_table_answer, done, 792, 1);
 
 HOLDS(sizeof(pim_allowed_answer) == 24);
 FIELD(pim_allowed_answer, refusal, 0, 16);
@@ -176,10 +176,10 @@ HOLDS(sizeof(pim_check_answer) == 40);
 FIELD(pim_check_answer, refusal, 0, 16);
 FIELD(pim_check_answer, counts, 16, 24);
 
-HOLDS(sizeof(pim_sheet_answer) == 240);
+HOLDS(sizeof(pim_sheet_answer) == 816);
 FIELD(pim_sheet_answer, refusal, 0, 16);
 FIELD(pim_sheet_answer, counts, 16, 24);
-FIELD(pim_sheet_answer, table, 40, 200);
+FIELD(pim_sheet_answer, table, 40, 776);
 
 /* ---- constants, each from the rule book's own words */
 
@@ -194,17 +194,17 @@ HOLDS(PIM_USUAL_LIMIT == 576 - 20);
 HOLDS(PIM_R_BIT == 0xffffffffu - 0x7fffffffu);
 HOLDS(PIM_USUAL_HOLDTIME == 105);
 HOLDS(PIM_LONGEST_HELLO == 4 + (2 + 2 + 2) + (2 + 2 + 4) + (2 + 2));
-HOLDS(PIM_ROWS == 16);
+HOLDS(PIM_ROWS == 64);
 HOLDS(PIM_NUMBERS == PIM_BAD_SHEET + 1);
 HOLDS(PIM_LONGEST_LEFT == 2 + 0xffff - 1);
 HOLDS(PIM_POPCOUNT_SHORTEST == 2 + 6);
 HOLDS(PIM_POPCOUNT_LONGEST == 2 + 255);
 HOLDS(PIM_POPCOUNT_MERGED == 2 + 6 + 4 + 4 + 2 + 2 + 1 + 1);
-HOLDS(PIM_SHEET_HEADER == 3 * (2 + 2));
+HOLDS(PIM_SHEET_HEADER == 2 + 2 + 3 * (4 + 4));
 HOLDS(PIM_SHEET_ROW == 4 + 4 + 1 + 1 + 2);
-HOLDS(PIM_SHEET_ASSERTS == 1024);
-HOLDS(PIM_SHEET_PAIRS == 1024);
-HOLDS(PIM_LONGEST_SHEET == 12 + 1024 * 16 + 1024 * 8 + 16 * 12);
+HOLDS(PIM_SHEET_ASSERTS == 8192);
+HOLDS(PIM_SHEET_PAIRS == 8192);
+HOLDS(PIM_LONGEST_SHEET == 28 + 8192 * 16 + 8192 * 8 + 64 * 12);
 
 /* S 1, A 2, t 4, a 8, P 16 */
 HOLDS(PIM_POPCOUNT_FLAG_SSM == 1);
@@ -1133,25 +1133,80 @@ static void hearing(void)
     EXPECT(accepted(t.refusal) && t.done == PIM_FORGOTTEN && t.table.count == 0 && unused(&t.table, 0));
 }
 
-static void full_and_bad_tables(void)
+/* 64 rows, and no 65th before one of them is forgotten. */
+static void full_tables(void)
 {
+    const pim_hello nine = {210, true, 9, true};
     pim_table_answer t;
     uint32_t i;
 
     t.table = CALLED(pim_table_empty());
-    for (i = 1; i <= PIM_ROWS; i++) {
+    for (i = 1; i <= 64; i++) {
         t = CALLED(pim_hear(t.table, i, five));
-        EXPECT(accepted(t.refusal) && t.table.count == i);
+        EXPECT(accepted(t.refusal) && t.done == PIM_ADDED && t.table.count == i && unused(&t.table, i));
     }
-    t = CALLED(pim_hear(t.table, 17, five));
-    EXPECT(refused(t.refusal, PIM_TABLE_FULL, 0) && t.table.count == 16 && row_is(t.table.rows[15], 16, &five));
+    t = CALLED(pim_hear(t.table, 65, five));
+    EXPECT(refused(t.refusal, PIM_TABLE_FULL, 0) && t.done == PIM_NOTHING_DONE && t.table.count == 64);
+    for (i = 1; i <= 64; i++)
+        EXPECT(row_is(t.table.rows[i - 1], i, &five));
     EXPECT(CALLED(pim_packing_allowed(t.table)).allowed);
+    EXPECT(CALLED(pim_elect(t.table, 65, 4)).address == 64);
 
-    t.table.rows[3].holdtime = 0;
-    EXPECT(refused(CALLED(pim_hear(t.table, 0, five)).refusal, PIM_BAD_SHEET, 0));
-    EXPECT(refused(CALLED(pim_forget(t.table, 1)).refusal, PIM_BAD_SHEET, 0));
-    EXPECT(refused(CALLED(pim_packing_allowed(t.table)).refusal, PIM_BAD_SHEET, 0));
-    EXPECT(refused(CALLED(pim_elect(t.table, 1, 1)).refusal, PIM_BAD_SHEET, 0));
+    t = CALLED(pim_hear(t.table, 64, nine)); /* the last row is replaced */
+    EXPECT(accepted(t.refusal) && t.done == PIM_REPLACED && t.table.count == 64);
+    t = CALLED(pim_forget(t.table, 17));
+    EXPECT(accepted(t.refusal) && t.done == PIM_FORGOTTEN && t.table.count == 63 && unused(&t.table, 63));
+    EXPECT(row_is(t.table.rows[15], 16, &five) && row_is(t.table.rows[16], 18, &five));
+    EXPECT(row_is(t.table.rows[62], 64, &nine));
+    t = CALLED(pim_hear(t.table, 65, five)); /* the row that is free again */
+    EXPECT(accepted(t.refusal) && t.done == PIM_ADDED && t.table.count == 64 && row_is(t.table.rows[63], 65, &five));
+    EXPECT(CALLED(pim_elect(t.table, 66, 4)).address == 64);
+    EXPECT(refused(CALLED(pim_hear(t.table, 17, five)).refusal, PIM_TABLE_FULL, 0));
+}
+
+/* Every call refuses the table, whatever else is wrong. */
+static void bad_table(const pim_table *table)
+{
+    pim_table_answer t = CALLED(pim_hear(*table, 0, five));
+
+    EXPECT(refused(t.refusal, PIM_BAD_SHEET, 0) && t.done == PIM_NOTHING_DONE && t.table.count == table->count);
+    EXPECT(refused(CALLED(pim_forget(*table, 0)).refusal, PIM_BAD_SHEET, 0));
+    EXPECT(refused(CALLED(pim_packing_allowed(*table)).refusal, PIM_BAD_SHEET, 0));
+    EXPECT(refused(CALLED(pim_elect(*table, 0, 1)).refusal, PIM_BAD_SHEET, 0));
+    EXPECT(refused(CALLED(pim_write_sheet(NULL, 0, NULL, 0, *table, NULL, 0)).refusal, PIM_BAD_SHEET, 0));
+}
+
+/* A good table has 64 rows at most; in each row in turn there is a fault, and an address is given twice. */
+static void bad_tables(void)
+{
+    const pim_table empty = CALLED(pim_table_empty());
+    pim_table full = empty, bad;
+    size_t i;
+
+    for (i = 0; i < 64; i++)
+        full = CALLED(pim_hear(full, (uint32_t)(i + 1), five)).table;
+    for (i = 0; i < 64; i++) {
+        bad = full;
+        bad.rows[i].holdtime = 0;
+        bad_table(&bad);
+        bad = full;
+        bad.rows[i].has_priority = false; /* and the priority stays */
+        bad_table(&bad);
+        bad = full;
+        bad.rows[i].address = bad.rows[(i + 1) % 64].address;
+        bad_table(&bad);
+        bad = full;
+        bad.count = i; /* the row is not in use, and not 0 */
+        bad_table(&bad);
+        bad = empty;
+        bad.rows[i].packs = true;
+        bad_table(&bad);
+    }
+    bad = full;
+    bad.count = 65;
+    bad_table(&bad);
+    bad.count = (size_t)-1;
+    bad_table(&bad);
 }
 
 /* Priorities 5 and 9: the 9. A third without priority: the highest address of three. */
@@ -1175,28 +1230,28 @@ static void elections(void)
 /* More rows than a table holds, and such as no table may hold: only addresses are tested. */
 static void elections_among(void)
 {
-    pim_neighbour rows[40];
+    pim_neighbour rows[80];
     pim_elect_answer e;
     size_t i;
 
     memset(rows, 0, sizeof rows);
-    for (i = 0; i < 40; i++) {
+    for (i = 0; i < 80; i++) {
         rows[i].address = (uint32_t)(i + 1);
         rows[i].priority = (uint32_t)(i == 22 ? 9 : 5);
         rows[i].has_priority = true;
     }
-    rows[39].address = 1; /* there twice, and no row has a holdtime */
-    e = CALLED(pim_elect_among(rows, 40));
+    rows[79].address = 1; /* there twice, and no row has a holdtime */
+    e = CALLED(pim_elect_among(rows, 80));
     EXPECT(accepted(e.refusal) && e.address == 23);
     e = CALLED(pim_elect_among(rows, 22)); /* equal priorities: the highest address */
     EXPECT(accepted(e.refusal) && e.address == 22);
     rows[0].has_priority = false;
-    e = CALLED(pim_elect_among(rows, 40));
-    EXPECT(accepted(e.refusal) && e.address == 39);
+    e = CALLED(pim_elect_among(rows, 80));
+    EXPECT(accepted(e.refusal) && e.address == 79);
     e = CALLED(pim_elect_among(rows, 1));
     EXPECT(accepted(e.refusal) && e.address == 1);
-    rows[39].address = 0;
-    e = CALLED(pim_elect_among(rows, 40));
+    rows[79].address = 0;
+    e = CALLED(pim_elect_among(rows, 80));
     EXPECT(refused(e.refusal, PIM_BAD_ADDRESS, 0) && e.address == 0);
     e = CALLED(pim_elect_among(rows, 0));
     EXPECT(refused(e.refusal, PIM_ABSENT, 0) && e.address == 0);
@@ -1507,84 +1562,339 @@ static void attributes_at_fault(void)
 /* ---- the stored sheet */
 
 /* One assert, one pair with source 0, one neighbour: 10.0.0.2, priority 5, packs, holdtime 105. */
-static const uint8_t sheet[48] = {0,    1, 0, 12, 0,    1, 0, 28,   0, 1, 0, 36,   0xe8, 1, 1, 1,
-                                  0x0a, 0, 0, 1,  0,    0, 0, 0x6e, 0, 0, 0, 0x14, 0xe8, 1, 1, 2,
-                                  0,    0, 0, 0,  0x0a, 0, 0, 2,    0, 0, 0, 5,    3,    0, 0, 105};
+#define SECTIONS                                                                                                       \
+    0xe8, 1, 1, 1, 0x0a, 0, 0, 1, 0, 0, 0, 0x6e, 0, 0, 0, 0x14, 0xe8, 1, 1, 2, 0, 0, 0, 0, 0x0a, 0, 0, 2, 0, 0, 0, 5,  \
+        3, 0, 0, 105
+
+/* They begin at 28, 44 and 52; in the old form at 12, 28 and 36. */
+static const uint8_t sheet[64] = {0xff, 0xff, 0, 2, 0,  0, 0, 1, 0, 0, 0, 28, 0,  0,       0,
+                                  1,    0,    0, 0, 44, 0, 0, 0, 1, 0, 0, 0,  52, SECTIONS};
+static const uint8_t old_sheet[48] = {0, 1, 0, 12, 0, 1, 0, 28, 0, 1, 0, 36, SECTIONS};
+
+/* Nothing at all, in each form. */
+static const uint8_t no_entries[28] = {0xff, 0xff, 0, 2, 0, 0,  0, 0, 0, 0, 0, 28, 0, 0,
+                                       0,    0,    0, 0, 0, 28, 0, 0, 0, 0, 0, 0,  0, 28};
+static const uint8_t old_no_entries[12] = {0, 0, 0, 12, 0, 0, 0, 12, 0, 0, 0, 12};
+
+/* A sheet, and the octets of its header. */
+typedef struct {
+    const uint8_t *octets;
+    size_t n, header;
+} sheet_form;
+
+enum { FORMS = 2 };
+static const sheet_form forms[FORMS] = {{sheet, sizeof sheet, 28}, {old_sheet, sizeof old_sheet, 12}};
 
 static pim_table one_row(void)
 {
     return CALLED(pim_hear(CALLED(pim_table_empty()), 0x0a000002, five)).table;
 }
 
+/* Both reading calls refuse by 14 at a place. */
+static void bad_sheet(const uint8_t *o, size_t n, size_t place)
+{
+    pim_check_answer c = CALLED(pim_check_sheet(o, n));
+    pim_sheet_answer s = CALLED(pim_read_sheet(o, n, NULL, 0, NULL, 0));
+
+    EXPECT(refused(c.refusal, PIM_BAD_SHEET, place) && c.counts.asserts == 0 && c.counts.neighbours == 0);
+    EXPECT(refused(s.refusal, PIM_BAD_SHEET, place) && s.counts.pairs == 0 && s.table.count == 0);
+}
+
+/* Either form gives the same, and that is written in the new form. */
 static void sheets_read(void)
 {
-    uint8_t o[48], asserts[20], pairs[12];
-    pim_check_answer c = CALLED(pim_check_sheet(sheet, sizeof sheet));
+    size_t f;
+
+    for (f = 0; f < FORMS; f++) {
+        const uint8_t *o = forms[f].octets, *sections = o + forms[f].header;
+        uint8_t asserts[20], pairs[12], buffer[64];
+        pim_check_answer c = CALLED(pim_check_sheet(o, forms[f].n));
+        pim_sheet_answer s;
+        pim_length_answer l;
+
+        EXPECT(accepted(c.refusal) && c.counts.asserts == 1 && c.counts.pairs == 1 && c.counts.neighbours == 1);
+        memset(asserts, UNTOUCHED, sizeof asserts);
+        memset(pairs, UNTOUCHED, sizeof pairs);
+        s = CALLED(pim_read_sheet(o, forms[f].n, asserts, 15, pairs, 8));
+        EXPECT(refused(s.refusal, PIM_NO_ROOM, 0) && s.counts.asserts == 0);
+        EXPECT(s.table.count == 0 && unused(&s.table, 0));
+        s = CALLED(pim_read_sheet(o, forms[f].n, asserts, 16, pairs, 7));
+        EXPECT(refused(s.refusal, PIM_NO_ROOM, 0) && untouched(asserts, 0, 20) && untouched(pairs, 0, 12));
+        s = CALLED(pim_read_sheet(o, forms[f].n, asserts, sizeof asserts, pairs, sizeof pairs));
+        EXPECT(accepted(s.refusal) && s.counts.asserts == 1 && s.counts.pairs == 1 && s.counts.neighbours == 1);
+        EXPECT(memcmp(asserts, sections, 16) == 0 && untouched(asserts, 16, 20));
+        EXPECT(memcmp(pairs, sections + 16, 8) == 0 && untouched(pairs, 8, 12));
+        EXPECT(s.table.count == 1 && row_is(s.table.rows[0], 0x0a000002, &five) && unused(&s.table, 1));
+
+        l = CALLED(pim_write_sheet(asserts, 16, pairs, 8, s.table, buffer, sizeof buffer));
+        EXPECT(accepted(l.refusal) && l.length == sizeof sheet && memcmp(buffer, sheet, sizeof sheet) == 0);
+    }
+}
+
+/* The entries of either form at fault: the place is the entry's first octet. */
+static void sheet_entries_at_fault(void)
+{
+    /* counted from the end of the header: the octet that changes, its value, and the entry */
+    static const struct {
+        size_t at;
+        uint8_t value;
+        size_t entry;
+    } faults[] = {{0, 0xdf, 0},    {16, 0xf0, 16},  {20, 0xe0, 16},  {24 + 8, 4, 24},
+                  {24 + 8, 2, 24}, {24 + 9, 1, 24}, {24 + 11, 0, 24}};
+    uint8_t o[64];
+    size_t f, i;
+
+    for (f = 0; f < FORMS; f++)
+        for (i = 0; i < sizeof faults / sizeof faults[0]; i++) {
+            memcpy(o, forms[f].octets, forms[f].n);
+            o[forms[f].header + faults[i].at] = faults[i].value;
+            bad_sheet(o, forms[f].n, forms[f].header + faults[i].entry);
+        }
+}
+
+/* Every octet of the header with every other value, every cut, and octets more. */
+static void sheet_header_at_fault(const sheet_form *good)
+{
+    uint8_t o[70];
+    size_t i, value;
+
+    memset(o, 0, sizeof o);
+    memcpy(o, good->octets, good->n);
+    for (i = 0; i < good->header; i++) {
+        for (value = 0; value < 256; value++) {
+            o[i] = (uint8_t)value;
+            if (o[i] != good->octets[i])
+                bad_sheet(o, good->n, 0);
+        }
+        o[i] = good->octets[i];
+    }
+    for (i = 0; i < sizeof o; i++)
+        if (i != good->n)
+            bad_sheet(o, i, 0);
+    EXPECT(accepted(CALLED(pim_check_sheet(o, good->n)).refusal));
+}
+
+/* An empty section's offset is exact too. */
+static void sheet_headers_at_fault(void)
+{
+    static const sheet_form empty[FORMS] = {{no_entries, sizeof no_entries, 28},
+                                            {old_no_entries, sizeof old_no_entries, 12}};
+    size_t f;
+
+    for (f = 0; f < FORMS; f++) {
+        sheet_header_at_fault(&forms[f]);
+        sheet_header_at_fault(&empty[f]);
+    }
+}
+
+/* Only 1 is the first word of the old sheet, only 0xffff that of the new one, and only 2 may follow that. */
+static void first_words(void)
+{
+    uint8_t o[64];
+    size_t f, word;
+
+    for (word = 0; word < 0x10000; word++) {
+        for (f = 0; f < FORMS; f++) {
+            memcpy(o, forms[f].octets, forms[f].n);
+            o[0] = (uint8_t)(word >> 8);
+            o[1] = (uint8_t)word;
+            if (word != (f == 0 ? 0xffff : 1))
+                bad_sheet(o, forms[f].n, 0);
+        }
+        memcpy(o, sheet, sizeof sheet);
+        o[2] = (uint8_t)(word >> 8);
+        o[3] = (uint8_t)word;
+        if (word != 2)
+            bad_sheet(o, sizeof sheet, 0);
+    }
+}
+
+/* One assert, two pairs and three neighbours, every field another one; at 28, 44 and 60. */
+static void sheets_octet_by_octet(void)
+{
+    static const uint8_t octets[96] = {
+        0xff, 0xff, 0x00, 0x02, 0x00, 0x00, 0x00, 0x01, 0x00, 0x00, 0x00, 0x1c, 0x00, 0x00, 0x00, 0x02,
+        0x00, 0x00, 0x00, 0x2c, 0x00, 0x00, 0x00, 0x03, 0x00, 0x00, 0x00, 0x3c, 0xe1, 0x02, 0x03, 0x04,
+        0x05, 0x06, 0x07, 0x08, 0x89, 0x0a, 0x0b, 0x0c, 0x0d, 0x0e, 0x0f, 0x10, 0xee, 0x11, 0x12, 0x13,
+        0x14, 0x15, 0x16, 0x17, 0xef, 0x18, 0x19, 0x1a, 0x1b, 0x1c, 0x1d, 0x1e, 0x1f, 0x20, 0x21, 0x22,
+        0x23, 0x24, 0x25, 0x26, 0x01, 0x00, 0x27, 0x28, 0x29, 0x2a, 0x2b, 0x2c, 0x2d, 0x2e, 0x2f, 0x30,
+        0x03, 0x00, 0x31, 0x32, 0x33, 0x34, 0x35, 0x36, 0x00, 0x00, 0x00, 0x00, 0x02, 0x00, 0x37, 0x38};
+    static const pim_hello said[3] = {
+        {0x2728, true, 0x23242526, false}, {0x3132, true, 0x2d2e2f30, true}, {0x3738, false, 0, true}};
+    static const uint32_t addresses[3] = {0x1f202122, 0x292a2b2c, 0x33343536};
+    uint8_t buffer[100], asserts[16], pairs[16];
+    pim_table table = CALLED(pim_table_empty());
+    pim_length_answer l;
     pim_sheet_answer s;
+    size_t i;
 
-    EXPECT(accepted(c.refusal) && c.counts.asserts == 1 && c.counts.pairs == 1 && c.counts.neighbours == 1);
-    memset(asserts, UNTOUCHED, sizeof asserts);
-    memset(pairs, UNTOUCHED, sizeof pairs);
-    s = CALLED(pim_read_sheet(sheet, sizeof sheet, asserts, 15, pairs, 8));
-    EXPECT(refused(s.refusal, PIM_NO_ROOM, 0) && s.counts.asserts == 0 && s.table.count == 0 && unused(&s.table, 0));
-    s = CALLED(pim_read_sheet(sheet, sizeof sheet, asserts, 16, pairs, 7));
-    EXPECT(refused(s.refusal, PIM_NO_ROOM, 0) && untouched(asserts, 0, 20) && untouched(pairs, 0, 12));
-    s = CALLED(pim_read_sheet(sheet, sizeof sheet, asserts, sizeof asserts, pairs, sizeof pairs));
-    EXPECT(accepted(s.refusal) && s.counts.asserts == 1 && s.counts.pairs == 1 && s.counts.neighbours == 1);
-    EXPECT(memcmp(asserts, sheet + 12, 16) == 0 && untouched(asserts, 16, 20));
-    EXPECT(memcmp(pairs, sheet + 28, 8) == 0 && untouched(pairs, 8, 12));
-    EXPECT(s.table.count == 1 && row_is(s.table.rows[0], 0x0a000002, &five) && unused(&s.table, 1));
-
-    memcpy(o, sheet, sizeof o);
-    o[44] = 4; /* no such flag, and the priority's flag is gone */
-    EXPECT(refused(CALLED(pim_check_sheet(o, sizeof o)).refusal, PIM_BAD_SHEET, 36));
-    s = CALLED(pim_read_sheet(o, sizeof o, asserts, 0, pairs, 0));
-    EXPECT(refused(s.refusal, PIM_BAD_SHEET, 36) && s.table.count == 0);
-    c = CALLED(pim_check_sheet(sheet, 47));
-    EXPECT(refused(c.refusal, PIM_BAD_SHEET, 0) && c.counts.asserts == 0);
+    for (i = 0; i < 3; i++)
+        table = CALLED(pim_hear(table, addresses[i], said[i])).table;
+    memset(buffer, UNTOUCHED, sizeof buffer);
+    l = CALLED(pim_write_sheet(octets + 28, 16, octets + 44, 16, table, buffer, 95));
+    EXPECT(refused(l.refusal, PIM_NO_ROOM, 0) && l.length == 0 && untouched(buffer, 0, sizeof buffer));
+    l = CALLED(pim_write_sheet(octets + 28, 16, octets + 44, 16, table, buffer, sizeof buffer));
+    EXPECT(accepted(l.refusal) && l.length == 96 && untouched(buffer, 96, sizeof buffer));
+    for (i = 0; i < 96; i++)
+        EXPECT(buffer[i] == octets[i]);
+    s = CALLED(pim_read_sheet(octets, sizeof octets, asserts, 16, pairs, 16));
+    EXPECT(accepted(s.refusal) && s.counts.asserts == 1 && s.counts.pairs == 2 && s.counts.neighbours == 3);
+    EXPECT(memcmp(asserts, octets + 28, 16) == 0 && memcmp(pairs, octets + 44, 16) == 0);
+    EXPECT(s.table.count == 3 && unused(&s.table, 3));
+    for (i = 0; i < 3; i++)
+        EXPECT(row_is(s.table.rows[i], addresses[i], &said[i]));
 }
 
 static void sheets_written(void)
 {
     static const uint8_t many[PIM_ASSERT_ENTRY * (PIM_SHEET_ASSERTS + 1)] = {0};
-    uint8_t buffer[50], bad[16];
+    const uint8_t *asserts = sheet + 28, *pairs = sheet + 44;
+    uint8_t buffer[66], bad[16];
     pim_table table = one_row();
     pim_length_answer l;
 
     memset(buffer, UNTOUCHED, sizeof buffer);
-    memcpy(bad, sheet + 12, 16);
+    memcpy(bad, asserts, 16);
     bad[0] = 10; /* no group */
     EXPECT(refused(CALLED(pim_write_sheet(bad, 15, bad, 8, table, buffer, 0)).refusal, PIM_BAD_LIST, 0));
-    EXPECT(refused(CALLED(pim_write_sheet(bad, 16, bad, 8, table, buffer, 47)).refusal, PIM_NO_ROOM, 0));
-    EXPECT(refused(CALLED(pim_write_sheet(bad, 16, bad, 8, table, buffer, 48)).refusal, PIM_BAD_ADDRESS, 0));
+    EXPECT(refused(CALLED(pim_write_sheet(bad, 16, bad, 8, table, buffer, 63)).refusal, PIM_NO_ROOM, 0));
+    EXPECT(refused(CALLED(pim_write_sheet(bad, 16, bad, 8, table, buffer, 64)).refusal, PIM_BAD_ADDRESS, 0));
     EXPECT(refused(CALLED(pim_write_sheet(many, sizeof many, bad, 8, table, buffer, 0)).refusal, PIM_BAD_SHEET, 0));
+    l = CALLED(pim_write_sheet(bad, 16, many, PIM_PAIR_ENTRY * (PIM_SHEET_PAIRS + 1), table, buffer, 0));
+    EXPECT(refused(l.refusal, PIM_BAD_SHEET, 0));
     table.rows[1].packs = true; /* a row that is not in use */
-    l = CALLED(pim_write_sheet(sheet + 12, 16, sheet + 28, 8, table, buffer, 50));
-    EXPECT(refused(l.refusal, PIM_BAD_SHEET, 0) && l.length == 0 && untouched(buffer, 0, 50));
+    l = CALLED(pim_write_sheet(asserts, 16, pairs, 8, table, buffer, 66));
+    EXPECT(refused(l.refusal, PIM_BAD_SHEET, 0) && l.length == 0 && untouched(buffer, 0, 66));
     table.rows[1].packs = false;
-    l = CALLED(pim_write_sheet(sheet + 12, 16, sheet + 28, 8, table, buffer, 50));
-    EXPECT(accepted(l.refusal) && l.length == 48 && memcmp(buffer, sheet, 48) == 0 && untouched(buffer, 48, 50));
+    l = CALLED(pim_write_sheet(asserts, 16, pairs, 8, table, buffer, 66));
+    EXPECT(accepted(l.refusal) && l.length == 64 && memcmp(buffer, sheet, 64) == 0 && untouched(buffer, 64, 66));
 }
 
-/* 1,024 asserts, 1,024 pairs and 16 neighbours. */
-static void longest_sheet(void)
+static size_t put_number(uint8_t *o, size_t at, size_t octets, size_t number)
 {
-    static uint8_t asserts[PIM_ASSERT_ENTRY * PIM_SHEET_ASSERTS], pairs[PIM_PAIR_ENTRY * PIM_SHEET_PAIRS];
-    static uint8_t longest[PIM_LONGEST_SHEET];
-    pim_table table = one_row();
-    pim_length_answer l;
     size_t i;
 
-    make_entries(asserts, PIM_SHEET_ASSERTS);
-    for (i = 0; i < PIM_SHEET_PAIRS; i++)
-        put(pairs, PIM_PAIR_ENTRY * i, example_entry, PIM_PAIR_ENTRY);
-    for (i = 1; i < PIM_ROWS; i++)
-        table = CALLED(pim_hear(table, (uint32_t)(0x0a000002 + i), five)).table;
-    l = CALLED(pim_write_sheet(asserts, sizeof asserts, pairs, sizeof pairs, table, longest, sizeof longest - 1));
+    for (i = 0; i < octets; i++)
+        o[at + i] = (uint8_t)(number >> 8 * (octets - 1 - i));
+    return at + octets;
+}
+
+/* Puts a sheet of so many together, in numbers of 16 bits or of 32; the length. Every assert is the example's, every
+ * pair has its group and source, and the neighbours are 10.0.0.1 and so on, as `five` says. */
+static size_t make_sheet(uint8_t *o, size_t octets, size_t asserts, size_t pairs, size_t neighbours)
+{
+    static const uint8_t begin[4] = {0xff, 0xff, 0, 2}, said[8] = {0, 0, 0, 5, 3, 0, 0, 105};
+    size_t at = octets == 2 ? 0 : put(o, 0, begin, 4), first = at + 6 * octets, i;
+
+    at = put_number(o, put_number(o, at, octets, asserts), octets, first);
+    at = put_number(o, put_number(o, at, octets, pairs), octets, first + 16 * asserts);
+    at = put_number(o, put_number(o, at, octets, neighbours), octets, first + 16 * asserts + 8 * pairs);
+    for (i = 0; i < asserts; i++)
+        at = put(o, at, example_entry, 16);
+    for (i = 0; i < pairs; i++)
+        at = put(o, at, example_entry, 8);
+    for (i = 0; i < neighbours; i++)
+        at = put(o, put_number(o, at, 4, 0x0a000001 + i), said, 8);
+    return at;
+}
+
+/* The longest sheet, another one, and all entries that a sheet may have. */
+static uint8_t longest[PIM_LONGEST_SHEET], again[PIM_LONGEST_SHEET];
+static uint8_t all_asserts[PIM_ASSERT_ENTRY * PIM_SHEET_ASSERTS], all_pairs[PIM_PAIR_ENTRY * PIM_SHEET_PAIRS];
+
+/* Each count at its limit, which is read and written in the new form, and one over it, which is refused. */
+static void sheet_limits(void)
+{
+    static const size_t limits[2][3] = {{1024, 1024, 16}, {8192, 8192, 64}};
+    size_t f, i, n;
+
+    for (f = 0; f < 2; f++)
+        for (i = 0; i < 3; i++) {
+            size_t counts[3] = {1, 1, 1}, octets = f == 0 ? 2 : 4;
+            pim_sheet_answer s;
+            pim_length_answer l;
+
+            counts[i] = limits[f][i];
+            n = make_sheet(longest, octets, counts[0], counts[1], counts[2]);
+            s = CALLED(pim_read_sheet(longest, n, all_asserts, sizeof all_asserts, all_pairs, sizeof all_pairs));
+            EXPECT(accepted(s.refusal) && s.counts.asserts == counts[0] && s.counts.pairs == counts[1]);
+            EXPECT(s.counts.neighbours == counts[2] && s.table.count == counts[2] && unused(&s.table, counts[2]));
+            n = make_sheet(longest, 4, counts[0], counts[1], counts[2]);
+            l = CALLED(pim_write_sheet(all_asserts, 16 * counts[0], all_pairs, 8 * counts[1], s.table, again, n));
+            EXPECT(accepted(l.refusal) && l.length == n && memcmp(again, longest, n) == 0);
+            counts[i]++;
+            bad_sheet(longest, make_sheet(longest, octets, counts[0], counts[1], counts[2]), 0);
+        }
+}
+
+/* 1,024 asserts, 1,024 pairs and 16 neighbours: 12 + 16,384 is 0x400c, 8,192 more 0x600c. */
+static void longest_old_sheet(void)
+{
+    static const uint8_t header[12] = {4, 0, 0, 12, 4, 0, 0x40, 12, 0, 16, 0x60, 12};
+    const size_t n = 24780;
+    pim_sheet_counts c;
+
+    EXPECT(make_sheet(longest, 2, 1024, 1024, 16) == n && memcmp(longest, header, 12) == 0);
+    c = CALLED(pim_check_sheet(longest, n)).counts;
+    EXPECT(c.asserts == 1024 && c.pairs == 1024 && c.neighbours == 16);
+    longest[n - 9] = 1; /* the last neighbour: 10.0.0.1 is there twice */
+    bad_sheet(longest, n, n - 12);
+    longest[0x600c - 4] = 224; /* the last pair */
+    bad_sheet(longest, n, 0x600c - 8);
+    longest[0x400c - 12] = 224; /* the last assert */
+    bad_sheet(longest, n, 0x400c - 16);
+    bad_sheet(longest, n - 1, 0);
+}
+
+/* 8,192 asserts, 8,192 pairs and 64 neighbours: 28 + 131,072 is 0x2001c, 65,536 more 0x3001c. */
+static void longest_sheet(void)
+{
+    static const uint8_t header[28] = {0xff, 0xff, 0, 2, 0, 0,  0x20, 0, 0, 0,  0, 28, 0, 0,
+                                       0x20, 0,    0, 2, 0, 28, 0,    0, 0, 64, 0, 3,  0, 28};
+    const size_t n = PIM_LONGEST_SHEET;
+    pim_sheet_answer s;
+    pim_length_answer l;
+
+    EXPECT(make_sheet(longest, 4, 8192, 8192, 64) == n && memcmp(longest, header, 28) == 0);
+    s = CALLED(pim_read_sheet(longest, n, all_asserts, sizeof all_asserts - 1, all_pairs, sizeof all_pairs));
+    EXPECT(refused(s.refusal, PIM_NO_ROOM, 0));
+    s = CALLED(pim_read_sheet(longest, n, all_asserts, sizeof all_asserts, all_pairs, sizeof all_pairs));
+    EXPECT(accepted(s.refusal) && s.counts.asserts == 8192 && s.counts.pairs == 8192 && s.counts.neighbours == 64);
+    EXPECT(row_is(s.table.rows[0], 0x0a000001, &five) && row_is(s.table.rows[63], 0x0a000040, &five));
+    l = CALLED(pim_write_sheet(all_asserts, sizeof all_asserts, all_pairs, sizeof all_pairs, s.table, again, n - 1));
     EXPECT(refused(l.refusal, PIM_NO_ROOM, 0));
-    l = CALLED(pim_write_sheet(asserts, sizeof asserts, pairs, sizeof pairs, table, longest, sizeof longest));
-    EXPECT(accepted(l.refusal) && l.length == PIM_LONGEST_SHEET);
-    EXPECT(accepted(CALLED(pim_check_sheet(longest, sizeof longest)).refusal));
+    l = CALLED(pim_write_sheet(all_asserts, sizeof all_asserts, all_pairs, sizeof all_pairs, s.table, again, n));
+    EXPECT(accepted(l.refusal) && l.length == n && memcmp(again, longest, n) == 0);
+
+    longest[n - 9] = 1; /* the last neighbour: 10.0.0.1 is there twice */
+    bad_sheet(longest, n, n - 12);
+    longest[0x3001c - 4] = 224; /* the last pair */
+    bad_sheet(longest, n, 0x3001c - 8);
+    longest[0x2001c - 12] = 224; /* the last assert */
+    bad_sheet(longest, n, 0x2001c - 16);
+    bad_sheet(longest, n - 1, 0);
+}
+
+/* Offsets that count from the first count, from the end of the header, or as in the other form. */
+static void offsets_from_other_places(void)
+{
+    static const size_t firsts[6] = {0, 4, 12, 24, 28, 32};
+    size_t f, i;
+
+    for (f = 0; f < FORMS; f++)
+        for (i = 0; i < 6; i++) {
+            const size_t octets = f == 0 ? 4 : 2, at = f == 0 ? 4 : 0;
+            uint8_t o[64];
+
+            memcpy(o, forms[f].octets, forms[f].n);
+            put_number(o, at + octets, octets, firsts[i]);
+            put_number(o, at + 3 * octets, octets, firsts[i] + 16);
+            put_number(o, at + 5 * octets, octets, firsts[i] + 24);
+            if (firsts[i] == forms[f].header)
+                EXPECT(accepted(CALLED(pim_check_sheet(o, forms[f].n)).refusal));
+            else
+                bad_sheet(o, forms[f].n, 0);
+        }
 }
 
 /* ---- the checksum */
@@ -1805,63 +2115,62 @@ static void sources_chosen(void)
     }
 }
 
-/* The sheet of one assert, at 12, and one pair, at 28, with an address as the source of either. */
+/* The sheet of one assert and one pair, in either form, with an address as the source of either. */
 static void sources_in_sheets(void)
 {
-    uint8_t o[48], asserts[16], pairs[8], buffer[48];
-    size_t i, j, entry;
+    uint8_t o[64], asserts[16], pairs[8], buffer[64];
+    size_t i, j, f;
 
-    for (i = 0; i < 2; i++)
-        for (j = 0; j < NO_SOURCES; j++) {
-            pim_sheet_answer s;
-            pim_length_answer l;
+    for (f = 0; f < FORMS; f++)
+        for (i = 0; i < 2; i++)
+            for (j = 0; j < NO_SOURCES; j++) {
+                const uint8_t *a = o + forms[f].header, *p = a + 16;
+                const size_t entry = forms[f].header + 16 * i;
+                pim_table table = one_row();
+                pim_sheet_answer s;
+                pim_length_answer l;
 
-            entry = i == 0 ? 12 : 28;
-            memcpy(o, sheet, sizeof o);
-            put(o, entry + 4, no_sources[j], 4);
-            memset(asserts, UNTOUCHED, sizeof asserts);
-            memset(pairs, UNTOUCHED, sizeof pairs);
-            memset(buffer, UNTOUCHED, sizeof buffer);
-            EXPECT(refused(CALLED(pim_check_sheet(o, sizeof o)).refusal, PIM_BAD_SHEET, entry));
-            s = CALLED(pim_read_sheet(o, sizeof o, asserts, 16, pairs, 8));
-            EXPECT(refused(s.refusal, PIM_BAD_SHEET, entry) && s.counts.asserts == 0 && s.table.count == 0);
-            EXPECT(refused(CALLED(pim_read_sheet(o, sizeof o, NULL, 0, NULL, 0)).refusal, PIM_BAD_SHEET, entry));
-            EXPECT(untouched(asserts, 0, 16) && untouched(pairs, 0, 8));
-            /* a list that is not whole, a table of 17, too little room, then the source */
-            EXPECT(
-                refused(CALLED(pim_write_sheet(o + 12, 16, o + 28, 7, one_row(), buffer, 0)).refusal, PIM_BAD_LIST, 0));
-            s.table.count = 17;
-            EXPECT(
-                refused(CALLED(pim_write_sheet(o + 12, 16, o + 28, 8, s.table, buffer, 0)).refusal, PIM_BAD_SHEET, 0));
-            EXPECT(
-                refused(CALLED(pim_write_sheet(o + 12, 16, o + 28, 8, one_row(), buffer, 47)).refusal, PIM_NO_ROOM, 0));
-            l = CALLED(pim_write_sheet(o + 12, 16, o + 28, 8, one_row(), buffer, 48));
-            EXPECT(refused(l.refusal, PIM_BAD_ADDRESS, 0) && l.length == 0 && untouched(buffer, 0, 48));
-            o[3]++; /* the first offset */
-            EXPECT(refused(CALLED(pim_check_sheet(o, sizeof o)).refusal, PIM_BAD_SHEET, 0));
-            EXPECT(refused(CALLED(pim_read_sheet(o, sizeof o, asserts, 16, pairs, 8)).refusal, PIM_BAD_SHEET, 0));
+                memcpy(o, forms[f].octets, forms[f].n);
+                put(o, entry + 4, no_sources[j], 4);
+                memset(asserts, UNTOUCHED, sizeof asserts);
+                memset(pairs, UNTOUCHED, sizeof pairs);
+                memset(buffer, UNTOUCHED, sizeof buffer);
+                bad_sheet(o, forms[f].n, entry);
+                s = CALLED(pim_read_sheet(o, forms[f].n, asserts, 16, pairs, 8));
+                EXPECT(refused(s.refusal, PIM_BAD_SHEET, entry) && s.counts.asserts == 0 && s.table.count == 0);
+                EXPECT(untouched(asserts, 0, 16) && untouched(pairs, 0, 8));
+                /* a list that is not whole, a table of 65, too little room, then the source */
+                EXPECT(refused(CALLED(pim_write_sheet(a, 16, p, 7, table, buffer, 0)).refusal, PIM_BAD_LIST, 0));
+                table.count = 65;
+                EXPECT(refused(CALLED(pim_write_sheet(a, 16, p, 8, table, buffer, 0)).refusal, PIM_BAD_SHEET, 0));
+                table.count = 1;
+                EXPECT(refused(CALLED(pim_write_sheet(a, 16, p, 8, table, buffer, 63)).refusal, PIM_NO_ROOM, 0));
+                l = CALLED(pim_write_sheet(a, 16, p, 8, table, buffer, 64));
+                EXPECT(refused(l.refusal, PIM_BAD_ADDRESS, 0) && l.length == 0 && untouched(buffer, 0, 64));
+                o[f == 0 ? 11 : 3]++; /* the first offset */
+                bad_sheet(o, forms[f].n, 0);
+            }
+    for (f = 0; f < FORMS; f++)
+        for (j = 0; j < SOURCES; j++) {
+            memcpy(o, forms[f].octets, forms[f].n);
+            put(o, forms[f].header + 4, sources[j], 4);
+            put(o, forms[f].header + 20, sources[SOURCES - 1 - j], 4);
+            EXPECT(accepted(CALLED(pim_check_sheet(o, forms[f].n)).refusal));
+            EXPECT(accepted(CALLED(pim_read_sheet(o, forms[f].n, asserts, 16, pairs, 8)).refusal));
+            EXPECT(accepted(CALLED(pim_write_sheet(asserts, 16, pairs, 8, one_row(), buffer, 64)).refusal));
+            EXPECT(memcmp(buffer, sheet, 28) == 0 && memcmp(buffer + 28, o + forms[f].header, 36) == 0);
         }
-    for (j = 0; j < SOURCES; j++) {
-        memcpy(o, sheet, sizeof o);
-        put(o, 16, sources[j], 4);
-        put(o, 32, sources[SOURCES - 1 - j], 4);
-        EXPECT(accepted(CALLED(pim_check_sheet(o, sizeof o)).refusal));
-        EXPECT(accepted(CALLED(pim_read_sheet(o, sizeof o, asserts, 16, pairs, 8)).refusal));
-        EXPECT(accepted(CALLED(pim_write_sheet(asserts, 16, pairs, 8, one_row(), buffer, 48)).refusal));
-        EXPECT(memcmp(buffer, o, 48) == 0);
-    }
 }
 
 /* The address of a neighbour, or of our own router, is no source. */
 static void routers_are_no_sources(void)
 {
     static const uint32_t addresses[NO_SOURCES] = {0xe0000000, 0xefffffff, 0xffffffff};
-    uint8_t o[48], asserts[16], pairs[8];
-    size_t j;
+    uint8_t o[64], asserts[16], pairs[8];
+    size_t j, f;
 
     for (j = 0; j < NO_SOURCES; j++) {
         pim_table_answer t = CALLED(pim_hear(one_row(), addresses[j], five));
-        pim_sheet_answer s;
 
         EXPECT(accepted(t.refusal) && t.done == PIM_ADDED && row_is(t.table.rows[1], addresses[j], &five));
         EXPECT(CALLED(pim_packing_allowed(t.table)).allowed);
@@ -1869,10 +2178,14 @@ static void routers_are_no_sources(void)
         EXPECT(CALLED(pim_elect(one_row(), addresses[j], 5)).address == addresses[j]);
         EXPECT(CALLED(pim_elect_among(t.table.rows, 2)).address == addresses[j]);
         EXPECT(CALLED(pim_forget(t.table, addresses[j])).done == PIM_FORGOTTEN);
-        memcpy(o, sheet, sizeof o);
-        put(o, 36, no_sources[j], 4);
-        s = CALLED(pim_read_sheet(o, sizeof o, asserts, 16, pairs, 8));
-        EXPECT(accepted(s.refusal) && row_is(s.table.rows[0], addresses[j], &five));
+        for (f = 0; f < FORMS; f++) {
+            pim_sheet_answer s;
+
+            memcpy(o, forms[f].octets, forms[f].n);
+            put(o, forms[f].header + 24, no_sources[j], 4);
+            s = CALLED(pim_read_sheet(o, forms[f].n, asserts, 16, pairs, 8));
+            EXPECT(accepted(s.refusal) && row_is(s.table.rows[0], addresses[j], &five));
+        }
     }
 }
 
@@ -1924,13 +2237,13 @@ static void nothing_to_read(void)
     EXPECT(!CALLED(pim_checksum_holds(NULL, 0)));
     EXPECT(untouched(b, 0, sizeof b));
     EXPECT(CALLED(pim_popcount_merge(own, true, NULL, 0, b, sizeof b)).length == 22);
-    EXPECT(CALLED(pim_write_sheet(NULL, 0, NULL, 0, CALLED(pim_table_empty()), b, sizeof b)).length == 12);
+    EXPECT(CALLED(pim_write_sheet(NULL, 0, NULL, 0, CALLED(pim_table_empty()), b, sizeof b)).length == 28);
+    EXPECT(memcmp(b, no_entries, 28) == 0);
 }
 
 /* NULL where nothing is lent to be written. */
 static void nothing_to_write(void)
 {
-    static const uint8_t empty[12] = {0, 0, 0, 12, 0, 0, 0, 12, 0, 0, 0, 12};
     uint8_t pairs[18] = {0x2d};
     const uint8_t *e = example_entry;
 
@@ -1947,7 +2260,8 @@ static void nothing_to_write(void)
     EXPECT(refused(CALLED(pim_pack_both(e, 16, 0, 38, NULL, 0, NULL, 0)).refusal, PIM_NO_ROOM, 0));
     EXPECT(refused(CALLED(pim_popcount_merge(own, true, attributes, 36, NULL, 0)).refusal, PIM_NO_ROOM, 0));
     EXPECT(refused(CALLED(pim_read_sheet(sheet, sizeof sheet, NULL, 0, NULL, 0)).refusal, PIM_NO_ROOM, 0));
-    EXPECT(accepted(CALLED(pim_read_sheet(empty, sizeof empty, NULL, 0, NULL, 0)).refusal));
+    EXPECT(accepted(CALLED(pim_read_sheet(no_entries, 28, NULL, 0, NULL, 0)).refusal));
+    EXPECT(accepted(CALLED(pim_read_sheet(old_no_entries, 12, NULL, 0, NULL, 0)).refusal));
     EXPECT(refused(CALLED(pim_write_sheet(e, 16, e, 8, one_row(), NULL, 0)).refusal, PIM_NO_ROOM, 0));
 }
 
@@ -1955,13 +2269,14 @@ static void nothing_to_write(void)
 static void same_memory(void)
 {
     static const uint8_t o[16] = {0xe8, 1, 1, 1, 0x0a, 0, 0, 1, 0xe8, 1, 1, 2, 0x0a, 0, 0, 2};
-    static const uint8_t header[12] = {0, 1, 0, 12, 0, 2, 0, 28, 0, 0, 0, 44};
-    uint8_t buffer[44];
+    static const uint8_t header[28] = {0xff, 0xff, 0, 2, 0, 0,  0, 1, 0, 0, 0, 28, 0, 0,
+                                       0,    2,    0, 0, 0, 44, 0, 0, 0, 0, 0, 0,  0, 60};
+    uint8_t buffer[60];
     pim_length_answer l = CALLED(pim_write_sheet(o, 16, o, 16, CALLED(pim_table_empty()), buffer, sizeof buffer));
     pim_sheet_counts c;
 
-    EXPECT(accepted(l.refusal) && l.length == 44);
-    EXPECT(memcmp(buffer, header, 12) == 0 && memcmp(buffer + 12, o, 16) == 0 && memcmp(buffer + 28, o, 16) == 0);
+    EXPECT(accepted(l.refusal) && l.length == 60);
+    EXPECT(memcmp(buffer, header, 28) == 0 && memcmp(buffer + 28, o, 16) == 0 && memcmp(buffer + 44, o, 16) == 0);
     c = CALLED(pim_check_sheet(buffer, sizeof buffer)).counts;
     EXPECT(c.asserts == 1 && c.pairs == 2 && c.neighbours == 0);
 }
@@ -2005,7 +2320,8 @@ int main(void)
     packing_refuses();
     choices();
     hearing();
-    full_and_bad_tables();
+    full_tables();
+    bad_tables();
     elections();
     elections_among();
     counters();
@@ -2018,7 +2334,14 @@ int main(void)
     merges();
     attributes_at_fault();
     sheets_read();
+    sheets_octet_by_octet();
     sheets_written();
+    sheet_entries_at_fault();
+    sheet_headers_at_fault();
+    first_words();
+    offsets_from_other_places();
+    sheet_limits();
+    longest_old_sheet();
     longest_sheet();
     checksums();
     sources_in_messages();

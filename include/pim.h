@@ -478,11 +478,12 @@ pim_length_answer pim_popcount_merge(pim_popcount_own own, bool e, const uint8_t
 
 /* A sheet has one of two forms, which its first 16 bits tell. Both have three pairs of numbers, a count and an offset
  * from the sheet's start, for asserts, pairs and neighbours, and then the three sections without gaps, to the end.
- * - The new form: 16 bits 0xFFFF, 16 bits that hold 2, and numbers of 32 bits: PIM_SHEET_HEADER octets. At most
+ * - The large form: 16 bits 0xFFFF, 16 bits that hold 2, and numbers of 32 bits: PIM_SHEET_HEADER octets. At most
  *   PIM_SHEET_ASSERTS, PIM_SHEET_PAIRS and PIM_ROWS entries. Sheets are written in this form alone.
- * - The old form: numbers of 16 bits, 12 octets. At most 1,024 asserts, 1,024 pairs and 16 neighbours. Sheets stored
- *   before version 8 are still read: what they give, written, is a sheet of the new form.
- * Any other first 16 bits, 1,025 to 65,534, are those of neither form, and refused. */
+ * - The base form, of sheets stored before version 8: numbers of 16 bits, 12 octets. At most 1,024 asserts, 1,024 pairs
+ *   and 16 neighbours. They are still read: what they give, written, is a sheet of the large form.
+ * First 16 bits from 1,025 to 65,534 are those of neither form, and refused, and so is 0xFFFF before another number
+ * than 2. */
 
 /* 24 octets */
 typedef struct {
@@ -495,7 +496,8 @@ typedef struct {
     pim_sheet_counts counts;
 } pim_check_answer;
 
-/* Checks a sheet of either form. Refuses 14: at 0 for the header, else at the first octet of the entry at fault. */
+/* Checks a sheet of either form. Refuses 14: at 0 for the header and the sheet's length, else at the first octet of the
+ * entry at fault. */
 pim_check_answer pim_check_sheet(const uint8_t *o, size_t n);
 
 /* 816 octets */
@@ -512,7 +514,7 @@ typedef struct {
 pim_sheet_answer pim_read_sheet(const uint8_t *o, size_t n, uint8_t *asserts, size_t assert_room, uint8_t *pairs,
                                 size_t pair_room);
 
-/* Writes the sheet of two entry lists and a table, in the new form: PIM_SHEET_HEADER octets, then all entries as they
+/* Writes the sheet of two entry lists and a table, in the large form: PIM_SHEET_HEADER octets, then all entries as they
  * stand, then PIM_SHEET_ROW octets for each neighbour; PIM_LONGEST_SHEET at most. Octets past it stay.
  * Refuses 10 (a list is not whole), 14 (too many entries, or the table), 8, 7, all at 0. */
 pim_length_answer pim_write_sheet(const uint8_t *asserts, size_t assert_size, const uint8_t *pairs, size_t pair_size,

@@ -42,7 +42,7 @@ pub struct HelloAnswer {
     pub hello: Hello,
 }
 
-pub const ROWS: usize = 16;
+pub const ROWS: usize = 64;
 
 #[repr(C)]
 #[derive(Clone, Copy, Debug, Default, PartialEq, Eq)]
@@ -59,6 +59,28 @@ pub struct Neighbour {
 pub struct Table {
     pub rows: [Neighbour; ROWS],
     pub count: usize,
+}
+
+/// What was done is not looked at here.
+#[repr(C)]
+pub struct TableAnswer {
+    pub refusal: Refusal,
+    pub table: Table,
+    _done: u8,
+}
+
+#[repr(C)]
+#[derive(Debug, PartialEq, Eq)]
+pub struct AllowedAnswer {
+    pub refusal: Refusal,
+    pub allowed: bool,
+}
+
+#[repr(C)]
+#[derive(Debug, PartialEq, Eq)]
+pub struct ElectAnswer {
+    pub refusal: Refusal,
+    pub address: u32,
 }
 
 #[repr(C)]
@@ -170,6 +192,10 @@ extern "C" {
         b: *mut u8,
         room: usize,
     ) -> PackAnswer;
+    fn pim_hear(table: Table, address: u32, said: Hello) -> TableAnswer;
+    fn pim_forget(table: Table, address: u32) -> TableAnswer;
+    fn pim_packing_allowed(table: Table) -> AllowedAnswer;
+    fn pim_elect(table: Table, address: u32, priority: u32) -> ElectAnswer;
     fn pim_report(file: *const u8, n: usize) -> ReportAnswer;
     fn pim_popcount_read(o: *const u8, n: usize, at: usize) -> PopcountReadAnswer;
     fn pim_popcount_merge(
@@ -247,6 +273,26 @@ pub fn pack_null_register(entries: &[u8], start: usize, limit: usize, buffer: &m
 #[inline(always)]
 pub fn pack_register_stop(entries: &[u8], start: usize, limit: usize, buffer: &mut [u8]) -> PackAnswer {
     pack(pim_pack_register_stop, entries, start, limit, buffer)
+}
+
+#[inline(always)]
+pub fn hear(table: Table, address: u32, said: Hello) -> TableAnswer {
+    unsafe { pim_hear(table, address, said) }
+}
+
+#[inline(always)]
+pub fn forget(table: Table, address: u32) -> TableAnswer {
+    unsafe { pim_forget(table, address) }
+}
+
+#[inline(always)]
+pub fn packing_allowed(table: Table) -> AllowedAnswer {
+    unsafe { pim_packing_allowed(table) }
+}
+
+#[inline(always)]
+pub fn elect(table: Table, address: u32, priority: u32) -> ElectAnswer {
+    unsafe { pim_elect(table, address, priority) }
 }
 
 #[inline(always)]

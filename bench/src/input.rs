@@ -1,7 +1,7 @@
 //! The inputs, the same in every run.
 
 use second::hello::{write_hello, Hello};
-use second::neighbours::{Neighbour, Table, ROWS};
+use second::neighbours::{Neighbour, Table};
 use second::rng::Rng;
 
 const R: u32 = 0x8000_0000;
@@ -160,21 +160,56 @@ pub fn unsealed(length: usize) -> Vec<u8> {
     octets
 }
 
-/// A table with all its rows in use.
-pub fn table() -> Table {
-    let mut table = Table::empty();
-    for (i, row) in table.rows.iter_mut().enumerate() {
-        let n = i as u32;
-        *row = Neighbour {
-            address: 0x0A00_0001 + n,
-            priority: n % 2 * (n + 1),
-            has_priority: n % 2 == 1,
-            packs: n < 12,
-            holdtime: 105,
-        };
+/// The address of a row of a table.
+pub fn address(row: usize) -> u32 {
+    0x0A00_0001 + row as u32
+}
+
+/// A table with so many rows in use, which all have a priority and pack, so that a call looks at all of them.
+pub fn table(rows: usize) -> Table {
+    table_of(rows, |n| Neighbour {
+        address: address(n),
+        priority: n as u32 * 37 % 64,
+        has_priority: true,
+        packs: true,
+        holdtime: 105,
+    })
+}
+
+/// The same of a sheet, with rows of all sorts.
+pub fn sheet_table(rows: usize) -> Table {
+    let priority = |n: usize| (n % 2 * (n + 1)) as u32;
+    table_of(rows, |n| Neighbour {
+        address: address(n),
+        priority: priority(n),
+        has_priority: priority(n) > 0,
+        packs: n % 4 < 3,
+        holdtime: 105,
+    })
+}
+
+fn table_of(rows: usize, row: impl Fn(usize) -> Neighbour) -> Table {
+    let mut table = Table { count: rows, ..Table::empty() };
+    for (n, slot) in table.rows[..rows].iter_mut().enumerate() {
+        *slot = row(n);
     }
-    table.count = ROWS;
     table
+}
+
+/// A sheet of the old form, which neither side writes: counts and offsets of 16 bits, then the entries and the rows.
+pub fn old_sheet(asserts: &[u8], pairs: &[u8], table: &Table) -> Vec<u8> {
+    let at_pairs = 12 + asserts.len();
+    let numbers = [asserts.len() / 16, 12, pairs.len() / 8, at_pairs, table.count, at_pairs + pairs.len()];
+    let mut sheet: Vec<u8> = numbers.iter().flat_map(|number| (*number as u16).to_be_bytes()).collect();
+    sheet.extend_from_slice(asserts);
+    sheet.extend_from_slice(pairs);
+    for row in &table.rows[..table.count] {
+        sheet.extend_from_slice(&row.address.to_be_bytes());
+        sheet.extend_from_slice(&row.priority.to_be_bytes());
+        sheet.extend_from_slice(&[u8::from(row.has_priority) + 2 * u8::from(row.packs), 0]);
+        sheet.extend_from_slice(&row.holdtime.to_be_bytes());
+    }
+    sheet
 }
 
 /// Attributes back to back, each with all eight options: 24 octets.

@@ -47,8 +47,10 @@ fn how_measured(run: &Run, passes: usize) -> String {
          entry of a list or the last pair of a sheet is at fault, so that all before it is read and its place is \
          found; multicast says that it is a source in 224.0.0.0/4. In a row of seldom sources they are from \
          240.0.0.0 to 247.255.255.255, and 0 in every other 32 records of the simple message; elsewhere they are \
-         from 1.0.0.0 to 223.255.255.255, and seldom 0. A row named report reads a file in memory, of good \
-         messages, each after its length; 1,000 divided by its ns/octet is megabytes a second.\n",
+         from 1.0.0.0 to 223.255.255.255, and seldom 0. A row with a number of rows is a call on a table with so \
+         many in use, its records; the table goes to both sides by value, whole. A full sheet has as many entries as \
+         its form allows, and no form is named where it is the one that is written. A row named report reads a file \
+         in memory, of good messages, each after its length; 1,000 divided by its ns/octet is megabytes a second.\n",
         run.date,
         machine(),
         run.compiler,
@@ -173,7 +175,8 @@ fn growth_part(rows: &[Row]) -> String {
          is likely the branch predictor, which learns a short message by heart and a long one not. A train \
          of n entries is not linear in n: refusal 7 makes each packing call look at every entry from its \
          start on, so a train of m messages looks at some n(m + 1) / 2 entries. The smaller the limit, the \
-         more messages, and the more this pass counts; at one message for the whole list it is n.\n\n{}",
+         more messages, and the more this pass counts; at one message for the whole list it is n. A table is \
+         always as large; a call on it looks at every row, and whether its address is there twice.\n\n{}",
         table(&columns, cells)
     )
 }

@@ -3,6 +3,7 @@
 use crate::archive::{self, PackAnswer, ReadAnswer};
 use crate::input;
 use crate::measure::{compare, side, Spread, Times};
+use second::neighbours::{self, Table};
 use second::{checksum, hello, pack, popcount, read, report, sheet, Answer, Kind, Refusal};
 use std::hint::black_box;
 
@@ -64,6 +65,7 @@ pub fn measure() -> Measured {
     reading(&mut measured.rows);
     trains(&mut measured.rows);
     checksums(&mut measured);
+    tables(&mut measured.rows);
     sheets(&mut measured.rows);
     measured.rows.push(merge());
     measured.rows.push(read_hello());
@@ -343,44 +345,24 @@ fn octets_row(family: &str, octets: usize, times: Times) -> Row {
     }
 }
 
-// ---- the sheet
+// ---- the neighbour table, which goes by value to both sides
 
-const SHEET_ENTRIES: usize = 1_024;
+/// Rows in use where there is to be room for one more, and elsewhere.
+const ROWS_AND_ROOM: [usize; 3] = [4, 16, 63];
+const ROWS: [usize; 3] = [4, 16, 64];
+/// An address that no row has, and the priority beside it.
+const OTHER: (u32, u32) = (0x0A00_0101, 5);
 
-/// The three lists of a full sheet, and the sheet.
-struct Full {
-    asserts: Vec<u8>,
-    pairs: Vec<u8>,
-    theirs: second::neighbours::Table,
-    ours: archive::Table,
-    sheet: Vec<u8>,
-}
-
-impl Full {
-    fn sheet() -> Full {
-        let asserts = input::mixed_asserts(SHEET_ENTRIES);
-        let pairs = input::pairs(SHEET_ENTRIES);
-        let theirs = input::table();
-        let mut sheet = vec![0; 24_780];
-        let length = sheet::write_sheet(&asserts, &pairs, &theirs, &mut sheet);
-        assert_eq!(length, Ok(sheet.len()));
-        Full { asserts, pairs, theirs, ours: archive_table(&theirs), sheet }
-    }
-
-    fn row(&self, family: &str, times: Times) -> Row {
-        Row {
-            family: family.to_string(),
-            size: "full".to_string(),
-            octets: self.sheet.len(),
-            records: 2 * SHEET_ENTRIES + self.ours.count,
-            looked_at: None,
-            passes: vec![times],
-        }
-    }
+fn tables(rows: &mut Vec<Row>) {
+    rows.extend(ROWS_AND_ROOM.map(|rows| hear("hear an address again", rows, input::address(rows / 2))));
+    rows.extend(ROWS_AND_ROOM.map(|rows| hear("hear a new address", rows, OTHER.0)));
+    rows.extend(ROWS.map(forget));
+    rows.extend(ROWS.map(elect));
+    rows.extend(ROWS.map(packing_allowed));
 }
 
 /// The same table in the archive's form.
-fn archive_table(table: &second::neighbours::Table) -> archive::Table {
+fn archive_table(table: &Table) -> archive::Table {
     let rows = table.rows.map(|row| archive::Neighbour {
         address: row.address,
         priority: row.priority,
@@ -391,11 +373,143 @@ fn archive_table(table: &second::neighbours::Table) -> archive::Table {
     archive::Table { rows, count: table.count }
 }
 
+fn hear(family: &str, rows: usize, address: u32) -> Row {
+    let (a_said, s_said) = (archive_hello(&input::SAID), input::SAID);
+    let ours = |table| archive::hear(table, black_box(address), black_box(a_said));
+    let theirs = |table| neighbours::hear(table, black_box(address), black_box(s_said));
+    changed_row(family, rows, ours, theirs)
+}
+
+fn forget(rows: usize) -> Row {
+    let address = input::address(rows / 2);
+    let ours = |table| archive::forget(table, black_box(address));
+    let theirs = |table| neighbours::forget(table, black_box(address));
+    changed_row("forget an address in the middle", rows, ours, theirs)
+}
+
+/// A call that gives the table back.
+fn changed_row(
+    family: &str,
+    rows: usize,
+    ours: impl Fn(archive::Table) -> archive::TableAnswer,
+    theirs: impl Fn(Table) -> Answer<Table>,
+) -> Row {
+    let table = input::table(rows);
+    let (answer, changed) = (ours(archive_table(&table)), theirs(table).expect("the table is good"));
+    assert_eq!((answer.refusal.number, answer.table), (0, archive_table(&changed)), "{family}");
+    table_row(family, &table, ours, theirs)
+}
+
+fn elect(rows: usize) -> Row {
+    let ours = |table| archive::elect(table, black_box(OTHER.0), black_box(OTHER.1));
+    let theirs = |table: Table| neighbours::elect(black_box(&table), black_box(OTHER.0), black_box(OTHER.1));
+    let table = input::table(rows);
+    let address = theirs(table).expect("the table is good");
+    let answer = archive::ElectAnswer { refusal: archive::Refusal::default(), address };
+    assert_eq!(ours(archive_table(&table)), answer, "elect");
+    table_row("elect", &table, ours, theirs)
+}
+
+fn packing_allowed(rows: usize) -> Row {
+    let theirs = |table: Table| neighbours::packing_allowed(black_box(&table));
+    let table = input::table(rows);
+    let allowed = theirs(table).expect("the table is good");
+    let answer = archive::AllowedAnswer { refusal: archive::Refusal::default(), allowed };
+    assert_eq!(archive::packing_allowed(archive_table(&table)), answer, "packing allowed");
+    table_row("packing allowed", &table, archive::packing_allowed, theirs)
+}
+
+fn table_row<A, S>(
+    family: &str,
+    table: &Table,
+    ours: impl Fn(archive::Table) -> A,
+    theirs: impl Fn(Table) -> S,
+) -> Row {
+    let archives = archive_table(table);
+    let times = compare(
+        &mut side(|| {
+            black_box(&ours(*black_box(&archives)));
+        }),
+        &mut side(|| {
+            black_box(&theirs(*black_box(table)));
+        }),
+    );
+    Row {
+        family: family.to_string(),
+        size: format!("{} rows", table.count),
+        octets: size_of::<archive::Table>(),
+        records: table.count,
+        looked_at: None,
+        passes: vec![times],
+    }
+}
+
+// ---- the sheet
+
+const SHEET_ENTRIES: usize = sheet::ENTRIES_MOST;
+
+/// The three lists of a full sheet, and the sheet.
+struct Full {
+    /// What a row is named after, beside its call.
+    form: &'static str,
+    asserts: Vec<u8>,
+    pairs: Vec<u8>,
+    theirs: Table,
+    ours: archive::Table,
+    sheet: Vec<u8>,
+}
+
+impl Full {
+    fn of(form: &'static str, entries: usize, rows: usize) -> Full {
+        let theirs = input::sheet_table(rows);
+        Full {
+            form,
+            asserts: input::mixed_asserts(entries),
+            pairs: input::pairs(entries),
+            ours: archive_table(&theirs),
+            theirs,
+            sheet: Vec::new(),
+        }
+    }
+
+    fn sheet() -> Full {
+        let mut full = Full::of("", SHEET_ENTRIES, archive::ROWS);
+        full.sheet = vec![0; 197_404];
+        let length = sheet::write_sheet(&full.asserts, &full.pairs, &full.theirs, &mut full.sheet);
+        assert_eq!(length, Ok(full.sheet.len()));
+        full
+    }
+
+    fn old_sheet() -> Full {
+        let mut full = Full::of(", old form", 1_024, 16);
+        full.sheet = input::old_sheet(&full.asserts, &full.pairs, &full.theirs);
+        assert_eq!(full.sheet.len(), 24_780);
+        full
+    }
+
+    fn records(&self) -> usize {
+        self.asserts.len() / 16 + self.pairs.len() / 8 + self.ours.count
+    }
+
+    fn row(&self, family: &str, times: Times) -> Row {
+        Row {
+            family: format!("{family}{}", self.form),
+            size: "full".to_string(),
+            octets: self.sheet.len(),
+            records: self.records(),
+            looked_at: None,
+            passes: vec![times],
+        }
+    }
+}
+
 fn sheets(rows: &mut Vec<Row>) {
-    let full = Full::sheet();
+    let (full, old) = (Full::sheet(), Full::old_sheet());
     rows.push(read_sheet(&full));
     rows.push(write_sheet(&full));
     rows.push(check_sheet(&full));
+    rows.push(read_sheet(&old));
+    rows.push(check_sheet(&old));
 }
 
 fn read_sheet(full: &Full) -> Row {
@@ -437,8 +551,9 @@ fn write_sheet(full: &Full) -> Row {
 }
 
 fn check_sheet(full: &Full) -> Row {
-    let answer = archive::check_sheet(&full.sheet);
-    assert_eq!((answer.refusal.number, answer.counts.asserts), (0, SHEET_ENTRIES), "check sheet");
+    let archive::CheckAnswer { refusal, counts } = archive::check_sheet(&full.sheet);
+    assert_eq!((refusal.number, sheet::check_sheet(&full.sheet)), (0, Ok(())), "check sheet");
+    assert_eq!(counts.asserts + counts.pairs + counts.neighbours, full.records(), "check sheet");
     let times = compare(
         &mut side(|| {
             black_box(archive::check_sheet(black_box(&full.sheet)));
@@ -691,7 +806,7 @@ fn refused_list(
 
 /// A full sheet, which is checked up to its last pair.
 fn refused_sheet() -> Row {
-    let last = 12 + 16 * SHEET_ENTRIES + 8 * (SHEET_ENTRIES - 1);
+    let last = 28 + 16 * SHEET_ENTRIES + 8 * (SHEET_ENTRIES - 1);
     let sheet = put(Full::sheet().sheet, last + 4, &MULTICAST);
     let ours = |sheet: &[u8]| archive::check_sheet(sheet).refusal;
     let theirs = |sheet: &[u8]| sheet::check_sheet(sheet).err();

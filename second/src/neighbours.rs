@@ -5,7 +5,7 @@ use crate::hello::Hello;
 use crate::{refuse, Answer};
 
 /// The most neighbours a table holds.
-pub const ROWS: usize = 16;
+pub const ROWS: usize = 64;
 
 /// A row of the table. A priority not announced is 0.
 #[derive(Clone, Copy, Debug, Default, PartialEq, Eq)]
@@ -48,13 +48,12 @@ impl Table {
 }
 
 /// A Hello heard from an address. Holdtime 0 forgets it.
-pub fn hear(table: Table, address: u32, hello: Hello) -> Answer<Table> {
+pub fn hear(mut table: Table, address: u32, hello: Hello) -> Answer<Table> {
     if hello.holdtime == 0 {
         return forget(table, address);
     }
     check_table(&table)?;
     check_address(address)?;
-    let mut table = table;
     let row = match table.find(address) {
         Some(row) => row,
         None if table.count == ROWS => return refuse(11, 0),
@@ -139,24 +138,60 @@ fn check_address(address: u32) -> Answer<()> {
 }
 
 /// A row that a sheet may hold, other rows apart.
-pub(crate) fn row_ok(row: &Neighbour) -> bool {
+fn row_ok(row: &Neighbour) -> bool {
     row.address != 0 && row.holdtime != 0 && (row.has_priority || row.priority == 0)
+}
+
+/// The number of the first row that a sheet may not hold, of no more than a
+/// table has. Of an address given twice the later row is at fault.
+pub(crate) fn first_bad_row(rows: &[Neighbour]) -> Option<usize> {
+    if rows.iter().all(row_ok) && are_distinct(rows) {
+        return None;
+    }
+    let is_again = |i: usize| rows[..i].iter().any(|row| row.address == rows[i].address);
+    (0..rows.len()).find(|&i| !row_ok(&rows[i]) || is_again(i))
+}
+
+/// Whether good rows have each address once. Each is counted among all from its
+/// own sixteen on; past the rows these are 0, which is no row's address. There
+/// is no branch for a single address.
+fn are_distinct(rows: &[Neighbour]) -> bool {
+    let mut addresses = [0; ROWS];
+    for (address, row) in addresses.iter_mut().zip(rows) {
+        *address = row.address;
+    }
+    let (sixteens, _) = addresses[..rows.len().next_multiple_of(16)].as_chunks::<16>();
+    let mut found = [0; 16];
+    for (i, address) in addresses[..rows.len()].iter().enumerate() {
+        for sixteen in &sixteens[i / 16..] {
+            for (found, other) in found.iter_mut().zip(sixteen) {
+                *found += u32::from(other == address);
+            }
+        }
+    }
+    found.iter().sum::<u32>() as usize == rows.len()
 }
 
 /// The whole table: 14 unless each used row is good and each address given
 /// once and each unused row 0.
 pub(crate) fn check_table(table: &Table) -> Answer<()> {
-    if table.count > ROWS {
+    let Some((used, unused)) = table.rows.split_at_checked(table.count) else {
         return refuse(14, 0);
-    }
-    let (used, unused) = table.rows.split_at(table.count);
-    for (i, row) in used.iter().enumerate() {
-        if !row_ok(row) || used[..i].iter().any(|other| other.address == row.address) {
-            return refuse(14, 0);
-        }
-    }
-    if unused.iter().any(|row| *row != Neighbour::default()) {
+    };
+    if first_bad_row(used).is_some() || !are_zero(unused) {
         return refuse(14, 0);
     }
     Ok(())
+}
+
+/// Whether all fields are 0, without a branch for a single one.
+fn are_zero(rows: &[Neighbour]) -> bool {
+    let bits = |row: &Neighbour| {
+        row.address
+            | row.priority
+            | u32::from(row.has_priority)
+            | u32::from(row.packs)
+            | u32::from(row.holdtime)
+    };
+    rows.iter().fold(0, |all, row| all | bits(row)) == 0
 }

@@ -1,59 +1,83 @@
-//! The stored sheet: two entry lists and a neighbour table.
+//! The stored sheet: two entry lists and a neighbour table. It is written in
+//! the new form, and read in either.
 
-use crate::neighbours::{check_table, row_ok, Neighbour, Table, ROWS};
+use crate::neighbours::{check_table, first_bad_row, Neighbour, Table, ROWS};
 use crate::{assert_entry_ok, first_bad, pair_entry_ok, refuse, Answer};
 
 /// The most asserts, and the most pairs.
-pub const ENTRIES_MOST: usize = 1_024;
+pub const ENTRIES_MOST: usize = 8_192;
 
-const HEADER: usize = 12;
+/// What a sheet of the new form begins with: 0xFFFF, and 2.
+const MARK: [u8; 4] = [0xFF, 0xFF, 0, 2];
 const ASSERT: usize = 16;
 const PAIR: usize = 8;
 const NEIGHBOUR: usize = 12;
 const HAS_PRIORITY: u8 = 1;
 const PACKS: u8 = 2;
 
+/// A form of sheet: the octets of its header, and the most asserts, pairs and
+/// neighbours.
+struct Form {
+    header: usize,
+    most: [usize; 3],
+}
+
+/// Counts and offsets of 16 bits.
+const OLD: Form = Form { header: 12, most: [1_024, 1_024, 16] };
+/// The mark, then counts and offsets of 32 bits.
+const NEW: Form = Form { header: 28, most: [ENTRIES_MOST, ENTRIES_MOST, ROWS] };
+
+/// Where asserts, pairs and neighbours begin, and where the sheet ends.
+type Places = [usize; 4];
+
+impl Form {
+    /// The places that counts give, unless one is over its limit.
+    fn places(&self, counts: [usize; 3]) -> Option<Places> {
+        if counts.iter().zip(self.most).any(|(count, most)| *count > most) {
+            return None;
+        }
+        let pairs = self.header + ASSERT * counts[0];
+        let neighbours = pairs + PAIR * counts[1];
+        Some([self.header, pairs, neighbours, neighbours + NEIGHBOUR * counts[2]])
+    }
+}
+
+/// The places of a sheet, if its header is right. Without the mark the first
+/// word is the count of an old sheet; one that begins neither form is over that
+/// count's limit.
+fn read_header(octets: &[u8]) -> Option<Places> {
+    let (form, numbers) = match octets.strip_prefix(&MARK) {
+        Some(rest) => (NEW, numbers::<4>(rest)?),
+        None => (OLD, numbers::<2>(octets)?),
+    };
+    let [asserts, at_asserts, pairs, at_pairs, neighbours, at_neighbours] = numbers;
+    let places = form.places([asserts, pairs, neighbours])?;
+    (places == [at_asserts, at_pairs, at_neighbours, octets.len()]).then_some(places)
+}
+
+/// The first six numbers, of so many octets each.
+fn numbers<const N: usize>(octets: &[u8]) -> Option<[usize; 6]> {
+    let (numbers, _) = octets.as_chunks::<N>();
+    let six = numbers.first_chunk::<6>()?;
+    Some(six.map(|number| number.iter().fold(0, |n, octet| n << 8 | usize::from(*octet))))
+}
+
+/// The header of the new form.
+fn write_header(counts: [usize; 3], places: Places, octets: &mut [u8]) {
+    let (mark, numbers) = octets.split_at_mut(MARK.len());
+    mark.copy_from_slice(&MARK);
+    let (numbers, _) = numbers.as_chunks_mut::<4>();
+    let pairs = counts.iter().zip(&places).flat_map(|(count, place)| [*count, *place]);
+    for (octets, number) in numbers.iter_mut().zip(pairs) {
+        *octets = (number as u32).to_be_bytes();
+    }
+}
+
 /// The three sections of a checked sheet.
 struct Sections<'a> {
     asserts: &'a [u8],
     pairs: &'a [u8],
     table: Table,
-}
-
-/// The three counts and offsets of a sheet.
-#[derive(PartialEq)]
-struct Header {
-    counts: [usize; 3],
-    offsets: [usize; 3],
-}
-
-impl Header {
-    /// The header that counts within their limits give.
-    fn of(counts: [usize; 3]) -> Header {
-        let pairs = HEADER + ASSERT * counts[0];
-        Header { counts, offsets: [HEADER, pairs, pairs + PAIR * counts[1]] }
-    }
-
-    fn read(octets: &[u8; HEADER]) -> Header {
-        let word = |at: usize| usize::from(u16::from_be_bytes([octets[at], octets[at + 1]]));
-        Header { counts: [word(0), word(4), word(8)], offsets: [word(2), word(6), word(10)] }
-    }
-
-    fn counts_ok(&self) -> bool {
-        self.counts[0] <= ENTRIES_MOST && self.counts[1] <= ENTRIES_MOST && self.counts[2] <= ROWS
-    }
-
-    /// Where the sheet ends.
-    fn end(&self) -> usize {
-        self.offsets[2] + NEIGHBOUR * self.counts[2]
-    }
-
-    fn write(&self, octets: &mut [u8]) {
-        for i in 0..3 {
-            octets[4 * i..4 * i + 2].copy_from_slice(&(self.counts[i] as u16).to_be_bytes());
-            octets[4 * i + 2..4 * i + 4].copy_from_slice(&(self.offsets[i] as u16).to_be_bytes());
-        }
-    }
 }
 
 /// Whether the octets are a sheet; 14 with its place if not.
@@ -79,23 +103,24 @@ pub fn write_sheet(asserts: &[u8], pairs: &[u8], table: &Table, buffer: &mut [u8
     if !assert_cut.is_empty() || !pair_cut.is_empty() {
         return refuse(10, 0);
     }
-    if assert_list.len() > ENTRIES_MOST || pair_list.len() > ENTRIES_MOST {
-        return refuse(14, 0);
-    }
     check_table(table)?;
-    let header = Header::of([assert_list.len(), pair_list.len(), table.count]);
-    let Some(octets) = buffer.get_mut(..header.end()) else {
+    let counts = [assert_list.len(), pair_list.len(), table.count];
+    let Some(places) = NEW.places(counts) else {
+        return refuse(14, 0);
+    };
+    let [at_asserts, at_pairs, at_neighbours, end] = places;
+    let Some(octets) = buffer.get_mut(..end) else {
         return refuse(8, 0);
     };
     let bad_assert = first_bad(assert_list, assert_entry_ok);
     if bad_assert.is_some() || first_bad(pair_list, sheet_pair_ok).is_some() {
         return refuse(7, 0);
     }
-    header.write(octets);
-    octets[HEADER..header.offsets[1]].copy_from_slice(asserts);
-    octets[header.offsets[1]..header.offsets[2]].copy_from_slice(pairs);
-    write_table(table, &mut octets[header.offsets[2]..]);
-    Ok(header.end())
+    write_header(counts, places, &mut octets[..at_asserts]);
+    octets[at_asserts..at_pairs].copy_from_slice(asserts);
+    octets[at_pairs..at_neighbours].copy_from_slice(pairs);
+    write_table(table, &mut octets[at_neighbours..]);
+    Ok(end)
 }
 
 /// A pair in a sheet may have source 0.
@@ -104,18 +129,13 @@ fn sheet_pair_ok(entry: &[u8; PAIR]) -> bool {
 }
 
 fn sections(octets: &[u8]) -> Answer<Sections<'_>> {
-    let Some(head) = octets.first_chunk::<HEADER>() else {
+    let Some([at_asserts, at_pairs, at_neighbours, _]) = read_header(octets) else {
         return refuse(14, 0);
     };
-    let header = Header::read(head);
-    if !header.counts_ok() || header != Header::of(header.counts) || header.end() != octets.len() {
-        return refuse(14, 0);
-    }
-    let (asserts, rest) = octets[HEADER..].split_at(ASSERT * header.counts[0]);
-    let (pairs, neighbours) = rest.split_at(PAIR * header.counts[1]);
-    check_entries(asserts, header.offsets[0], assert_entry_ok)?;
-    check_entries(pairs, header.offsets[1], sheet_pair_ok)?;
-    let table = read_table(neighbours, header.offsets[2])?;
+    let (asserts, pairs) = (&octets[at_asserts..at_pairs], &octets[at_pairs..at_neighbours]);
+    check_entries(asserts, at_asserts, assert_entry_ok)?;
+    check_entries(pairs, at_pairs, sheet_pair_ok)?;
+    let table = read_table(&octets[at_neighbours..], at_neighbours)?;
     Ok(Sections { asserts, pairs, table })
 }
 
@@ -127,34 +147,34 @@ fn check_entries<const N: usize>(octets: &[u8], at: usize, good: impl Fn(&[u8; N
     }
 }
 
-/// The table of at most 16 rows; of an address given twice the later row is
-/// at fault.
+/// The table; there are no more rows than it holds.
 fn read_table(octets: &[u8], at: usize) -> Answer<Table> {
     let (rows, _) = octets.as_chunks::<NEIGHBOUR>();
     let mut table = Table::empty();
-    for (i, octets) in rows.iter().enumerate() {
-        match read_row(octets) {
-            Some(row) if table.used().iter().all(|other| other.address != row.address) => {
-                table.rows[i] = row;
-                table.count += 1;
-            }
-            _ => return refuse(14, at + NEIGHBOUR * i),
-        }
+    for row in rows.iter().map_while(read_row) {
+        table.rows[table.count] = row;
+        table.count += 1;
+    }
+    let good = first_bad_row(table.used()).unwrap_or(table.count);
+    if good < rows.len() {
+        return refuse(14, at + NEIGHBOUR * good);
     }
     Ok(table)
 }
 
+/// A row, if its flags and its zero octet are right.
 fn read_row(octets: &[u8; NEIGHBOUR]) -> Option<Neighbour> {
     let [a, b, c, d, e, f, g, h, flags, zero, i, j] = *octets;
-    let row = Neighbour {
+    if flags & !(HAS_PRIORITY | PACKS) != 0 || zero != 0 {
+        return None;
+    }
+    Some(Neighbour {
         address: u32::from_be_bytes([a, b, c, d]),
         priority: u32::from_be_bytes([e, f, g, h]),
         has_priority: flags & HAS_PRIORITY != 0,
         packs: flags & PACKS != 0,
         holdtime: u16::from_be_bytes([i, j]),
-    };
-    let good = flags & !(HAS_PRIORITY | PACKS) == 0 && zero == 0 && row_ok(&row);
-    good.then_some(row)
+    })
 }
 
 fn write_table(table: &Table, octets: &mut [u8]) {

@@ -1,10 +1,10 @@
 //! Cut and changed messages, and random octets: every call ends with an
 //! answer, and a refusal changes nothing lent.
 mod common;
+use common::sheets::*;
 use common::*;
 use second::checksum::*;
 use second::hello::*;
-use second::neighbours::*;
 use second::pack::*;
 use second::popcount::*;
 use second::read::*;
@@ -148,28 +148,50 @@ fn hellos_into_any_room() {
 #[test]
 fn changed_sheets() {
     let mut rng = Rng::new(79);
-    let mut table = Table::empty();
-    for i in 1..=3 {
-        table = hear(table, i, Hello { holdtime: 9, priority: Some(i), packing: true }).unwrap();
-    }
-    let mut buffer = vec![0; 500];
     let asserts = random_entries(&mut rng, 3);
     let pairs = random_pairs(&mut rng, 3, 0);
-    let length = write_sheet(&asserts, &pairs, &table, &mut buffer).unwrap();
-    for at in 0..length {
-        for octet in 0..=255 {
-            let mut sheet = buffer[..length].to_vec();
+    for form in SHEET_FORMS {
+        let good = form.sheet(&asserts, &pairs, &row_octets(&neighbours(3)));
+        for (at, octet) in (0..good.len()).flat_map(|at| (0..=255).map(move |octet| (at, octet))) {
+            let mut sheet = good.clone();
             sheet[at] = octet;
             let (mut x, mut y) = ([0; 48], [0; 24]);
             let Ok((a, p, table)) = read_sheet(&sheet, &mut x, &mut y) else {
                 assert_eq!((x, y), ([0; 48], [0; 24]));
                 continue;
             };
-            // What is read writes the same sheet again.
-            let mut again = vec![0; length];
-            assert_eq!(write_sheet(&x[..16 * a], &y[..8 * p], &table, &mut again), Ok(length));
-            assert_eq!(again, sheet);
+            // What is read writes the same sections again.
+            let body = &sheet[form.header..];
+            let mut again = vec![0; 28 + body.len()];
+            assert_eq!(write_sheet(&x[..16 * a], &y[..8 * p], &table, &mut again), Ok(again.len()));
+            assert_eq!(again[28..], *body);
         }
+    }
+}
+
+/// Headers of counts and offsets that are small, large or right, before octets
+/// of any number.
+#[test]
+fn any_headers_of_sheets() {
+    let mut rng = Rng::new(82);
+    let (mut x, mut y) = (vec![0x55; 16 * 40], vec![0x55; 8 * 40]);
+    for _ in 0..200_000 {
+        let form = SHEET_FORMS[rng.below(2)];
+        let counts = [rng.below(40), rng.below(40), rng.below(70)];
+        let mut numbers = form.numbers(counts);
+        for _ in 0..rng.below(3) {
+            let large = [form.most[rng.below(3)] + rng.below(3), rng.next_u32() as usize, 0xFFFF_FFFF];
+            numbers[rng.below(6)] = [rng.below(100), large[rng.below(3)]][rng.below(2)];
+        }
+        let length = 16 * counts[0] + 8 * counts[1] + 12 * counts[2] + rng.below(2);
+        let mut octets = vec![0; length];
+        rng.fill(&mut octets[..length.min(40)]);
+        let sheet = [form.header_of(numbers), octets].concat();
+        if read_sheet(&sheet, &mut x, &mut y).is_err() {
+            assert!(x.iter().chain(&y).all(|octet| *octet == 0x55));
+        }
+        x.fill(0x55);
+        y.fill(0x55);
     }
 }
 

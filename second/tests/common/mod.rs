@@ -1,6 +1,8 @@
 //! What the tests share.
 #![allow(dead_code)]
 
+pub mod sheets;
+
 use second::checksum::checksum;
 use second::hello::Hello;
 use second::pack::*;

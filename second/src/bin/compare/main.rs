@@ -4,7 +4,8 @@
 //! `cargo run --release --bin compare` runs the usual seed; `-- --seed S` another
 //! one, and `--rounds R` the random parts R times. The status is 0 only if there
 //! was no difference and all calls, all refusals, faults of all fields, all
-//! outcomes of a report and bad sources in all that has sources occurred.
+//! outcomes of a report, bad sources in all that has sources, all outcomes of
+//! sheets of both forms and tables of all lengths occurred.
 
 #[cfg(archive)]
 mod against;

@@ -4,7 +4,7 @@
 use super::ffi;
 use second::counters::{Count, Counters};
 use second::hello::Hello;
-use second::neighbours::{Neighbour, Table, ROWS};
+use second::neighbours::{Neighbour, Table};
 use second::popcount::{Attribute, Own};
 use second::read::Record;
 use second::report::{Fraction, Report, Tally};
@@ -146,11 +146,7 @@ pub fn row_form(row: &Neighbour) -> ffi::Neighbour {
 }
 
 pub fn table_form(table: &Table) -> ffi::Table {
-    let mut form = ffi::Table { count: table.count, ..Default::default() };
-    for i in 0..ROWS {
-        form.rows[i] = row_form(&table.rows[i]);
-    }
-    form
+    ffi::Table { rows: ffi::Rows(table.rows.map(|row| row_form(&row))), count: table.count }
 }
 
 /// The table comes back changed, or as it was.

@@ -79,12 +79,12 @@ records! {
         holdtime: u16,
     }
 
-    Table: 200 {
-        rows: [Neighbour; 16],
+    Table: 776 {
+        rows: Rows,
         count: usize,
     }
 
-    TableAnswer: 224 {
+    TableAnswer: 800 {
         refusal: Refusal,
         table: Table,
         done: u8,
@@ -185,10 +185,21 @@ records! {
         counts: SheetCounts,
     }
 
-    SheetAnswer: 240 {
+    SheetAnswer: 816 {
         refusal: Refusal,
         counts: SheetCounts,
         table: Table,
+    }
+}
+
+/// The rows of a table, more than an array has a default for.
+#[repr(transparent)]
+#[derive(Clone, Copy, Debug, PartialEq, Eq)]
+pub struct Rows(pub [Neighbour; 64]);
+
+impl Default for Rows {
+    fn default() -> Rows {
+        Rows([Neighbour::default(); 64])
     }
 }
 

@@ -1,13 +1,13 @@
 //! What the calls are given: messages, files of them, lists, tables, counters,
 //! tallies, attributes and sheets, good and damaged.
 
+use super::forms::{SheetForm, MARK};
 use second::checksum::checksum;
 use second::counters::{Count, Counters};
 use second::neighbours::{Neighbour, Table, ROWS};
 use second::popcount::Own;
 use second::report::Tally;
 use second::rng::Rng;
-use second::sheet::write_sheet;
 
 pub const R: u32 = 0x8000_0000;
 
@@ -559,9 +559,10 @@ pub fn any_file(rng: &mut Rng, list: &[Vec<u8>], bound: usize) -> Vec<u8> {
 
 // ---- neighbours and counters
 
-/// Few addresses of neighbours; some are no sources.
+/// Few addresses of neighbours, about twice as many as a table holds; some are
+/// no sources.
 pub fn address(rng: &mut Rng) -> u32 {
-    let small = rng.below(20) as u32;
+    let small = rng.below(40) as u32;
     1 + pick(rng, &[small, small, 0x0A00_0001 * small, 0xE000_0000 + small, u32::MAX - 1 - small])
 }
 
@@ -616,22 +617,29 @@ pub fn low_rows(rng: &mut Rng, count: usize) -> Vec<Neighbour> {
     (0..count).map(|_| low(rng)).collect()
 }
 
-/// A good table.
+/// A good table: short, of any length, or full, or nearly.
 pub fn table(rng: &mut Rng) -> Table {
-    let count = rng.below(ROWS + 1);
+    let (short, any) = (rng.below(17), rng.below(ROWS + 1));
+    let count = pick(rng, &[short, short, short, short, any, any, ROWS - 1, ROWS]);
     table_of(rng, count)
 }
 
 pub fn table_of(rng: &mut Rng, count: usize) -> Table {
-    let mut table = Table::empty();
-    while table.count < count {
+    let mut table = Table { count, ..Table::empty() };
+    table.rows[..count].copy_from_slice(&good_rows(rng, count));
+    table
+}
+
+/// Rows that a sheet may hold, to more than a table does.
+fn good_rows(rng: &mut Rng, count: usize) -> Vec<Neighbour> {
+    let mut rows: Vec<Neighbour> = Vec::with_capacity(count);
+    while rows.len() < count {
         let address = address(rng);
-        if table.rows[..table.count].iter().all(|row| row.address != address) {
-            table.rows[table.count] = row(rng, address);
-            table.count += 1;
+        if rows.iter().all(|row| row.address != address) {
+            rows.push(row(rng, address));
         }
     }
-    table
+    rows
 }
 
 /// A table with one fault or more.
@@ -644,10 +652,10 @@ pub fn spoiled_table(rng: &mut Rng) -> Table {
 }
 
 fn spoil_table(rng: &mut Rng, table: &mut Table) {
-    let one = rng.below(ROWS);
-    let other = rng.below(ROWS);
+    let rows = pick(rng, &[table.count.clamp(1, ROWS), ROWS]);
+    let (one, other) = (rng.below(rows), rng.below(rows));
     match rng.below(9) {
-        0 => table.count = pick(rng, &[17, 18, 32, 1 << 16, 1 << 32, usize::MAX]),
+        0 => table.count = pick(rng, &[65, 66, 128, 1 << 16, 1 << 32, usize::MAX]),
         1 => table.count = rng.below(ROWS + 1),
         2 => table.rows[one].address = table.rows[other].address,
         3 => table.rows[one].address = 0,
@@ -788,37 +796,43 @@ pub fn own(rng: &mut Rng) -> Own {
 
 // ---- sheets
 
-/// A good sheet of so many asserts, pairs and neighbours.
-pub fn sheet(rng: &mut Rng, counts: [usize; 3]) -> Vec<u8> {
-    let (asserts, pairs) = (asserts(rng, counts[0]), pairs(rng, counts[1], true));
-    let table = table_of(rng, counts[2]);
-    let mut octets = vec![0; 12 + 16 * counts[0] + 8 * counts[1] + 12 * counts[2]];
-    let length = write_sheet(&asserts, &pairs, &table, &mut octets);
-    assert_eq!(length, Ok(octets.len()), "the sheet is good");
+/// A sheet of so many asserts, pairs and neighbours. They are good, and the
+/// sheet is too unless its form allows fewer.
+pub fn sheet(rng: &mut Rng, form: SheetForm, counts: [usize; 3]) -> Vec<u8> {
+    let mut octets = form.header_of(form.numbers(counts));
+    octets.extend(asserts(rng, counts[0]));
+    octets.extend(pairs(rng, counts[1], true));
+    octets.extend(good_rows(rng, counts[2]).iter().flat_map(row_octets));
     octets
 }
 
-/// A sheet's header with its counts and the offsets they ask for, whatever
-/// the counts are, and octets to the end it says.
-pub fn loose_sheet(rng: &mut Rng, counts: [usize; 3]) -> Vec<u8> {
-    let pairs = 12 + 16 * counts[0];
-    let neighbours = pairs + 8 * counts[1];
-    let header = [counts[0], 12, counts[1], pairs, counts[2], neighbours];
-    let mut octets: Vec<u8> = header.iter().flat_map(|number| (*number as u16).to_be_bytes()).collect();
-    octets.extend(asserts(rng, counts[0]));
-    octets.extend(self::pairs(rng, counts[1], true));
-    for i in 0..counts[2] {
-        octets.extend(words(&[i as u32 + 1, 5, 0x0100_0069]));
-    }
-    octets
+fn row_octets(row: &Neighbour) -> Vec<u8> {
+    let flags = u32::from(row.has_priority) | u32::from(row.packs) << 1;
+    words(&[row.address, row.priority, flags << 24 | u32::from(row.holdtime)])
 }
 
 /// Puts an address that is no source into an entry of a sheet of so many asserts
 /// and pairs.
-pub fn spoil_sheet(rng: &mut Rng, sheet: &mut [u8], [asserts, pairs]: [usize; 2]) {
+pub fn spoil_sheet(rng: &mut Rng, sheet: &mut [u8], form: SheetForm, [asserts, pairs]: [usize; 2]) {
     let entry = rng.below(asserts + pairs);
-    let at = if entry < asserts { 12 + 16 * entry } else { 12 + 8 * (entry + asserts) };
+    let at = form.header + if entry < asserts { 16 * entry } else { 8 * (entry + asserts) };
     if asserts + pairs > 0 {
         sheet[at + 4..at + 8].copy_from_slice(&no_source(rng).to_be_bytes());
     }
+}
+
+/// Numbers for a header, beside one that it has: about it, about the limits, and
+/// such as are it, or nothing, in fewer bits.
+pub fn other_numbers(number: usize, form: SheetForm) -> Vec<usize> {
+    let near = [0, 1, number.wrapping_sub(1), number + 1, number + 16];
+    let limits = form.most.iter().flat_map(|most| [*most, most + 1]);
+    let bits = [15, 16, 28, 29, 30, 31].into_iter().flat_map(|bit| [1 << bit, number | 1 << bit]);
+    near.into_iter().chain(limits).chain(bits).chain([0xFFFF, 0xFFFF_FFFF]).collect()
+}
+
+/// Random octets, mostly behind those that a sheet of a form begins with.
+pub fn sheet_octets(rng: &mut Rng) -> Vec<u8> {
+    let begin: &[u8] = pick(rng, &[&[], &MARK[..2], &MARK, &[0, 0, 0, 12]]);
+    let length = rng.below(50);
+    [begin, &octets(rng, length)].concat()
 }

@@ -5,6 +5,7 @@ mod checksum;
 mod counters;
 mod expect;
 mod ffi;
+mod forms;
 mod hello;
 mod least;
 mod lent;
@@ -22,6 +23,7 @@ mod tally;
 mod trains;
 
 use crate::options::Options;
+use forms::Forms;
 use lent::Lent;
 use outcomes::Outcomes;
 use places::Fields;
@@ -31,14 +33,15 @@ use std::process::ExitCode;
 use tally::Tally;
 
 /// A run: the random numbers, what was counted, which fields were at fault, what
-/// came of the files reported, which sources were refused and accepted, and how
-/// often random parts are run.
+/// came of the files reported, which sources were refused and accepted, what came
+/// of sheets and tables, and how often random parts are run.
 pub struct Run {
     rng: Rng,
     tally: Tally,
     fields: Fields,
     outcomes: Outcomes,
     sources: Sources,
+    forms: Forms,
     rounds: usize,
 }
 
@@ -64,6 +67,7 @@ pub fn all(options: Options) -> ExitCode {
         fields: Fields::default(),
         outcomes: Outcomes::default(),
         sources: Sources::default(),
+        forms: Forms::default(),
         rounds: options.rounds,
     };
     for subject in [
@@ -81,5 +85,5 @@ pub fn all(options: Options) -> ExitCode {
     ] {
         subject(&mut run);
     }
-    run.tally.report(&run.fields, &run.outcomes, &run.sources)
+    run.tally.report(&run)
 }

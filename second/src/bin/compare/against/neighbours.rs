@@ -13,8 +13,10 @@ pub fn compare(run: &mut Run) {
         &calls::table_empty(),
         &expect::table_form(&Table::empty()),
     );
-    for _ in 0..320 * run.rounds {
-        history(run);
+    for _ in 0..160 * run.rounds {
+        let table = make::table(&mut run.rng);
+        history(run, Table::empty());
+        history(run, table);
     }
     for _ in 0..20_000 * run.rounds {
         let table = make::table(&mut run.rng);
@@ -23,12 +25,12 @@ pub fn compare(run: &mut Run) {
         every_call(run, &table);
     }
     each_fault(run);
+    each_two(run);
     lists(run);
 }
 
-/// Neighbours that come and go, from an empty table on.
-fn history(run: &mut Run) {
-    let mut table = Table::empty();
+/// Neighbours that come and go, from a table on.
+fn history(run: &mut Run, mut table: Table) {
     for _ in 0..80 {
         let address = any_address(run, &table);
         if run.rng.one_in(5) {
@@ -71,9 +73,9 @@ fn every_call(run: &mut Run, table: &Table) {
     questions(run, table, address);
 }
 
-/// A full table with each row at fault in turn, and one with unused rows.
+/// A full table with each row at fault in turn, and some with unused rows.
 fn each_fault(run: &mut Run) {
-    for count in [16, 9] {
+    for count in [ROWS, ROWS - 1, 16, 9] {
         let table = make::table_of(&mut run.rng, count);
         for row in 0..ROWS {
             for fault in 0..6 {
@@ -82,9 +84,19 @@ fn each_fault(run: &mut Run) {
                 every_call(run, &table);
             }
         }
-        for count in (0..20).chain([1 << 31, 1 << 32, usize::MAX]) {
+        for count in (0..ROWS + 4).chain([1 << 31, 1 << 32, usize::MAX]) {
             every_call(run, &Table { count, ..table });
         }
+    }
+}
+
+/// Each two rows of a full table with the same address.
+fn each_two(run: &mut Run) {
+    let table = make::table_of(&mut run.rng, ROWS);
+    for (first, later) in (0..ROWS).flat_map(|later| (0..later).map(move |first| (first, later))) {
+        let mut table = table;
+        table.rows[later].address = table.rows[first].address;
+        every_call(run, &table);
     }
 }
 
@@ -105,8 +117,14 @@ fn hear_one(run: &mut Run, table: &Table, address: u32, said: ffi::Hello) {
     let first = calls::hear(expect::table_form(table), address, said);
     let second = expect::table(table, hear(*table, address, expect::said(said)));
     run.tally.call("pim_hear", format_args!("address {address}, {said:?}, {table:?}"), &[], &first, &second);
-    if second.refusal.number == 0 {
-        run.sources.count(HEARD, address);
+    run.forms.of_table("pim_hear", table.count);
+    match second.refusal.number {
+        0 => {
+            run.sources.count(HEARD, address);
+            run.forms.heard(table.count, Some(second.table.count));
+        }
+        11 => run.forms.heard(table.count, None),
+        _ => (),
     }
 }
 
@@ -114,6 +132,7 @@ fn forget_one(run: &mut Run, table: &Table, address: u32) {
     let first = calls::forget(expect::table_form(table), address);
     let second = expect::table(table, forget(*table, address));
     run.tally.call("pim_forget", format_args!("address {address}, {table:?}"), &[], &first, &second);
+    run.forms.of_table("pim_forget", table.count);
 }
 
 /// The calls that only look at a table.
@@ -121,12 +140,14 @@ fn questions(run: &mut Run, table: &Table, address: u32) {
     let form = expect::table_form(table);
     let (first, second) = (calls::packing_allowed(form), expect::allowed(packing_allowed(table)));
     run.tally.call("pim_packing_allowed", format_args!("{table:?}"), &[], &first, &second);
+    run.forms.of_table("pim_packing_allowed", table.count);
 
     let priority = make::pick(&mut run.rng, &[0, 1, 5, u32::MAX]);
     let first = calls::elect(form, address, priority);
     let second = expect::elected(elect(table, address, priority));
     let numbers = format_args!("address {address}, priority {priority}, {table:?}");
     run.tally.call("pim_elect", numbers, &[], &first, &second);
+    run.forms.of_table("pim_elect", table.count);
     if second.refusal.number == 0 {
         run.sources.count(OWN, address);
     }
@@ -142,7 +163,7 @@ fn lists(run: &mut Run) {
             among(run, &rows);
         }
     }
-    for count in (1..=18).chain([200]) {
+    for count in (1..=18).chain([63, 64, 65, 200]) {
         for place in 0..count {
             at_place(run, count, place);
         }

@@ -1,10 +1,10 @@
 //! Counts comparisons and refusals, and stops at the first difference.
 
 use super::expect::Answered;
+use super::forms::{Counted, Forms, COUNTED};
 use super::lent::{Lent, Memory};
-use super::outcomes::Outcomes;
-use super::places::Fields;
 use super::sources::Sources;
+use super::Run;
 use crate::options::Options;
 use std::fmt::{Arguments, Debug};
 use std::process::{exit, ExitCode};
@@ -48,7 +48,7 @@ const CALLS: [&str; 34] = [
 ];
 
 // What is claimed of the first implementation beside the single calls: of its
-// whole trains, of its Hellos, of its places, and of its reports.
+// whole trains, of its Hellos, of its places, of its reports, and of its sheets.
 pub const UNPACKED: &str = "train unpacks to its list";
 pub const LEAST: &str = "train is the least (brute force)";
 pub const LARGER_LIMIT: &str = "larger limit, no longer train";
@@ -61,8 +61,9 @@ pub const ALL_COUNTED: &str = "all messages accepted or refused";
 pub const LEFT: &str = "65,536 octets left at most";
 pub const IN_PIECES: &str = "file in pieces, the same report";
 pub const FIRST_BAD: &str = "7 at the first bad entry, or none";
+pub const SAME_ENTRIES: &str = "sheet read and written, the same";
 
-const CLAIMS: [&str; 12] = [
+const CLAIMS: [&str; 13] = [
     UNPACKED,
     LEAST,
     LARGER_LIMIT,
@@ -75,12 +76,14 @@ const CLAIMS: [&str; 12] = [
     LEFT,
     IN_PIECES,
     FIRST_BAD,
+    SAME_ENTRIES,
 ];
 
 const NUMBERS: usize = 14;
 const COMPARISONS_LEAST: u64 = 200_000;
 const OUTCOMES_LEAST: u64 = 500;
 const SOURCES_LEAST: u64 = 100;
+const FORMS_LEAST: u64 = 100;
 
 pub struct Tally {
     options: Options,
@@ -117,7 +120,7 @@ impl Tally {
         }
     }
 
-    /// One claim about the train of a list, a Hello, a place or a report.
+    /// One claim about the train of a list, a Hello, a place, a report or a sheet.
     pub fn claim(&mut self, claim: &'static str, numbers: Arguments, lent: &Lent, holds: bool) {
         if !holds {
             self.differ(claim, numbers, &[lent], &"does not hold", &"holds");
@@ -151,7 +154,7 @@ impl Tally {
     }
 
     /// Prints the tables; a failure if something was not compared.
-    pub fn report(&self, fields: &Fields, outcomes: &Outcomes, sources: &Sources) -> ExitCode {
+    pub fn report(&self, run: &Run) -> ExitCode {
         print_rows(&CALLS, &self.calls);
         print_rows(&CLAIMS, &self.claims);
         println!("{:<34}{:>10}", "accepted", self.numbers[0]);
@@ -159,13 +162,14 @@ impl Tally {
             println!("{:<34}{:>10}", format!("refusal {number}"), self.numbers[number]);
         }
         println!("{:<34}{:>10}", "calls lent NULL, with length 0", self.nulls);
-        println!("{:<34}{:>10}", "faults at the rarest field", fields.least().1);
-        for (outcome, count) in outcomes.rows() {
+        println!("{:<34}{:>10}", "faults at the rarest field", run.fields.least().1);
+        for (outcome, count) in run.outcomes.rows() {
             println!("{outcome:<34}{count:>10}");
         }
-        print_sources(sources);
+        print_sources(&run.sources);
+        COUNTED.iter().for_each(|table| print_counted(table, &run.forms));
         println!("{} comparisons, 0 differences", self.comparisons());
-        let gaps = self.gaps(fields, outcomes, sources);
+        let gaps = self.gaps(run);
         for gap in &gaps {
             println!("failed: {gap}");
         }
@@ -177,7 +181,7 @@ impl Tally {
     }
 
     /// What should have been compared and was not.
-    fn gaps(&self, fields: &Fields, outcomes: &Outcomes, sources: &Sources) -> Vec<String> {
+    fn gaps(&self, run: &Run) -> Vec<String> {
         let calls = CALLS.iter().zip(&self.calls).chain(CLAIMS.iter().zip(&self.claims));
         let mut gaps: Vec<String> = calls
             .filter(|(_, count)| **count == 0)
@@ -186,15 +190,20 @@ impl Tally {
         for number in (1..=NUMBERS).filter(|number| self.numbers[*number] == 0) {
             gaps.push(format!("refusal {number} never occurred"));
         }
-        if let ((what, number, field), 0) = fields.least() {
+        if let ((what, number, field), 0) = run.fields.least() {
             gaps.push(format!("refusal {number} never occurred at octet {field} of {what}"));
         }
-        for (outcome, count) in outcomes.rows().iter().filter(|(_, count)| *count < OUTCOMES_LEAST) {
+        for (outcome, count) in run.outcomes.rows().iter().filter(|(_, count)| *count < OUTCOMES_LEAST) {
             gaps.push(format!("{outcome} came {count} times, fewer than {OUTCOMES_LEAST}"));
         }
-        for (name, counts) in sources.none_rows().iter().chain(&sources.accepted_rows()) {
+        for (name, counts) in run.sources.none_rows().iter().chain(&run.sources.accepted_rows()) {
             if counts.iter().any(|count| *count < SOURCES_LEAST) {
                 gaps.push(format!("{name} came {counts:?} times, not each {SOURCES_LEAST} or more"));
+            }
+        }
+        for (name, counts) in COUNTED.iter().flat_map(|table| run.forms.rows(table)) {
+            if counts.iter().any(|(_, count)| *count < FORMS_LEAST) {
+                gaps.push(format!("{name} came {counts:?} times, not each {FORMS_LEAST} or more"));
             }
         }
         if self.nulls == 0 {
@@ -223,6 +232,20 @@ fn print_sources(sources: &Sources) {
     print_columns(&sources.none_rows());
     println!("{:<34}{:>10}{:>10}{:>10}", "accepted", "read", "packed", "in sheets");
     print_columns(&sources.accepted_rows());
+}
+
+/// A column that does not have to come is left empty.
+fn print_counted(table: &Counted, forms: &Forms) {
+    let [name, columns @ ..] = table.heading;
+    let cell = |text: &str| format!("{text:>10}");
+    let line = |name: &str, cells: String| println!("{}", format!("{name:<34}{cells}").trim_end());
+    line(name, columns.map(cell).concat());
+    for (name, counts) in forms.rows(table) {
+        let count = |at: usize| counts.iter().find(|(column, _)| *column == at);
+        let cells =
+            (0..columns.len()).map(|at| cell(&count(at).map_or_else(String::new, |(_, n)| n.to_string())));
+        line(name, cells.collect());
+    }
 }
 
 fn print_columns(rows: &[(String, Vec<u64>)]) {
