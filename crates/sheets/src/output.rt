@@ -1,11 +1,21 @@
-// What the calls of a sheet answered, a line each.
+// What the calls of a sheet and of a table answered, a line each.
 use format::Writing;
+use neighbours::Change;
 use printing::named;
 use printing::number;
 use printing::refused;
+use printing::text;
+use sections::Form;
 use sheet::Counts;
 use sheet::Found;
 use sheet::Verdict;
+
+pub(crate) fn form_name(form: Form) -> bool {
+    match form {
+        Form::Base => text(b"old form"),
+        Form::Large => text(b"new form"),
+    }
+}
 
 fn counts(c: Counts) -> bool {
     number(b"asserts ", c.asserts as u64)
@@ -31,5 +41,15 @@ pub(crate) fn stored(w: Writing) -> bool {
     match w {
         Writing::Wrote(n) => named(b"octets ", n as u64),
         Writing::Refused(r) => refused(r, b"\n"),
+    }
+}
+
+// What was done to a table; its line goes on.
+pub(crate) fn done(c: Change) -> bool {
+    match c {
+        Change::Replaced => text(b"replaced"),
+        Change::Appended => text(b"appended"),
+        Change::Forgotten => text(b"forgotten"),
+        Change::Refused(r) => refused(r, b""),
     }
 }
