@@ -9,7 +9,7 @@
 --     checking, checkSheet             a sheet of a layout, and the call: of the layout that the sheet has
 --     checkedBy                        01's number and values for each case of an answer
 -- Assumes nothing: these are definitions.
-use Prim.Native.Nat.{ℕ, zero, suc, _+_, _*_}
+use Prim.Native.Nat.{ℕ, zero, suc, _+_}
 use mathlib.Core.Bool.{Bool, not, _&&_}
 use mathlib.Core.List.{List, [], _∷_}
 use lib.ListN.{length}

@@ -46,7 +46,7 @@ use Rattle.sections.specs.Sections.{placesOf}
 use Rattle.sections.specs.declared.Counts.{Counts}
 use Rattle.sections.specs.declared.layout.Places.{Places}
 use Rattle.sections.proofs.Header.{end-place}
-use Rattle.sheet.specs.Calls.{contentsOf, counted, atZero, asked, writing, writeSheet}
+use Rattle.sheet.specs.Calls.{contentsOf, counted, atZero, asked, writing}
 use Rattle.sheet.proofs.Rows.{length-rows}
 use Rattle.sheet.proofs.Written.{accepted, asked-is, length-header}
 

@@ -16,7 +16,7 @@ use mathlib.Core.Path.{_≡_, refl, sym, ap, subst, _∙_}
 use mathlib.Core.Bool.{true, false}
 use mathlib.Core.List.{List, [], _∷_, _++_}
 use borrow.Author.Tests.{le-ltb, le-leb}
-use lib.Dec.{lit<, lit≤}
+use lib.Dec.{lit<}
 use lib.ListN.{length, take, drop}
 use Rattle.octets.specs.Octets.{Octets, numberAt, value, be, put}
 use Rattle.octets.proofs.Laws.{take-put}
@@ -220,7 +220,6 @@ round-trip f roomy some = record { readsBack = reads-back; differ = differ; writ
 large-roomy : Roomy large ipv4
 unfolding pairsFrom rowsFrom
 large-roomy = record {
-  front = fronts Large .below;
   asserts = λ c ok. omega (arith, counts-within large c ok);
   pairs = λ c ok. omega (arith, counts-within large c ok);
   neighbours = λ c ok. omega (arith, counts-within large c ok);

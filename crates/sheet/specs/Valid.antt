@@ -1,12 +1,11 @@
 -- What the theorems on sheets ask beside a call's answer: that numbers fit their fields.
---     Roomy            a layout whose fields hold every count and offset that it allows, after a front of octets
+--     Roomy            a layout whose fields hold every count and offset that it allows
 --     RowFits, Held    a row, and a table, as code can hold it
 -- Assumes nothing: these are definitions.
 use mathlib.Core.Path.{_≡_}
 use mathlib.Core.Bool.{true}
 use Prim.Native.Nat.{_^_, _<_}
 use lib.ListN.{length}
-use Rattle.octets.specs.Octets.{Octets}
 use Rattle.records.specs.Every.{Every}
 use Rattle.format.specs.Family.{Family}
 use Rattle.neighbours.specs.Rows.{addressOf, most, used}
@@ -18,7 +17,6 @@ use Rattle.sections.specs.declared.Counts.{Counts}
 
 -- the last offset is the greatest
 pub record Roomy (L : Layout) (f : Family) : Type 0 where
-  pub front : Octets (L .front)
   pub asserts : (c : Counts) → countsAllowed L c ≡ true → c .asserts < 256 ^ L .width
   pub pairs : (c : Counts) → countsAllowed L c ≡ true → c .pairs < 256 ^ L .width
   pub neighbours : (c : Counts) → countsAllowed L c ≡ true → c .neighbours < 256 ^ L .width
