@@ -2,7 +2,7 @@
 --     stopped, went-on              the first test refuses, or lets the call go on
 --     elects                        an election that goes on
 --     hears-out, hears-in, forgets  hearing and forgetting that go on: holdtime 0, another holdtime, an address
---     Answered                      an answer is what a call comes to: the table and what was done
+--     Answered                      an update is what a call comes to: the table and what was done
 --     answered-refused, answered-by a refusal; the same call in other words
 -- Assumes nothing.
 use mathlib.Core.Path.{_≡_, refl, sym, ap, _∙_}
@@ -16,13 +16,13 @@ use Rattle.neighbours.specs.declared.validity.Asked.{Asked}
 use Rattle.neighbours.specs.declared.validity.Asked.the-variants.{Fine, Refused as NotAsked}
 use Rattle.neighbours.specs.declared.election.Scan.{Scan}
 use Rattle.neighbours.specs.declared.Change.the-variants.{Refused}
-use Rattle.neighbours.specs.declared.Changed.{Changed}
+use Rattle.neighbours.specs.declared.hearing.Update.{Update}
 use Rattle.neighbours.specs.declared.Table.{Table}
 use Rattle.neighbours.specs.Rows.{used}
 use Rattle.neighbours.specs.Hearing.{asked, After, rowOf, entering, leaving, hearing, forgetting}
 use Rattle.neighbours.specs.Election.{allHave, best, elect, electing}
 use Rattle.neighbours.specs.Among.{seen, chosen}
-use Rattle.neighbours.specs.Answers.{askedBy, doneBy, doneOf, tableAfter}
+use Rattle.neighbours.specs.Answers.{askedBy, doneBy, doneOf, tableAfter, Ordered, tableBy}
 use Rattle.neighbours.proofs.Among.{chosen-is, have-both}
 
 module _ (t : Table) (a : ℕ) {x : Asked} (e : askedBy x ≡ asked t a) where
@@ -52,13 +52,15 @@ module _ (t : Table) (a : ℕ) {x : Asked} (e : askedBy x ≡ asked t a) where
   unfolding forgetting _>>_
   forgets f = rw (went-on f)
 
-pub record Answered (t : Table) (o : Outcome After) (r : Changed) : Type 0 where
-  pub table : r .table ≡ tableAfter t o
-  pub done : doneBy (r .change) ≡ doneOf o
+-- an update does to a table what a call comes to
+pub record Answered (t : Table) (o : Outcome After) (u : Update) : Type 0 where
+  pub table : tableBy t u ≡ tableAfter t o
+  pub order : Ordered u
+  pub done : doneBy (u .change) ≡ doneOf o
 
-pub answered-refused : (t : Table) (o : Outcome After) {r : Changed} (f : Refusal) → r ≡ record { table = t; change = Refused f } → o ≡ refuses (f .number) (f .place) → Answered t o r
+pub answered-refused : (t : Table) (o : Outcome After) {u : Update} (f : Refusal) → tableBy t u ≡ t → Ordered u → u .change ≡ Refused f → o ≡ refuses (f .number) (f .place) → Answered t o u
 unfolding tableAfter doneBy doneOf
-answered-refused t o f e g = record { table = rw (e, g); done = rw (e, g) }
+answered-refused t o f k w e g = record { table = rw g k; order = w; done = rw (e, g) }
 
-pub answered-by : (t : Table) (o p : Outcome After) {r : Changed} → o ≡ p → Answered t p r → Answered t o r
-answered-by t o p e h = record { table = rw e (h .table); done = rw e (h .done) }
+pub answered-by : (t : Table) (o p : Outcome After) {u : Update} → o ≡ p → Answered t p u → Answered t o u
+answered-by t o p e h = record { table = rw e (h .table); order = h .order; done = rw e (h .done) }

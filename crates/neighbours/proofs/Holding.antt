@@ -1,34 +1,31 @@
--- Where a loop over the rows of a table stands that judges each row in use by those before it, and then the others.
+-- Where a loop over the rows of a table stands that judges each row in use by those before it.
 --     Holding                       the rows so far are in order: holding-start
 --     holding-not, holding-twice    the next row in use is not allowed; one before it has its address
 --     holding-next                  neither
---     holding-all, holding-zero     the rows in use are done; one more of the others is all 0
+--     holding-all                   all of them are done
 -- Assumes nothing.
 use mathlib.Core.Path.{_≡_, refl, sym, ap, _∙_}
 use mathlib.Core.Bool.{Bool, true, false}
 use mathlib.Core.List.{List, [], _∷_, _++_}
-use Prim.Native.Nat.{ℕ, suc, _+_, _%_, _≤_, _<_}
+use Prim.Native.Nat.{ℕ, suc, _+_, _%_, _≤_}
 use native.Mathlib.Omega.{arith}
 use lib.ListN.{length, set, take, drop, take-append-drop}
 use lib.Seq.{take-all, take-add}
 use Rattle.neighbours.specs.declared.Neighbour.{Neighbour}
-use Rattle.neighbours.specs.Rows.{addressOf, allowed, allZero, has, sheetRows}
+use Rattle.neighbours.specs.Rows.{addressOf, allowed, has, sheetRows}
 use Rattle.neighbours.proofs.Tables.{never}
 use Rattle.neighbours.proofs.Rows.{used-long}
 use Rattle.neighbours.proofs.Slots.{Marked, marked-none, marked-next}
 use Rattle.neighbours.proofs.Kept.{has-after, sheet-after, sheet-middle}
 
--- of the first n rows, a sheet may hold those before number i together, and their last octets are marked; past n, the rows from i on are all 0 exactly if all the
--- others are
+-- of the first n rows, a sheet may hold those before number i together, and their last octets are marked
 pub record Holding (rows : List Neighbour) (n i : ℕ) (met : List Bool) : Type 0 where
   pub sheet : sheetRows (take i (take n rows)) ≡ true
   pub marked : Marked (take i (take n rows)) met
-  pub rest : n ≤ i → allZero (drop i rows) ≡ allZero (drop n rows)
 
 pub holding-start : (rows : List Neighbour) (n : ℕ) (met : List Bool) → length met ≡ 256 → Holding rows n 0 met
 unfolding sheetRows
-holding-start rows n met e =
-    record { sheet = refl; marked = marked-none met e; rest = λ h. ap (λ k. allZero (drop k rows)) (let z : 0 ≡ n = omega arith in z) }
+holding-start rows n met e = record { sheet = refl; marked = marked-none met e }
 
 module _ {rows : List Neighbour} {n i : ℕ} {met : List Bool} (h : Holding rows n i met) where
   module _ {x : Neighbour} (here : drop i (take n rows) ≡ x ∷ drop (suc i) (take n rows)) where
@@ -46,24 +43,14 @@ module _ {rows : List Neighbour} {n i : ℕ} {met : List Bool} (h : Holding rows
     pub holding-twice : has (addressOf x) (take i (take n rows)) ≡ true → sheetRows (take n rows) ≡ false
     holding-twice e = by-row (λ q. never (sym e ∙ sheet-middle (take i (take n rows)) x (drop (suc i) (take n rows)) q .1))
 
-    pub holding-next : i < n → allowed x ≡ true → has (addressOf x) (take i (take n rows)) ≡ false → Holding rows n (i + 1) (set met (addressOf x % 256) true)
-    holding-next w e f =
+    pub holding-next : allowed x ≡ true → has (addressOf x) (take i (take n rows)) ≡ false → Holding rows n (i + 1) (set met (addressOf x % 256) true)
+    holding-next e f =
         let k = take i (take n rows) in
         let more : take (i + 1) (take n rows) ≡ k ++ (x ∷ []) = take-add i 1 (take n rows) ∙ ap (λ r. k ++ take 1 r) here in
         record {
           sheet = rw more (sheet-after x k e f (h .sheet));
           marked = rw more (marked-next (h .marked) x (k ++ (x ∷ [])) (λ a. has-after a x k));
-          rest = λ p. ap (λ j. allZero (drop j rows)) (let z : i + 1 ≡ n = omega arith in z);
         }
 
-  module _ (within : n ≤ length rows) (past : n ≤ i) where
-    done : (j : ℕ) → n ≤ j → take j (take n rows) ≡ take n rows
-    done j p = take-all j (take n rows) (let z = used-long rows n within in omega arith)
-
-    pub holding-all : sheetRows (take n rows) ≡ true
-    holding-all = rw (done i past) at (h .sheet)
-
-    pub holding-zero : allZero (drop (i + 1) rows) ≡ allZero (drop n rows) → Holding rows n (i + 1) met
-    holding-zero e =
-        let same : take (i + 1) (take n rows) ≡ take i (take n rows) = done (i + 1) (omega arith) ∙ sym (done i past) in
-        record { sheet = rw same (h .sheet); marked = rw same (h .marked); rest = λ p. e }
+  pub holding-all : n ≤ length rows → n ≤ i → sheetRows (take n rows) ≡ true
+  holding-all w p = rw (take-all i (take n rows) (let z = used-long rows n w in omega arith)) at (h .sheet)

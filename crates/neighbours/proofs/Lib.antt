@@ -7,6 +7,7 @@ pub mod Among
 pub mod Called
 pub mod Gaps
 pub mod Changes
+pub mod Sums
 pub mod Entering
 pub mod Kept
 pub mod Holding

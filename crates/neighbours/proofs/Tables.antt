@@ -1,10 +1,10 @@
 -- Laws of a table as the calls test it, over the definitions of specs/Rows.antt and specs/Hearing.antt.
---     valid-over, valid-not, valid-rest     the table's own test, part by part
+--     valid-over, valid-not, valid-unused, valid-all     the table's own test, part by part
 --     Valid, valid-parts                    what a valid table has
 --     ask-14, ask-7, ask-fine               14, then 7
 --     asked-valid                           a table that a call takes is valid
 -- Assumes nothing.
-use mathlib.Core.Path.{_≡_, refl, sym, _∙_}
+use mathlib.Core.Path.{_≡_, refl, sym}
 use mathlib.Core.Bool.{Bool, true, false, not, _&&_}
 use Prim.Native.Nat.{ℕ, _≤_, _<_}
 use native.Mathlib.Omega.{arith}
@@ -34,9 +34,17 @@ module _ (t : Table) where
   unfolding valid
   valid-not h e = rw (le-leb (t .count) most h, e)
 
-  pub valid-rest : {b : Bool} → t .count ≤ most → sheetRows (used t) ≡ true → b ≡ allZero (drop (t .count) (t .rows)) → b ≡ valid t
+  pub valid-unused : t .count ≤ most → allZero (drop (t .count) (t .rows)) ≡ false → false ≡ valid t
   unfolding valid
-  valid-rest h e f = f ∙ (rw (le-leb (t .count) most h, e))
+  valid-unused h e = rw (le-leb (t .count) most h, e) (go (sheetRows (used t)))
+    where
+      go : (b : Bool) → false ≡ (b && false)
+      go true = refl
+      go false = refl
+
+  pub valid-all : t .count ≤ most → sheetRows (used t) ≡ true → allZero (drop (t .count) (t .rows)) ≡ true → true ≡ valid t
+  unfolding valid
+  valid-all h e f = rw (le-leb (t .count) most h, e, f)
 
 pub record Valid (t : Table) : Type 0 where
   pub within : t .count ≤ most

@@ -2,16 +2,19 @@
 --     askedBy                   what asking about a table and an address finds
 --     doneBy, doneOf            what was done, of an answer and of what a call comes to
 --     tableAfter                the table given back: changed, or as it was
+--     Ordered, tableBy          an update that can be done; the table after it
 --     packingBy, electedBy      the answers about packing and election
 -- Assumes nothing: these are definitions.
-use Prim.Native.Nat.{ℕ}
-use mathlib.Core.Bool.{Bool}
+use Prim.Native.Nat.{ℕ, _≤_, _<_}
+use mathlib.Core.Bool.{Bool, cond}
+use lib.Dec.{ltb}
 use Rattle.format.specs.Outcome.{Outcome, gives, refuses}
-use Rattle.neighbours.specs.Rows.{tableOf}
+use Rattle.neighbours.specs.Rows.{most, tableOf, movedUp}
 use Rattle.neighbours.specs.Hearing.{Done, replaced, appended, forgotten, After, after}
 use Rattle.neighbours.specs.declared.Table.{Table}
 use Rattle.neighbours.specs.declared.validity.Asked.{Asked}
 use Rattle.neighbours.specs.declared.validity.Asked.the-variants.{Fine, Refused as NotAsked}
+use Rattle.neighbours.specs.declared.hearing.Update.{Update}
 use Rattle.neighbours.specs.declared.Change.{Change}
 use Rattle.neighbours.specs.declared.Change.the-variants.{Replaced, Appended, Forgotten, Refused}
 use Rattle.neighbours.specs.declared.Allowance.{Allowance}
@@ -37,6 +40,14 @@ doneOf (refuses n p) = refuses n p
 unfoldable pub tableAfter : Table → Outcome After → Table
 tableAfter t (gives (after d l)) = tableOf l
 tableAfter t (refuses n p) = t
+
+-- rows move up only as far as one that is there
+pub record Ordered (u : Update) : Type 0 where
+  pub order : u .from ≤ u .to
+  pub inside : u .from < u .to → u .to < most
+
+unfoldable pub tableBy : Table → Update → Table
+tableBy t u = cond (ltb (u .to) most) (record { rows = movedUp (u .from) (u .to) (u .row) (t .rows); count = u .count }) t
 
 unfoldable pub packingBy : Allowance → Outcome Bool
 packingBy (Allowed b) = gives b

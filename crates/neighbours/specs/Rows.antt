@@ -2,15 +2,15 @@
 -- them 64: "The neighbour table grows with it, and 11 comes at 64."
 --     most                      how many rows there are, as `ROWS` of src/ says it of the code
 --     addressOf                 the address of a row, as a number
---     noRow, isZero, allZero    "rows not in use are all 0"
+--     noRow, isZero, restOf, allZero    "rows not in use are all 0"
 --     allowed                   a row that a sheet may hold (01, "The sheet")
 --     place, has                where an address stands, and whether it does
 --     sheetRows                 rows that a sheet may hold together
 --     used, valid               the rows in use, and a table that row 14 of 01's table lets pass
 --     tableOf                   the table of some rows: the others are all 0
---     gone, closedUp            the same in the array: the rows but one; the table without it
+--     gone, movedUp, closedUp   the same in the array: the rows but one; some of them moved up; the table without one
 -- Assumes nothing: these are definitions.
-use Prim.Native.Nat.{ℕ, suc, _-_}
+use Prim.Native.Nat.{ℕ, suc, _+_, _-_, _*_}
 use mathlib.Core.Bool.{Bool, true, false, not, cond, _&&_, _||_}
 use mathlib.Core.List.{List, [], _∷_, _++_}
 use lib.ListN.{length, take, drop, replicate}
@@ -31,6 +31,10 @@ noRow = record { address = 0; priority = 0; «has_priority» = false; packs = fa
 
 unfoldable pub isZero : Neighbour → Bool
 isZero n = eqb (addressOf n) 0 && (eqb (n .priority) 0 && (not (n .«has_priority») && (not (n .packs) && eqb (n .holdtime) 0)))
+
+-- what a row has besides its address and its priority, as one number
+unfoldable pub restOf : Bool → Bool → ℕ → ℕ
+restOf p q h = cond p 1 0 + cond q 256 0 + h * 65536
 
 unfoldable pub allZero : List Neighbour → Bool
 allZero [] = true
@@ -67,6 +71,10 @@ tableOf l = record { rows = l ++ replicate (most - length l) noRow; count = leng
 abbrev pub gone : ℕ → List Neighbour → List Neighbour
 gone at l = take at l ++ drop (suc at) l
 
+-- the rows after one move up, as far as a place, where a row is stored
+abbrev pub movedUp : ℕ → ℕ → Neighbour → List Neighbour → List Neighbour
+movedUp from to n l = take to (gone from l) ++ n ∷ drop to (gone from l)
+
 -- "the rows after it move up, so a freed row is used again; rows not in use are all 0"
 abbrev pub closedUp : Table → ℕ → Table
-closedUp t at = record { rows = take (t .count - 1) (gone at (t .rows)) ++ noRow ∷ drop (t .count - 1) (gone at (t .rows)); count = t .count - 1 }
+closedUp t at = record { rows = movedUp at (t .count - 1) noRow (t .rows); count = t .count - 1 }

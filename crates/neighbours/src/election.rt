@@ -151,7 +151,7 @@ impl Table {
     pub fn elect(self, address: u32, priority: u32) -> Elected
         ensures { λ r. ⌜ electedBy r ≡ electing self address priority ⌝ }
     {
-        let a = ask(self, address);
+        let a = ask(is_valid(self), address);
         match a {
             Asked::Refused(r) => Elected::Refused(r),
             Asked::Fine => {

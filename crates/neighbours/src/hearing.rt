@@ -1,4 +1,5 @@
-// What changes a table: a row entered, an address forgotten; then the calls, which give the table back, changed or as it was.
+// What changes a table: a row entered, an address forgotten, each as an update, which is small; then the calls, which give the table back, updated
+// once: every table on the way of an answer would be copied.
 use crate::Change;
 use crate::Changed;
 use crate::Neighbour;
@@ -9,98 +10,149 @@ use crate::row::row_of;
 use crate::validity::Asked;
 use crate::validity::ask;
 use crate::validity::find;
+use crate::validity::is_valid;
 use format::Refusal;
 use hello::Hello;
 ghost use mathlib.Core.Path.{_≡_};
 ghost use mathlib.Core.Bool.{true};
 ghost use mathlib.Core.List.{[]};
-ghost use Prim.Native.Nat.{_≤_, _<_};
-ghost use Rattle.neighbours.specs.Rows.{most, used, valid, tableOf, closedUp};
+ghost use Rattle.neighbours.specs.Rows.{used, valid, tableOf};
 ghost use Rattle.neighbours.specs.Hearing.{entering, leaving, hearing, forgetting};
-ghost use Rattle.neighbours.specs.Answers.{doneBy, doneOf, tableAfter};
+ghost use Rattle.neighbours.specs.Answers.{doneBy, doneOf, tableAfter, Ordered, tableBy};
 
-// The table as it was, with 01's number.
-fn refused(table: Table, refusal: Refusal) -> Changed
-    ensures { λ r. ⌜ r ≡ record { table = table; change = Change.Refused refusal } ⌝ }
+// What is done to a table: the rows after number `from` move up, as far as number `to`, where `row` is stored, and then `count` rows are in use.
+// Where `to` is no row the table stays as it was.
+pub(crate) struct Update {
+    pub(crate) from: usize,
+    pub(crate) to: usize,
+    pub(crate) row: Neighbour,
+    pub(crate) count: usize,
+    pub(crate) change: Change,
+}
+
+// Nothing is done, with 01's number.
+fn refused(refusal: Refusal) -> Update
+    ensures table { λ r. ⌜ ((t : Table) → tableBy t r ≡ t) ⌝ }
+    ensures order { λ r. ⌜ Ordered r ⌝ }
+    ensures done { λ r. ⌜ r .change ≡ Change.Refused refusal ⌝ }
 {
-    Changed {
-        table,
+    Update {
+        from: ROWS,
+        to: ROWS,
+        row: no_row(),
+        count: 0,
         change: Change::Refused(refusal),
     }
 }
 
 // A row stored in place of an earlier one or after the last.
-fn enter(table: Table, row: Neighbour) -> Changed
+fn enter(table: Table, row: Neighbour) -> Update
     requires { ⌜ valid table ≡ true ⌝ }
-    ensures table { λ r. ⌜ r .table ≡ tableAfter table (entering row (used table)) ⌝ }
+    ensures table { λ r. ⌜ tableBy table r ≡ tableAfter table (entering row (used table)) ⌝ }
+    ensures order { λ r. ⌜ Ordered r ⌝ }
     ensures done { λ r. ⌜ doneBy (r .change) ≡ doneOf (entering row (used table)) ⌝ }
 {
     let at = find(table, row.address);
     let count = table.count;
-    let mut after = table;
     if at < count {
-        after.rows[at] = row;
-        return Changed {
-            table: after,
+        return Update {
+            from: at,
+            to: at,
+            row,
+            count,
             change: Change::Replaced,
         };
     }
     if count == ROWS {
-        return refused(
-            table,
-            Refusal {
-                number: 11,
-                place: 0,
-            },
-        );
+        return refused(Refusal {
+            number: 11,
+            place: 0,
+        });
     }
-    after.rows[at] = row;
-    after.count = at + 1;
-    Changed {
-        table: after,
+    Update {
+        from: at,
+        to: at,
+        row,
+        count: at + 1,
         change: Change::Appended,
     }
 }
 
-// The rows after one move up, and the last row in use becomes 0.
-fn close_up(table: Table, at: usize) -> Table
-    requires { ⌜ (at < table .count) × (table .count ≤ most) ⌝ }
-    ensures { λ r. ⌜ r ≡ closedUp table at ⌝ }
+// An address is forgotten: the rows after it move up, and the last row in use becomes 0.
+fn leave(table: Table, address: u32) -> Update
+    requires { ⌜ valid table ≡ true ⌝ }
+    ensures table { λ r. ⌜ tableBy table r ≡ tableAfter table (leaving address (used table)) ⌝ }
+    ensures order { λ r. ⌜ Ordered r ⌝ }
+    ensures done { λ r. ⌜ doneBy (r .change) ≡ doneOf (leaving address (used table)) ⌝ }
 {
-    let last = table.count - 1;
+    let at = find(table, address);
+    let count = table.count;
+    if at < count {
+        let last = count - 1;
+        return Update {
+            from: at,
+            to: last,
+            row: no_row(),
+            count: last,
+            change: Change::Forgotten,
+        };
+    }
+    refused(Refusal {
+        number: 12,
+        place: 0,
+    })
+}
+
+// What hearing does: a row is replaced or goes last; holdtime 0 forgets its address.
+fn heard(table: Table, address: u32, said: Hello) -> Update
+    ensures table { λ r. ⌜ tableBy table r ≡ tableAfter table (hearing table address said) ⌝ }
+    ensures order { λ r. ⌜ Ordered r ⌝ }
+    ensures done { λ r. ⌜ doneBy (r .change) ≡ doneOf (hearing table address said) ⌝ }
+{
+    let a = ask(is_valid(table), address);
+    match a {
+        Asked::Refused(r) => refused(r),
+        Asked::Fine => {
+            if said.holdtime == 0 {
+                return leave(table, address);
+            }
+            enter(table, row_of(address, said))
+        }
+    }
+}
+
+// What forgetting does.
+fn forgotten(table: Table, address: u32) -> Update
+    ensures table { λ r. ⌜ tableBy table r ≡ tableAfter table (forgetting table address) ⌝ }
+    ensures order { λ r. ⌜ Ordered r ⌝ }
+    ensures done { λ r. ⌜ doneBy (r .change) ≡ doneOf (forgetting table address) ⌝ }
+{
+    let a = ask(is_valid(table), address);
+    match a {
+        Asked::Refused(r) => refused(r),
+        Asked::Fine => leave(table, address),
+    }
+}
+
+// The table after an update.
+fn updated(table: Table, u: Update) -> Table
+    requires { ⌜ Ordered u ⌝ }
+    ensures { λ r. ⌜ r ≡ tableBy table u ⌝ }
+{
+    let to = u.to;
     let mut after = table;
-    let mut i = at;
-    while i < last {
+    let mut i = u.from;
+    while i < to {
         let next = after.rows[i + 1];
         after.rows[i] = next;
         i += 1;
     }
-    let zero = no_row();
-    after.rows[last] = zero;
-    after.count = last;
-    after
-}
-
-// An address is forgotten.
-fn leave(table: Table, address: u32) -> Changed
-    requires { ⌜ valid table ≡ true ⌝ }
-    ensures table { λ r. ⌜ r .table ≡ tableAfter table (leaving address (used table)) ⌝ }
-    ensures done { λ r. ⌜ doneBy (r .change) ≡ doneOf (leaving address (used table)) ⌝ }
-{
-    let at = find(table, address);
-    if at < table.count {
-        return Changed {
-            table: close_up(table, at),
-            change: Change::Forgotten,
-        };
+    if to < ROWS {
+        let row = u.row;
+        after.rows[to] = row;
+        after.count = u.count;
     }
-    refused(
-        table,
-        Refusal {
-            number: 12,
-            place: 0,
-        },
-    )
+    after
 }
 
 impl Table {
@@ -118,15 +170,11 @@ impl Table {
         ensures table { λ r. ⌜ r .table ≡ tableAfter self (hearing self address said) ⌝ }
         ensures done { λ r. ⌜ doneBy (r .change) ≡ doneOf (hearing self address said) ⌝ }
     {
-        let a = ask(self, address);
-        match a {
-            Asked::Refused(r) => refused(self, r),
-            Asked::Fine => {
-                if said.holdtime == 0 {
-                    return leave(self, address);
-                }
-                enter(self, row_of(address, said))
-            }
+        let u = heard(self, address, said);
+        let change = u.change;
+        Changed {
+            table: updated(self, u),
+            change,
         }
     }
 
@@ -135,10 +183,11 @@ impl Table {
         ensures table { λ r. ⌜ r .table ≡ tableAfter self (forgetting self address) ⌝ }
         ensures done { λ r. ⌜ doneBy (r .change) ≡ doneOf (forgetting self address) ⌝ }
     {
-        let a = ask(self, address);
-        match a {
-            Asked::Refused(r) => refused(self, r),
-            Asked::Fine => leave(self, address),
+        let u = forgotten(self, address);
+        let change = u.change;
+        Changed {
+            table: updated(self, u),
+            change,
         }
     }
 }

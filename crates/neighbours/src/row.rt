@@ -1,8 +1,10 @@
-// One row of the table: one that is not in use, whether a row is all 0, whether a sheet may hold it, and the row that a Hello gives.
+// One row of the table: one that is not in use, what a row has as one number, whether a sheet may hold it, and the row that a Hello gives.
 use crate::Neighbour;
 use hello::Hello;
 ghost use mathlib.Core.Path.{_≡_};
-ghost use Rattle.neighbours.specs.Rows.{noRow, isZero, allowed};
+ghost use mathlib.Core.Bool.{cond};
+ghost use Prim.Native.Nat.{_≤_};
+ghost use Rattle.neighbours.specs.Rows.{noRow, restOf, allowed};
 ghost use Rattle.neighbours.specs.Hearing.{rowOf};
 
 // A row that is not in use.
@@ -18,18 +20,29 @@ pub(crate) fn no_row() -> Neighbour
     }
 }
 
-// Whether a row is all 0. The sum is one test in place of three: every call goes through the rows not in use.
-pub(crate) fn is_zero(row: Neighbour) -> bool
-    ensures { λ r. ⌜ r ≡ isZero row ⌝ }
+// A number of 32 bits as one of 64.
+pub(crate) fn wide(n: u32) -> u64
+    ensures { λ r. ⌜ (r ≡ n) × (r ≤ 4294967295) ⌝ }
 {
-    let numbers = row.address as u64 + row.priority as u64 + row.holdtime as u64;
-    if numbers != 0 {
-        return false;
+    n as u64
+}
+
+// A number, or 0.
+fn number_if(b: bool, n: u64) -> u64
+    ensures { λ r. ⌜ (r ≡ cond b n 0) × (r ≤ n) ⌝ }
+{
+    if b {
+        return n;
     }
-    if row.has_priority {
-        return false;
-    }
-    !row.packs
+    0
+}
+
+// What a row has besides its two numbers of 32 bits, as one: it is 0 exactly if they all are. They stand as in the row's octets, so that the
+// compiler reads them at once.
+pub(crate) fn rest_of_row(has_priority: bool, packs: bool, holdtime: u16) -> u64
+    ensures { λ r. ⌜ (r ≡ restOf «has_priority» packs holdtime) × (r ≤ 4294967295) ⌝ }
+{
+    number_if(has_priority, 1) + number_if(packs, 256) + holdtime as u64 * 65536
 }
 
 // Whether a sheet may hold a row.

@@ -21,51 +21,32 @@ within c = valid-parts (c .args .table) (c .pre) .within
 find-requires : tie.Need-find-requires
 find-requires c κs = within c
 
-element-set-from-row : tie.Need-element-set-from-row
-element-set-from-row c = omega (arith, c .if1 .taken, within (c .before .before))
-
-mul-row : tie.Need-mul-row
-mul-row c =
-    let h = element-set-from-row c in
-    search needs
-
 returns : tie.Need-returns
 returns c =
     let s = c .before .before in
     let x = enter-old (s .args .table) (full s) (s .pre) (s .args .row) (c .before .find .result) (c .before .find .ensures) (c .if1 .taken) in
-    (x .table, x .done)
+    (x .table, (x .order, x .done))
 
 returns-2 : tie.Need-returns-2
 returns-2 c =
     let f = c .before .before .before in
     let s = f .before in
-    let x = enter-full (s .args .table) (full s) (s .pre) (s .args .row) (f .find .result) (f .find .ensures) (c .before .before .if1 .left) (c .before .if2 .taken) (c .refused .ensures) in
-    (x .table, x .done)
+    let r = c .refused .ensures in
+    let x = enter-full (s .args .table) (full s) (s .pre) (s .args .row) (f .find .result) (f .find .ensures) (c .before .before .if1 .left) (c .before .if2 .taken) (r .0 (s .args .table)) (r .1 .0) (r .1 .1) in
+    (x .table, (x .order, x .done))
 
 -- not every row is in use
 room : (c : tie.Else2) → c .before .before .before .args .table .count < most
 room c = omega (arith, c .if2 .left, within (c .before .before .before))
 
-element-set-from-row-2 : tie.Need-element-set-from-row-2
-element-set-from-row-2 c =
+add-t8 : tie.Need-add-t8
+add-t8 c =
     let s = c .before .before .before in
     let t = s .args .table in
-    omega (
-      arith,
-      room c,
-      c .before .before .find .ensures,
-      place-all (s .args .row .address) (used t),
-      used-long (t .rows) (t .count) (omega (arith, full s, within s)),
-    )
-
-mul-row-2 : tie.Need-mul-row-2
-mul-row-2 c =
-    let h = element-set-from-row-2 c in
-    search needs
-
-add-after : tie.Need-add-after
-add-after c =
-    let h = element-set-from-row-2 c in
+    let h = place-all (s .args .row .address) (used t) in
+    let l = used-long (t .rows) (t .count) (omega (arith, full s, within s)) in
+    let e = c .before .before .find .ensures in
+    let r = room c in
     search needs
 
 returns-3 : tie.Need-returns-3
@@ -73,8 +54,7 @@ returns-3 c =
     let f = c .before .before in
     let s = f .before in
     let x = enter-new (s .args .table) (full s) (s .pre) (s .args .row) (f .find .result) (f .find .ensures) (c .before .if1 .left) (room c) in
-    (x .table, x .done)
+    (x .table, (x .order, x .done))
 
 pub enter-spec : {M : Type 1} → statement M
-enter-spec =
-    tie.close (tie.spec find-requires mul-row element-set-from-row returns (λ c κs. search needs) returns-2 mul-row-2 element-set-from-row-2 add-after returns-3)
+enter-spec = tie.close (tie.spec find-requires returns (λ c κs. search needs) returns-2 add-t8 returns-3)

@@ -20,22 +20,20 @@ within c = valid-parts (c .args .table) (c .pre) .within
 find-requires : tie.Need-find-requires
 find-requires c κs = within c
 
-close-up-requires : tie.Need-close-up-requires
-close-up-requires c κs = (c .if1 .taken, within (c .before .before .before))
-
 returns : tie.Need-returns
 returns c =
-    let f = c .before .before .before in
+    let f = c .before .before in
     let s = f .before in
-    let x = leave-old (s .args .table) (full s) (s .pre) (s .args .address) (f .find .result) (f .find .ensures) (c .before .if1 .taken) (c .close-up .ensures) in
-    (x .table, x .done)
+    let x = leave-old (s .args .table) (full s) (s .pre) (s .args .address) (f .find .result) (f .find .ensures) (c .before .if1 .taken) (c .no-row .ensures) in
+    (x .table, (x .order, x .done))
 
 returns-2 : tie.Need-returns-2
 returns-2 c =
-    let f = c .before .before .before in
+    let f = c .before .before in
     let s = f .before in
-    let x = leave-none (s .args .table) (full s) (s .pre) (s .args .address) (f .find .result) (f .find .ensures) (c .before .if1 .left) (c .refused .ensures) in
-    (x .table, x .done)
+    let r = c .refused .ensures in
+    let x = leave-none (s .args .table) (full s) (s .pre) (s .args .address) (f .find .result) (f .find .ensures) (c .before .if1 .left) (r .0 (s .args .table)) (r .1 .0) (r .1 .1) in
+    (x .table, (x .order, x .done))
 
 pub leave-spec : {M : Type 1} → statement M
-leave-spec = tie.close (tie.spec find-requires close-up-requires returns (λ c κs. search needs) returns-2)
+leave-spec = tie.close (tie.spec find-requires (λ c. search needs) (λ c κs. search needs) returns (λ c κs. search needs) returns-2)
