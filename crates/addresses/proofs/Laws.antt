@@ -8,7 +8,7 @@
 --     halves-some, halves-low                      and against 0; last-none, last-low against 255.255.255.255
 --     address-there, address-none                  the address at a place, by whether it is there
 --     group-at, source-at, inner-at                whether it is a group or a source, by the octet at that place
---     pseudo-summed                                the pseudo-header summed in five parts
+--     pseudo-summed, before-six, before-four       the pseudo-header summed in five parts, and what is summed before a message
 -- Assumes nothing.
 use Prim.Native.Nat.{ℕ, _+_, _*_, _/_, _^_, _<_, _≤_}
 use native.Mathlib.Omega.{arith}
@@ -25,7 +25,9 @@ use Rattle.octets.proofs.Laws.{value-first, octets-take, octets-drop, length-be
 use Rattle.checksum.specs.Sum.{words, sumFrom, sum}
 use Rattle.checksum.proofs.Laws.{sum-after}
 use Rattle.format.specs.Family.{Family, familyOf, mayBeSource}
-use Rattle.format.specs.Header.{pseudoHeader}
+use Rattle.format.specs.Path.{pseudoHeader}
+use Rattle.format.specs.Header.{before}
+use Rattle.format.specs.declared.Path.{Path}
 use Rattle.addresses.specs.Addresses.{addressAt, groupFirst, sourceFirst}
 
 pub width-range : (ipv6 : Bool) → (4 ≤ familyOf ipv6 .width) × (familyOf ipv6 .width ≤ 16)
@@ -229,10 +231,26 @@ last-eight : (n : ℕ) → be 8 (n * 4294967296 + 103) ≡ be 4 n ++ (0 ∷ 0 �
 unfolding be
 last-eight n = be-two 4 4 n 103 (omega arith)
 
-pub pseudo-summed : (sh sl dh dl n : ℕ) → sl < 18446744073709551616 → dl < 18446744073709551616
-    → {a b c d r : ℕ} → a ≡ sumFrom 0 (words (be 8 sh)) → b ≡ sumFrom a (words (be 8 sl)) → c ≡ sumFrom b (words (be 8 dh)) → d ≡ sumFrom c (words (be 8 dl))
-    → r ≡ sumFrom d (words (be 8 (n * 4294967296 + 103))) → r ≡ sum (pseudoHeader (halves sh sl) (halves dh dl) n)
+pub pseudo-summed : (p : Path) (n : ℕ) → p .source .low < 18446744073709551616 → p .destination .low < 18446744073709551616
+    → {a b c d r : ℕ} → a ≡ sumFrom 0 (words (be 8 (p .source .high))) → b ≡ sumFrom a (words (be 8 (p .source .low)))
+    → c ≡ sumFrom b (words (be 8 (p .destination .high))) → d ≡ sumFrom c (words (be 8 (p .destination .low)))
+    → r ≡ sumFrom d (words (be 8 (n * 4294967296 + 103))) → r ≡ sum (pseudoHeader p n)
 unfolding sum pseudoHeader
-pseudo-summed sh sl dh dl n ss ds pa pb pc pd pr =
+pseudo-summed p n ss ds pa pb pc pd pr =
+    let sh : ℕ = p .source .high in
+    let sl : ℕ = p .source .low in
+    let dh : ℕ = p .destination .high in
+    let dl : ℕ = p .destination .low in
     rw (address-before 0 sh sl (be 16 (halves dh dl) ++ (be 4 n ++ (0 ∷ 0 ∷ 0 ∷ 103 ∷ []))) ss, ← pa, ← pb)
     (rw (address-before _ dh dl (be 4 n ++ (0 ∷ 0 ∷ 0 ∷ 103 ∷ [])) ds, ← pc, ← pd, ← last-eight) pr)
+
+-- an IPv6 message is summed after it, an IPv4 message after nothing
+pub before-six : (ipv6 : Bool) (p : Path) (n : ℕ) → ipv6 ≡ true → sum (pseudoHeader p n) ≡ before (familyOf ipv6) p n
+unfolding before
+before-six true p n e = refl
+before-six false p n e = cc
+
+pub before-four : (ipv6 : Bool) (p : Path) (n : ℕ) → ipv6 ≡ false → 0 ≡ before (familyOf ipv6) p n
+unfolding before sum words sumFrom
+before-four false p n e = refl
+before-four true p n e = cc

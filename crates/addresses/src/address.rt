@@ -9,7 +9,7 @@ ghost use mathlib.Core.Path.{_≡_};
 ghost use lib.Dec.{eqb, ltb};
 ghost use Rattle.octets.specs.Octets.{copied};
 ghost use Rattle.format.specs.Family.{familyOf};
-ghost use Rattle.format.specs.Values.{numberOf};
+ghost use Rattle.format.specs.Path.{numberOf};
 ghost use Rattle.addresses.specs.Addresses.{addressAt};
 
 // The address at a place, or 0 where it is not there whole.

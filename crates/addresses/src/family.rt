@@ -3,6 +3,7 @@ use format::LEAST_LIMIT;
 ghost use mathlib.Core.Path.{_≡_};
 ghost use Prim.Native.Nat.{_≤_};
 ghost use Rattle.format.specs.Family.{familyOf, maskLength};
+ghost use Rattle.format.specs.Entry.{frontSize};
 ghost use Rattle.format.specs.Packing.{leastLimit};
 ghost use Rattle.addresses.specs.Addresses.{groupFirst};
 
@@ -24,6 +25,16 @@ pub fn family_number(ipv6: bool) -> u8
         return 2;
     }
     1
+}
+
+// The octets that an entry begins with.
+pub fn front_size(ipv6: bool) -> usize
+    ensures { λ r. ⌜ (r ≡ frontSize (familyOf ipv6)) × (r ≤ 4) ⌝ }
+{
+    if ipv6 {
+        return 4;
+    }
+    0
 }
 
 // A group's mask covers the whole address.

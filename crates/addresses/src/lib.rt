@@ -5,7 +5,7 @@
 // family.rt      what tells the two families apart, as numbers
 // address.rt     an address: read at a place, compared, copied
 // source.rt      whether a source may have an address
-// pseudo.rt      the sum of RFC 8200's pseudo-header
+// pseudo.rt      what is summed before a message: in IPv6 RFC 8200's pseudo-header
 mod address;
 mod family;
 mod pseudo;
@@ -16,10 +16,11 @@ pub use address::copy_address;
 pub use address::is_below;
 pub use address::is_zero;
 pub use family::family_number;
+pub use family::front_size;
 pub use family::is_multicast;
 pub use family::least_limit;
 pub use family::mask_length;
 pub use family::width;
-pub use pseudo::pseudo_sum;
+pub use pseudo::sum_before;
 pub use source::begins_source;
 pub use source::may_be_source;

@@ -5,6 +5,7 @@
 --     packing-read                        a call knows its limit only as read
 --     none-bad, all-allowed               no entry is bad, exactly if every one is allowed
 --     list-fine, list-allowed             and so of a whole list
+--     canonical-long                      how long a message is
 --     taken-most, taken-fits              the most that fit
 --     pack-none, pack-some                no message, and one
 --     packing-gives, packing-short        the whole call, and one refused with 8
@@ -28,8 +29,10 @@ use Rattle.format.specs.Outcome.{Outcome, gives, refuses, refuseIf}
 use Rattle.format.specs.Family.{Family}
 use Rattle.format.specs.Header.{longest}
 use Rattle.format.specs.Entry.{Entries, AllAllowed, count, whole, entriesOf}
+use Rattle.format.specs.declared.Path.{Path}
+use Rattle.format.proofs.Messages.{length-message}
 use Rattle.format.proofs.Outcomes.{no-refusal, gives-same, bind-gives, then-gives, unless-gives}
-use Rattle.format.specs.Packing.{usualLimit, leastLimit, readLimit, Form, canonical, firstBadAt, firstBad, Due, due, asked, taken, packed, octetsOf, tookOf, pack, wrote, written, packDue, packing}
+use Rattle.format.specs.Packing.{usualLimit, leastLimit, readLimit, Form, sizeOf, canonical, firstBadAt, firstBad, Due, due, asked, taken, packed, octetsOf, tookOf, pack, wrote, written, packDue, packing}
 
 -- ---- entries that are all allowed
 
@@ -122,88 +125,94 @@ pub limit-itself : (f : Family) (l : ℕ) → leastLimit f ≤ l → l ≤ longe
 unfolding readLimit leastLimit
 limit-itself f l least greatest = rw (ne-eqb l 0 (λ z. omega arith), le-leb _ l least, le-leb l longest greatest)
 
-pub packing-read : {E : Entries} (F : Form E) (o : List ℕ) (start limit limit′ : ℕ) (d : List ℕ) → readLimit (E .family) limit ≡ readLimit (E .family) limit′
-    → packing F o start limit d ≡ packing F o start limit′ d
+pub packing-read : {E : Entries} (F : Form E) (p : Path) (o : List ℕ) (start limit limit′ : ℕ) (d : List ℕ) → readLimit (E .family) limit ≡ readLimit (E .family) limit′
+    → packing F p o start limit d ≡ packing F p o start limit′ d
 unfolding packing asked
-packing-read F o start limit limit′ d e = rw e refl
+packing-read F p o start limit limit′ d e = rw e refl
 
 -- ---- the message of a call
+
+-- a message is as long as its size says, whatever the addresses
+pub canonical-long : {E : Entries} (F : Form E) (p : Path) (es : List (E .Entry)) → length (canonical F p es) ≡ sizeOf F es
+unfolding canonical sizeOf
+canonical-long {E} F p es = length-message (E .family) p (F .kind) (F .body es)
 
 module _ {E : Entries} (F : Form E) (l : ℕ) (es : List (E .Entry)) where
   pub taken-most : taken F l es ≤ F .atMost (length es)
   unfolding taken
   taken-most = most-le _ (F .atMost (length es))
 
-  pub taken-fits : 0 < taken F l es → length (canonical F (take (taken F l es) es)) ≤ l
+  pub taken-fits : 0 < taken F l es → sizeOf F (take (taken F l es) es) ≤ l
   unfolding taken
-  taken-fits some = leb-true _ l (most-fits (λ (n : ℕ). leb (length (canonical F (take n es))) l) (F .atMost (length es)) some)
+  taken-fits some = leb-true _ l (most-fits (λ (n : ℕ). leb (sizeOf F (take n es)) l) (F .atMost (length es)) some)
 
-  pub pack-none : taken F l es ≡ 0 → pack F l es ≡ packed [] 0
+module _ {E : Entries} (F : Form E) (p : Path) (l : ℕ) (es : List (E .Entry)) where
+  pub pack-none : taken F l es ≡ 0 → pack F p l es ≡ packed [] 0
   unfolding pack
   pack-none e = rw e
 
-  pub pack-some : 0 < taken F l es → pack F l es ≡ packed (canonical F (take (taken F l es) es)) (taken F l es)
+  pub pack-some : 0 < taken F l es → pack F p l es ≡ packed (canonical F p (take (taken F l es) es)) (taken F l es)
   unfolding pack
   pack-some some = rw (ne-eqb (taken F l es) 0 (λ z. omega arith))
 
 -- a call that is not refused
-pub packing-gives : {E : Entries} (F : Form E) (o : List ℕ) (start limit l : ℕ) (d m : List ℕ) (n : ℕ) → Asked E o start limit (length d) l
-    → pack F l (drop start (entriesOf E o)) ≡ packed m n
-    → packing F o start limit d ≡ record { answer = gives (wrote (length m) n); buffer = put d 0 m }
+pub packing-gives : {E : Entries} (F : Form E) (p : Path) (o : List ℕ) (start limit l : ℕ) (d m : List ℕ) (n : ℕ) → Asked E o start limit (length d) l
+    → pack F p l (drop start (entriesOf E o)) ≡ packed m n
+    → packing F p o start limit d ≡ record { answer = gives (wrote (length m) n); buffer = put d 0 m }
 unfolding packing packDue written octetsOf tookOf Outcome._>>=_
-packing-gives {E} F o start limit l d m n h e = rw (asked-gives E o start limit (length d) l h, e)
+packing-gives {E} F p o start limit l d m n h e = rw (asked-gives E o start limit (length d) l h, e)
 
 -- a call whose buffer is below the limit
-pub packing-short : {E : Entries} (F : Form E) (o : List ℕ) (start limit l : ℕ) (d : List ℕ) → readLimit (E .family) limit ≡ gives l → length d < l
-    → packing F o start limit d ≡ record { answer = refuses 8 0; buffer = d }
+pub packing-short : {E : Entries} (F : Form E) (p : Path) (o : List ℕ) (start limit l : ℕ) (d : List ℕ) → readLimit (E .family) limit ≡ gives l → length d < l
+    → packing F p o start limit d ≡ record { answer = refuses 8 0; buffer = d }
 unfolding packing written Outcome._>>=_
-packing-short {E} F o start limit l d e short = rw (asked-short E o start limit (length d) l e short)
+packing-short {E} F p o start limit l d e short = rw (asked-short E o start limit (length d) l e short)
 
 -- and what is known of any call that gives a message
-pub record Wrote-by {E : Entries} (F : Form E) (o : List ℕ) (start limit : ℕ) (d : List ℕ) (n k : ℕ) : Type 0 where
+pub record Wrote-by {E : Entries} (F : Form E) (p : Path) (o : List ℕ) (start limit : ℕ) (d : List ℕ) (n k : ℕ) : Type 0 where
   pub limitRead : ℕ
   pub was : Asked E o start limit (length d) limitRead
-  pub isMessage : take n (packing F o start limit d .buffer) ≡ canonical F (take k (drop start (entriesOf E o)))
-  pub past : drop n (packing F o start limit d .buffer) ≡ drop n d
+  pub isMessage : take n (packing F p o start limit d .buffer) ≡ canonical F p (take k (drop start (entriesOf E o)))
+  pub past : drop n (packing F p o start limit d .buffer) ≡ drop n d
   pub most : k ≤ F .atMost (length (drop start (entriesOf E o)))
-  pub within : length (canonical F (take k (drop start (entriesOf E o)))) ≤ limitRead
+  pub within : sizeOf F (take k (drop start (entriesOf E o))) ≤ limitRead
 
-not-asked : {E : Entries} (F : Form E) (o : List ℕ) (start limit : ℕ) (d : List ℕ) (n p : ℕ) → asked E o start limit (length d) ≡ refuses n p
-    → packing F o start limit d .answer ≡ refuses n p
+not-asked : {E : Entries} (F : Form E) (p : Path) (o : List ℕ) (start limit : ℕ) (d : List ℕ) (n q : ℕ) → asked E o start limit (length d) ≡ refuses n q
+    → packing F p o start limit d .answer ≡ refuses n q
 unfolding packing written Outcome._>>=_
-not-asked F o start limit d n p e = rw e
+not-asked F p o start limit d n q e = rw e
 
-module _ {E : Entries} (F : Form E) (o : List ℕ) (start limit : ℕ) (d : List ℕ) (n k : ℕ) (some : 0 < k) (e : packing F o start limit d .answer ≡ gives (wrote n k)) where
+module _ {E : Entries} (F : Form E) (p : Path) (o : List ℕ) (start limit : ℕ) (d : List ℕ) (n k : ℕ) (some : 0 < k) (e : packing F p o start limit d .answer ≡ gives (wrote n k)) where
   left : List (E .Entry)
   left = drop start (entriesOf E o)
 
   -- a call that took some entries took as many as its definition says
-  took-some : (l : ℕ) → Asked E o start limit (length d) l → (t : ℕ) → taken F l left ≡ t → Wrote-by F o start limit d n k
+  took-some : (l : ℕ) → Asked E o start limit (length d) l → (t : ℕ) → taken F l left ≡ t → Wrote-by F p o start limit d n k
   unfolding left
   took-some l h zero none =
-      let call : packing F o start limit d ≡ _ = packing-gives F o start limit l d [] 0 h (pack-none F l left none) in
+      let call : packing F p o start limit d ≡ _ = packing-gives F p o start limit l d [] 0 h (pack-none F p l left none) in
       let answer : wrote 0 0 ≡ wrote n k = gives-same (sym (ap (λ c. c .answer) call) ∙ e) in
       let zero : 0 ≡ k = cc in
       absurd (omega arith)
   took-some l h (suc t) more =
-      let m : List ℕ = canonical F (take (taken F l left) left) in
+      let m : List ℕ = canonical F p (take (taken F l left) left) in
       let pos : 0 < taken F l left = omega arith in
-      let call : packing F o start limit d ≡ _ = packing-gives F o start limit l d m (taken F l left) h (pack-some F l left pos) in
+      let call : packing F p o start limit d ≡ _ = packing-gives F p o start limit l d m (taken F l left) h (pack-some F p l left pos) in
       let answer : wrote (length m) (taken F l left) ≡ wrote n k = gives-same (sym (ap (λ c. c .answer) call) ∙ e) in
       let long : length m ≡ n = cc in
       let count : taken F l left ≡ k = cc in
       record {
         limitRead = l;
         was = h;
-        isMessage = ap (take n) (ap (λ c. c .buffer) call) ∙ ap (λ j. take j (put d 0 m)) (sym long) ∙ take-put d m ∙ ap (λ j. canonical F (take j left)) count;
+        isMessage = ap (take n) (ap (λ c. c .buffer) call) ∙ ap (λ j. take j (put d 0 m)) (sym long) ∙ take-put d m ∙ ap (λ j. canonical F p (take j left)) count;
         past = ap (drop n) (ap (λ c. c .buffer) call) ∙ ap (λ j. drop j (put d 0 m)) (sym long) ∙ drop-put d m ∙ ap (λ j. drop j d) long;
         most = rw count at (taken-most F l left);
         within = rw count at (taken-fits F l left pos);
       }
 
-  was-asked : (x : Outcome (Due (E .Entry))) → asked E o start limit (length d) ≡ x → Wrote-by F o start limit d n k
+  was-asked : (x : Outcome (Due (E .Entry))) → asked E o start limit (length d) ≡ x → Wrote-by F p o start limit d n k
   was-asked (gives (due l es)) q = took-some l (gives-asked E o start limit (length d) l es q .0) (taken F l left) refl
-  was-asked (refuses a b) q = absurd (no-refusal (sym (not-asked F o start limit d a b q) ∙ e))
+  was-asked (refuses a b) q = absurd (no-refusal (sym (not-asked F p o start limit d a b q) ∙ e))
 
-  pub wrote-by : Wrote-by F o start limit d n k
+  pub wrote-by : Wrote-by F p o start limit d n k
   wrote-by = was-asked (asked E o start limit (length d)) refl

@@ -27,6 +27,7 @@ use Rattle.format.specs.Header.{header}
 use Rattle.format.specs.Body.{zeroReserved, assertsBody}
 use Rattle.format.specs.Unpacking.{unpacked, unpackAsserts}
 use Rattle.format.specs.declared.Kind.{Kind}
+use Rattle.format.specs.declared.Path.{Path}
 use Rattle.format.proofs.Outcomes.{no-refusal, bind-gives, unless-gives}
 use Rattle.format.specs.declared.Kind.the-variants.{Aggregated}
 
@@ -288,18 +289,18 @@ neither : (a b : Bool) → (a || b) ≡ false → a ≡ false
 neither true b e = e
 neither false b e = refl
 
-header-long : (o : List ℕ) (k : Kind) → header o ≡ gives k → 4 ≤ length o
+header-long : (f : Family) (p : Path) (o : List ℕ) (k : Kind) → header f p o ≡ gives k → 4 ≤ length o
 unfolding header
-header-long o k h =
+header-long f p o k h =
     unless-gives (ltb (length o) 4 || ltb 65515 (length o)) 1 0 _ _ h (λ long rest. ltb-false (length o) 4 (neither _ _ long))
 
-pub unpacked-records : (f : Family) (m : List ℕ) (es : List AssertRecord) → unpackAsserts f m ≡ gives (unpacked Aggregated es)
+pub unpacked-records : (f : Family) (p : Path) (m : List ℕ) (es : List AssertRecord) → unpackAsserts f p m ≡ gives (unpacked Aggregated es)
     → Records f m es
 unfolding unpackAsserts
-unpacked-records f m es h =
-    bind-gives (header m) _ _ h (λ k found rest.
+unpacked-records f p m es h =
+    bind-gives (header f p m) _ _ h (λ k found rest.
     bind-gives (from 4 (assertsBody f k) m) _ _ rest (λ es′ read same.
     let whole : from 4 (assertsBody f Aggregated) m ≡ gives es = cc in
-    let long : 4 ≤ length m = header-long m k found in
+    let long : 4 ≤ length m = header-long f p m k found in
     let left : 4 + (length m - 4) ≡ length m = omega arith in
     takes-from (takes-body f m (length m - 4) left) 4 m es left whole .1))

@@ -1,5 +1,6 @@
 -- Entries: the octets in which a caller lends records and gets them back (01, "Octets of a message"): "16 octets for an assert
--- (group, source, R with preference, metric), 8 for a pair (group, source)".
+-- (group, source, R with preference, metric), 8 for a pair (group, source)". An entry begins with its family's front, if it has one.
+--     frontSize, hasFront        the octets before the group, and whether they stand at a place
 --     Entries                    one sort of entry: its size, its reading, its writing, and where one is allowed
 --     assertEntries, pairEntries the asserts of a family, and its pairs, with source 0 allowed or not
 --     Fits, PairFits             the numbers of an entry fit their fields
@@ -13,7 +14,7 @@ use mathlib.Core.Bool.{Bool, true, _&&_}
 use mathlib.Core.List.{List, [], _∷_}
 use lib.ListN.{length}
 use lib.Dec.{eqb}
-use Rattle.octets.specs.Octets.{numberAt, be, _&_}
+use Rattle.octets.specs.Octets.{value, numberAt, be, _&_}
 use Rattle.records.specs.Records.{AssertRecord, assert, PairRecord, pair, rBit}
 use Rattle.format.specs.Family.{Family, mayBeSource}
 use Rattle.format.specs.Record.{each}
@@ -28,8 +29,17 @@ pub record Entries : Type 1 where
   -- whether the entry at a place is one "whose group and, by R, source the section above allows"
   pub allowedAt : List ℕ → ℕ → Bool
 
+-- ---- before the group
+
+abbrev pub frontSize : Family → ℕ
+frontSize f = length (f .front)
+
+unfoldable pub hasFront : Family → List ℕ → ℕ → Bool
+hasFront f o at = eqb (numberAt (frontSize f) o at) (value (f .front))
+
 -- ---- asserts
 
+-- from the place of its group on
 unfoldable pub assertAt : Family → List ℕ → ℕ → AssertRecord
 assertAt f o at =
     assert (numberAt (f .width) o at)
@@ -45,7 +55,7 @@ pub record Fits (f : Family) (e : AssertRecord) : Type 0 where
   pub metric : e .metric < 256 ^ 4
 
 unfoldable pub assertEntryOctets : Family → AssertRecord → List ℕ
-assertEntryOctets f e = be (f .width) (e .group) & be (f .width) (e .source) & be 4 (e .rPreference) & be 4 (e .metric)
+assertEntryOctets f e = f .front & be (f .width) (e .group) & be (f .width) (e .source) & be 4 (e .rPreference) & be 4 (e .metric)
 
 -- "With R=0 the source may not be 0"
 unfoldable pub allowedAssert : Family → AssertRecord → Bool
@@ -55,10 +65,10 @@ abbrev pub assertEntries : Family → Entries
 assertEntries f = record {
   family = f;
   Entry = AssertRecord;
-  size = 2 * f .width + 8;
-  entryAt = assertAt f;
+  size = frontSize f + 2 * f .width + 8;
+  entryAt = λ o at. assertAt f o (at + frontSize f);
   octetsOf = assertEntryOctets f;
-  allowedAt = λ o at. allowedAssert f (assertAt f o at);
+  allowedAt = λ o at. hasFront f o at && allowedAssert f (assertAt f o (at + frontSize f));
 }
 
 -- ---- pairs
@@ -71,7 +81,7 @@ pub record PairFits (f : Family) (e : PairRecord) : Type 0 where
   pub source : e .source < 256 ^ f .width
 
 unfoldable pub pairEntryOctets : Family → PairRecord → List ℕ
-pairEntryOctets f e = be (f .width) (e .group) & be (f .width) (e .source)
+pairEntryOctets f e = f .front & be (f .width) (e .group) & be (f .width) (e .source)
 
 unfoldable pub allowedPair : Family → Bool → PairRecord → Bool
 allowedPair f zeroAllowed e = f .isGroup (e .group) && mayBeSource f zeroAllowed (e .source)
@@ -80,10 +90,10 @@ abbrev pub pairEntries : Family → Bool → Entries
 pairEntries f zeroAllowed = record {
   family = f;
   Entry = PairRecord;
-  size = 2 * f .width;
-  entryAt = pairAt f;
+  size = frontSize f + 2 * f .width;
+  entryAt = λ o at. pairAt f o (at + frontSize f);
   octetsOf = pairEntryOctets f;
-  allowedAt = λ o at. allowedPair f zeroAllowed (pairAt f o at);
+  allowedAt = λ o at. hasFront f o at && allowedPair f zeroAllowed (pairAt f o (at + frontSize f));
 }
 
 -- ---- lists of entries

@@ -2,18 +2,21 @@
 --     kindOf, octet0, octet1      the table of kinds, read and written
 --     header                      the checks of every message: 1, 2, 3, 4 in that order
 --     body                        "The body past the header is handed back as a part of the message lent"
+--     before, sums                what is summed before a message, and whether its checksum holds
 --     message                     a message of a kind and a body, with its checksum
---     pseudoHeader                octets that an IPv6 message is summed after, and that are not sent
+-- Both go by the family and by the addresses of the datagram, which in IPv6 are summed too.
 -- Assumes nothing: these are definitions.
-use Prim.Native.Nat.{ℕ, _/_, _%_}
-use mathlib.Core.Bool.{not, _||_, cond}
+use Prim.Native.Nat.{ℕ, _+_, _/_, _%_}
+use mathlib.Core.Bool.{Bool, not, _||_, cond}
 use mathlib.Core.List.{List, [], _∷_}
 use lib.ListN.{length, getD, drop}
 use lib.Dec.{eqb, ltb}
 use Rattle.octets.specs.Octets.{be, _&_}
-use Rattle.checksum.specs.Sum.{holds, checksum}
+use Rattle.checksum.specs.Sum.{sum, holdsFrom, checksumFrom}
 use Rattle.format.specs.Outcome.{Outcome, gives, refuses, refuseIf, _>>_}
+use Rattle.format.specs.Family.{Family}
 use Rattle.format.specs.declared.Kind.{Kind}
+use Rattle.format.specs.declared.Path.{Path}
 use Rattle.format.specs.declared.Kind.the-variants.{Hello, Assert, Simple, Aggregated, NullRegister, RegisterStop}
 
 -- type 5: "P is bit 0 (the least) of octet 1, A bit 1; the others, and A with P=0, are ignored"
@@ -52,12 +55,19 @@ shortest = 4
 abbrev pub longest : ℕ
 longest = 65515
 
+-- in IPv6 the pseudo-header's words come first in the sum; in IPv4 there are none
+unfoldable pub before : Family → Path → ℕ → ℕ
+before f p n = sum (f .covered p n)
+
+unfoldable pub sums : Family → Path → List ℕ → Bool
+sums f p o = holdsFrom (before f p (length o)) o
+
 -- "version 2 and type in the halves of octet 0, high first; octet 1"
-unfoldable pub header : List ℕ → Outcome Kind
-header o = do
+unfoldable pub header : Family → Path → List ℕ → Outcome Kind
+header f p o = do
   refuseIf (ltb (length o) shortest || ltb longest (length o)) 1 0
   refuseIf (not (eqb (getD o 0 0 / 16) 2)) 2 0
-  refuseIf (not (holds o)) 3 0
+  refuseIf (not (sums f p o)) 3 0
   kindOf (getD o 0 0 % 16) (getD o 1 0)
 
 -- "beginning at octet 4"; "Where a call handing back a part refuses, the part is empty"
@@ -65,13 +75,10 @@ unfoldable pub bodyOf : Outcome Kind → List ℕ → List ℕ
 bodyOf (gives k) o = drop 4 o
 bodyOf (refuses n p) o = []
 
-unfoldable pub body : List ℕ → List ℕ
-body o = bodyOf (header o) o
+unfoldable pub body : Family → Path → List ℕ → List ℕ
+body f p o = bodyOf (header f p o) o
 
 -- "16-bit Internet checksum over the whole message, its own field as 0"
-unfoldable pub message : Kind → List ℕ → List ℕ
-message k rest = (octet0 k ∷ octet1 k ∷ []) & be 2 (checksum ((octet0 k ∷ octet1 k ∷ 0 ∷ 0 ∷ []) & rest)) & rest
-
--- RFC 8200, 8.1: source, destination, length of the message, zero, next header 103 (E7)
-unfoldable pub pseudoHeader : ℕ → ℕ → ℕ → List ℕ
-pseudoHeader source destination n = be 16 source & be 16 destination & be 4 n & (0 ∷ 0 ∷ 0 ∷ 103 ∷ [])
+unfoldable pub message : Family → Path → Kind → List ℕ → List ℕ
+message f p k rest =
+    (octet0 k ∷ octet1 k ∷ []) & be 2 (checksumFrom (before f p (4 + length rest)) ((octet0 k ∷ octet1 k ∷ 0 ∷ 0 ∷ []) & rest)) & rest

@@ -1,5 +1,6 @@
 pub mod Outcome
 pub mod Reader
+pub mod Path
 pub mod Family
 pub mod Address
 pub mod Record

@@ -2,7 +2,7 @@
 --     usualLimit, leastLimit, readLimit            the limits
 --     Form                                         how one kind of message is made of entries
 --     plain, simple, aggregated, nullRegister, registerStop     the five kinds
---     canonical                                    the one message of entries
+--     sizeOf, canonical                            how long the message of entries is, and the one message of entries
 --     firstBad, Due, asked                         what a call refuses, in the order 9, 8, 10, 7
 --     taken, Packed, octetsOf, tookOf, pack        "always the most that fit", and the message
 --     Wrote, PackingCall, written, packing         answer, and buffer as the call returns
@@ -23,6 +23,7 @@ use Rattle.format.specs.Header.{message, longest}
 use Rattle.format.specs.Body.{plainBody, simpleBody, aggregatedBody, pairBody}
 use Rattle.format.specs.Entry.{Entries, assertEntries, pairEntries, count, whole, entriesOf}
 use Rattle.format.specs.declared.Kind.{Kind}
+use Rattle.format.specs.declared.Path.{Path}
 use Rattle.format.specs.declared.Kind.the-variants.{Assert, Simple, Aggregated, NullRegister, RegisterStop}
 
 -- ---- limits
@@ -67,9 +68,13 @@ nullRegister f = record { kind = NullRegister; atMost = λ n. n; body = pairBody
 abbrev pub registerStop : (f : Family) → Form (pairEntries f true)
 registerStop f = record { kind = RegisterStop; atMost = λ n. n; body = pairBody f; size = λ es. 4 + pairSize (f .width) * length es }
 
--- the one message of entries, in the one byte form
-unfoldable pub canonical : {E : Entries} → Form E → List (E .Entry) → List ℕ
-canonical F es = message (F .kind) (F .body es)
+-- a header of 4 octets and the body, whatever the addresses
+unfoldable pub sizeOf : {E : Entries} → Form E → List (E .Entry) → ℕ
+sizeOf F es = 4 + length (F .body es)
+
+-- the one message of entries, in the one byte form, with the addresses that its checksum is made from
+unfoldable pub canonical : {E : Entries} → Form E → Path → List (E .Entry) → List ℕ
+canonical {E} F p es = message (E .family) p (F .kind) (F .body es)
 
 -- ---- refusals: "Packing: 9, 8, 10, then 7 with the number of the first bad entry from the start on"
 
@@ -98,7 +103,7 @@ asked E o start limit room = do
 
 -- "always the most that fit"
 unfoldable pub taken : {E : Entries} → Form E → ℕ → List (E .Entry) → ℕ
-taken F l es = most (λ n. leb (length (canonical F (take n es))) l) (F .atMost (length es))
+taken F l es = most (λ n. leb (sizeOf F (take n es)) l) (F .atMost (length es))
 
 -- the octets written, and how many entries they take
 pub data Packed : Type 0 where
@@ -111,8 +116,8 @@ unfoldable pub tookOf : Packed → ℕ
 tookOf (packed m n) = n
 
 -- "At the end of the list it takes 0, length 0, and writes nothing"
-unfoldable pub pack : {E : Entries} → Form E → ℕ → List (E .Entry) → Packed
-pack F l es = let n = taken F l es in packed (cond (eqb n 0) [] (canonical F (take n es))) n
+unfoldable pub pack : {E : Entries} → Form E → Path → ℕ → List (E .Entry) → Packed
+pack F p l es = let n = taken F l es in packed (cond (eqb n 0) [] (canonical F p (take n es))) n
 
 -- ---- the calls
 
@@ -129,13 +134,13 @@ unfoldable pub written : List ℕ → Outcome Packed → PackingCall
 written d (gives p) = record { answer = gives (wrote (length (octetsOf p)) (tookOf p)); buffer = put d 0 (octetsOf p) }
 written d (refuses n p) = record { answer = refuses n p; buffer = d }
 
-unfoldable pub packDue : {E : Entries} → Form E → Due (E .Entry) → Packed
-packDue F (due l es) = pack F l es
+unfoldable pub packDue : {E : Entries} → Form E → Path → Due (E .Entry) → Packed
+packDue F p (due l es) = pack F p l es
 
-unfoldable pub packing : {E : Entries} → Form E → List ℕ → ℕ → ℕ → List ℕ → PackingCall
-packing {E} F o start limit d = written d do
+unfoldable pub packing : {E : Entries} → Form E → Path → List ℕ → ℕ → ℕ → List ℕ → PackingCall
+packing {E} F p o start limit d = written d do
   x ← asked E o start limit (length d)
-  gives (packDue F x)
+  gives (packDue F p x)
 
 -- ---- the choice between the two assert forms
 
@@ -169,10 +174,11 @@ bothWritten ds da s a =
       aggregatedBuffer = put da 0 (octetsOf a);
     }
 
-unfoldable pub choiceOf : (f : Family) → List ℕ → List ℕ → Outcome (Due (assertEntries f .Entry)) → ChoiceCall
-choiceOf f ds da (gives (due l es)) = bothWritten ds da (pack (simple f) l es) (pack (aggregated f) l es)
-choiceOf f ds da (refuses n p) = record { answer = refuses n p; part = []; simpleBuffer = ds; aggregatedBuffer = da }
+-- "One pair" of addresses "serves both buffers"
+unfoldable pub choiceOf : (f : Family) → Path → List ℕ → List ℕ → Outcome (Due (assertEntries f .Entry)) → ChoiceCall
+choiceOf f path ds da (gives (due l es)) = bothWritten ds da (pack (simple f) path l es) (pack (aggregated f) path l es)
+choiceOf f path ds da (refuses n p) = record { answer = refuses n p; part = []; simpleBuffer = ds; aggregatedBuffer = da }
 
 -- either buffer below the limit is 8, and neither is written
-unfoldable pub choice : Family → List ℕ → ℕ → ℕ → List ℕ → List ℕ → ChoiceCall
-choice f o start limit ds da = choiceOf f ds da (asked (assertEntries f) o start limit (min (length ds) (length da)))
+unfoldable pub choice : Family → Path → List ℕ → ℕ → ℕ → List ℕ → List ℕ → ChoiceCall
+choice f path o start limit ds da = choiceOf f path ds da (asked (assertEntries f) o start limit (min (length ds) (length da)))

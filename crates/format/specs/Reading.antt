@@ -15,6 +15,7 @@ use Rattle.format.specs.Family.{Family}
 use Rattle.format.specs.Entry.{Entries, assertEntries, pairEntries, entriesOctets}
 use Rattle.format.specs.Unpacking.{Unpacked, unpacked, unpackAsserts, unpackPairs}
 use Rattle.format.specs.declared.Kind.{Kind}
+use Rattle.format.specs.declared.Path.{Path}
 
 -- the kind, and the number of entries
 pub data Found : Type 0 where
@@ -40,9 +41,9 @@ reading E u d = delivered E d do
   x ← u
   roomFor E (length d) x
 
-unfoldable pub readAsserts : Family → List ℕ → List ℕ → ReadingCall
-readAsserts f o d = reading (assertEntries f) (unpackAsserts f o) d
+unfoldable pub readAsserts : Family → Path → List ℕ → List ℕ → ReadingCall
+readAsserts f p o d = reading (assertEntries f) (unpackAsserts f p o) d
 
 -- which sources are allowed is for unpacking to say, and nothing of it is asked again here
-unfoldable pub readPairs : Family → List ℕ → List ℕ → ReadingCall
-readPairs f o d = reading (pairEntries f false) (unpackPairs f o) d
+unfoldable pub readPairs : Family → Path → List ℕ → List ℕ → ReadingCall
+readPairs f p o d = reading (pairEntries f false) (unpackPairs f p o) d

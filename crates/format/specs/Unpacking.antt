@@ -11,18 +11,19 @@ use Rattle.format.specs.Family.{Family}
 use Rattle.format.specs.Header.{header}
 use Rattle.format.specs.Body.{assertsBody, pairsBody}
 use Rattle.format.specs.declared.Kind.{Kind}
+use Rattle.format.specs.declared.Path.{Path}
 
 pub data Unpacked (A : Type 0) : Type 0 where
   unpacked : Kind → List A → Unpacked A
 
-unfoldable pub unpackAsserts : Family → List ℕ → Outcome (Unpacked AssertRecord)
-unpackAsserts f o = do
-  k ← header o
+unfoldable pub unpackAsserts : Family → Path → List ℕ → Outcome (Unpacked AssertRecord)
+unpackAsserts f p o = do
+  k ← header f p o
   es ← from 4 (assertsBody f k) o
   gives (unpacked k es)
 
-unfoldable pub unpackPairs : Family → List ℕ → Outcome (Unpacked PairRecord)
-unpackPairs f o = do
-  k ← header o
+unfoldable pub unpackPairs : Family → Path → List ℕ → Outcome (Unpacked PairRecord)
+unpackPairs f p o = do
+  k ← header f p o
   es ← from 4 (pairsBody f k) o
   gives (unpacked k es)

@@ -1,11 +1,10 @@
 -- What the structs and the enums of this crate hold: 01's values for each case.
 --     kindNumber, kinds    the number that names a kind, and the kinds in 01's order
 --     kindNamed, namedBy   the kind that a number names, and an answer about it
---     numberOf             an address as a number
 --     assertOf, pairOf     "an assert with its four fields or a pair with its two"
 --     recordOf             a record read singly, by its case
 -- A refusal is its number and its place. Assumes nothing: these are definitions.
-use Prim.Native.Nat.{ℕ, _+_, _*_}
+use Prim.Native.Nat.{ℕ}
 use mathlib.Core.Bool.{cond}
 use mathlib.Core.List.{List, [], _∷_}
 use mathlib.Core.Option.{Option, none, some}
@@ -16,7 +15,6 @@ use Rattle.format.specs.declared.Kind.{Kind}
 use Rattle.format.specs.declared.Kind.the-variants.{Hello, Assert as AssertKind, Simple, Aggregated, NullRegister, RegisterStop}
 use Rattle.format.specs.declared.Named.{Named}
 use Rattle.format.specs.declared.Named.the-variants.{Is, Nothing}
-use Rattle.format.specs.declared.Address.{Address}
 use Rattle.format.specs.declared.AssertFields.{AssertFields}
 use Rattle.format.specs.declared.PairFields.{PairFields}
 use Rattle.format.specs.declared.Record.{Record}
@@ -46,12 +44,6 @@ kindNamed n = named n kinds
 unfoldable pub namedBy : Named → Option Kind
 namedBy (Is k) = some k
 namedBy Nothing = none
-
--- ---- addresses
-
--- of the two halves, each of 64 bits; an IPv4 address has 0 in the high one
-abbrev pub numberOf : Address → ℕ
-numberOf a = a .high * 18446744073709551616 + a .low
 
 -- ---- records
 

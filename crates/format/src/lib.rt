@@ -1,9 +1,11 @@
 // The vocabulary that the crates above share: the kinds of message with their numbers, limits, a refusal, what writing
-// octets did, an address, the two records and the R bit. What each means in octets is in specs/, and so are the theorems'
+// octets did, the families of addresses, an address and a path of two, the two records and the R bit. What each means in octets is in specs/, and so are the theorems'
 // statements; there is hardly any code.
 ghost use mathlib.Core.Path.{_≡_};
 ghost use Rattle.records.specs.Records.{rBit};
+ghost use Rattle.format.specs.Family.{isIpv6};
 ghost use Rattle.format.specs.Packing.{usualLimit};
+ghost use Rattle.format.specs.Path.{nowhere};
 ghost use Rattle.format.specs.Values.{kindNumber, kindNamed, namedBy};
 
 // The six kinds of message, in 01's order.
@@ -76,11 +78,44 @@ pub enum Writing {
     Refused(Refusal),
 }
 
+// The family that a caller names.
+pub enum AddressFamily {
+    Ipv4,
+    Ipv6,
+}
+
+// Code below the public calls names it by a bool: a compiler sees through one.
+pub fn is_ipv6(family: AddressFamily) -> bool
+    ensures { λ r. ⌜ r ≡ isIpv6 family ⌝ }
+{
+    match family {
+        AddressFamily::Ipv4 => false,
+        AddressFamily::Ipv6 => true,
+    }
+}
+
 // An address as a number, in two halves; an IPv4 address has 0 in the high one.
 #[repr(C)]
 pub struct Address {
     pub high: u64,
     pub low: u64,
+}
+
+// Where a datagram goes: an IPv6 message is summed with both addresses, an IPv4 message with neither.
+#[repr(C)]
+pub struct Path {
+    pub source: Address,
+    pub destination: Address,
+}
+
+// A path for callers that have none: an IPv4 message is not summed with it.
+pub fn nowhere() -> Path
+    ensures { λ r. ⌜ r ≡ nowhere ⌝ }
+{
+    Path {
+        source: Address { high: 0, low: 0 },
+        destination: Address { high: 0, low: 0 },
+    }
 }
 
 // R, the highest bit of the word that it has with the metric preference.

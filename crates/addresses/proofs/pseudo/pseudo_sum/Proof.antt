@@ -8,7 +8,7 @@ use Rattle.addresses.proofs.pseudo.pseudo_sum.Tie as tie
 returns : tie.Need-returns
 returns c =
     let a = c .before .before .before .before .before .args in
-    pseudo-summed (a .source .high) (a .source .low) (a .destination .high) (a .destination .low) (a .n) (search needs) (search needs)
+    pseudo-summed (a .path) (a .n) (search needs) (search needs)
     (c .before .before .before .before .sum-number64 .ensures) (c .before .before .before .sum-number642 .ensures) (c .before .before .sum-number643 .ensures)
     (c .before .sum-number644 .ensures) (c .sum-number645 .ensures)
 

@@ -7,7 +7,7 @@ use denote.Ref.{now}
 use lib.Dec.{eqb}
 use borrow.Author.Needs.{needs}
 use Rattle.format.specs.Family.{familyOf, mayBeSource}
-use Rattle.format.specs.Values.{numberOf}
+use Rattle.format.specs.Path.{numberOf}
 use Rattle.addresses.specs.Addresses.{addressAt}
 use Rattle.addresses.proofs.Laws.{source-other, source-last, may-other, may-zero, last-none, last-low}
 use Rattle.addresses.proofs.source.whole_source.Statement.{statement}
