@@ -1,6 +1,6 @@
 -- A header written: laws over the definitions of specs/Sealing.antt.
 --     with-none, with-written        no room for it; its first word written, and the checksum
---     sealed-short, sealed-long      where there is no message to seal
+--     sealed-short, sealed-over, sealed-long      where there is no message to seal
 --     with-sealed                    by a sum that is known or made, what is left is the message
 --     with-body, sealed-body         the same of a body that was written at octet 4
 -- Assumes nothing.
@@ -16,11 +16,14 @@ use lib.Seq.{drop-drop}
 use Rattle.octets.specs.Octets.{be, put}
 use Rattle.octets.specs.Field.{fitted}
 use Rattle.octets.proofs.Laws.{length-be, number-fits, length-put, part-put, put-number-next, drop-put-end}
-use Rattle.checksum.specs.Sum.{words, add, sumFrom, checksumFrom, checksum}
-use Rattle.format.specs.Header.{octet0, octet1, message}
+use Rattle.checksum.specs.Sum.{words, add, sumFrom, sum, checksumFrom}
+use Rattle.checksum.proofs.Laws.{add-le, sum-le}
+use Rattle.format.specs.Family.{Family, Lawful}
+use Rattle.format.specs.Header.{octet0, octet1, longest, before, message}
 use Rattle.format.specs.declared.Kind.{Kind}
+use Rattle.format.specs.declared.Path.{Path}
 use Rattle.format.proofs.Messages.{kind-row, length-message}
-use Rattle.headers.specs.Sealing.{firstWord, withHeader, sealed}
+use Rattle.headers.specs.Sealing.{firstWord, startSum, withHeader, sealed}
 
 -- ---- the header alone
 
@@ -56,31 +59,44 @@ and-false : (b : Bool) → (b && false) ≡ false
 and-false true = refl
 and-false false = refl
 
-pub sealed-short : (k : Kind) (n : ℕ) (d : List ℕ) → n < 4 → d ≡ sealed k n d
-unfolding sealed
-sealed-short k n d h = rw (lt-leb _ _ h)
+module _ (f : Family) (p : Path) (k : Kind) (n : ℕ) (d : List ℕ) where
+  pub sealed-short : n < 4 → d ≡ sealed f p k n d
+  unfolding sealed
+  sealed-short h = rw (lt-leb _ _ h)
 
-pub sealed-long : (k : Kind) (n : ℕ) (d : List ℕ) → length d < n → d ≡ sealed k n d
-unfolding sealed
-sealed-long k n d h = rw (lt-leb _ _ h, and-false)
+  pub sealed-over : longest < n → d ≡ sealed f p k n d
+  unfolding sealed
+  sealed-over h = rw (lt-leb _ _ h, and-false)
 
--- ---- the message
+  pub sealed-long : length d < n → d ≡ sealed f p k n d
+  unfolding sealed
+  sealed-long h = rw (lt-leb _ _ h, and-false)
 
-sealed-there : (k : Kind) (n : ℕ) (d : List ℕ) → 4 ≤ n → n ≤ length d → sealed k n d ≡ put d 0 (message k (take (n - 4) (drop 4 d)))
-unfolding sealed
-sealed-there k n d a b = rw (le-leb 4 n a, le-leb n (length d) b)
+  -- ---- the message
 
--- a word, and a field that counts as 0
-word-first : (w : ℕ) → w < 65536 → add (add 0 w) 0 ≡ w
+  sealed-there : 4 ≤ n → n ≤ longest → n ≤ length d → sealed f p k n d ≡ put d 0 (message f p k (take (n - 4) (drop 4 d)))
+  unfolding sealed
+  sealed-there a m b = rw (le-leb 4 n a, le-leb n longest m, le-leb n (length d) b)
+
+-- a field that counts as 0
+add-none : (a : ℕ) → a ≤ 65535 → add a 0 ≡ a
 unfolding add
-word-first w h = omega arith
+add-none a h = omega arith
+
+-- what is summed before a message is a word, and so is the sum before its body
+start-le : (f : Family) → Lawful f → (p : Path) (k : Kind) (n : ℕ) → startSum f p k n ≤ 65535
+unfolding startSum before firstWord
+start-le f lawful p k n =
+    let row = kind-row k in
+    add-le (sum (f .covered p n)) (octet0 k * 256 + octet1 k) (sum-le (f .covered p n) (lawful .coveredOctets p n)) (omega (arith, row .0, row .1))
 
 -- the checksum from the sum of the body, which goes on from the first word
-checksum-is : (k : Kind) (rest : List ℕ) → checksum (octet0 k ∷ octet1 k ∷ 0 ∷ 0 ∷ rest) ≡ 65535 - sumFrom (firstWord k) (words rest)
-unfolding checksum checksumFrom words sumFrom firstWord
-checksum-is k rest =
-    let row = kind-row k in
-    rw (word-first (octet0 k * 256 + octet1 k) (omega (arith, row .0, row .1)))
+checksum-is : (f : Family) → Lawful f → (p : Path) (k : Kind) (rest : List ℕ) (n : ℕ) → 4 + length rest ≡ n
+    → checksumFrom (before f p (4 + length rest)) (octet0 k ∷ octet1 k ∷ 0 ∷ 0 ∷ rest) ≡ 65535 - sumFrom (startSum f p k n) (words rest)
+unfolding checksumFrom words sumFrom
+checksum-is f lawful p k rest n e =
+    let start : add (add (before f p n) (octet0 k * 256 + octet1 k)) 0 ≡ startSum f p k n = unfold startSum firstWord in add-none _ (start-le f lawful p k n) in
+    rw (e, start)
 
 -- octets written as they stand
 standing : (d x : List ℕ) (j : ℕ) → length x + j ≤ length d → put d 0 x ≡ put d 0 (x ++ take j (drop (length x) d))
@@ -90,23 +106,27 @@ standing d x j h =
     rw (zero-add, zero-add, length-append, long, append-assoc, ← drop-drop j (length x) d) (ap (λ (r : List ℕ). x ++ r) (sym (take-append-drop j (drop (length x) d))))
 
 -- the sum is that of the body as it stands
-pub with-sealed : (k : Kind) (n s : ℕ) (d : List ℕ) → 4 ≤ n → n ≤ length d → s ≡ sumFrom (firstWord k) (words (take (n - 4) (drop 4 d))) → withHeader k s d ≡ sealed k n d
+pub with-sealed : (f : Family) → Lawful f → (p : Path) (k : Kind) (n s : ℕ) (d : List ℕ) → 4 ≤ n → n ≤ longest → n ≤ length d
+    → s ≡ sumFrom (startSum f p k n) (words (take (n - 4) (drop 4 d))) → withHeader k s d ≡ sealed f p k n d
 unfolding message be
-with-sealed k n s d a b sum =
+with-sealed f lawful p k n s d a most b sum =
     let rest = take (n - 4) (drop 4 d) in
-    let c : 65535 - s ≡ checksum (octet0 k ∷ octet1 k ∷ 0 ∷ 0 ∷ take (n - 4) (drop 4 d)) = ap (λ v. 65535 - v) sum ∙ sym (checksum-is k (take (n - 4) (drop 4 d))) in
+    let long : 4 + length (take (n - 4) (drop 4 d)) ≡ n = simp (length-take, length-drop) (omega arith) in
+    let field : ℕ = checksumFrom (before f p (4 + length (take (n - 4) (drop 4 d)))) (octet0 k ∷ octet1 k ∷ 0 ∷ 0 ∷ take (n - 4) (drop 4 d)) in
+    let c : 65535 - s ≡ field = ap (λ v. 65535 - v) sum ∙ sym (checksum-is f lawful p k (take (n - 4) (drop 4 d)) n long) in
     with-there k s d (omega arith)
     ∙ ap (λ v. put d 0 ((octet0 k ∷ octet1 k ∷ []) ++ be 2 v)) c
-    ∙ standing d ((octet0 k ∷ octet1 k ∷ []) ++ be 2 (checksum (octet0 k ∷ octet1 k ∷ 0 ∷ 0 ∷ rest))) (n - 4) (omega arith)
-    ∙ sym (sealed-there k n d a b)
+    ∙ standing d ((octet0 k ∷ octet1 k ∷ []) ++ be 2 field) (n - 4) (omega arith)
+    ∙ sym (sealed-there f p k n d a most b)
 
 -- a write at the front, by what stands past it
-front : (k : Kind) (d rest m : List ℕ) → drop (4 + length rest) m ≡ drop (4 + length rest) d → put m 0 (message k rest) ≡ put d 0 (message k rest)
+front : (f : Family) (p : Path) (k : Kind) (d rest m : List ℕ) → drop (4 + length rest) m ≡ drop (4 + length rest) d
+    → put m 0 (message f p k rest) ≡ put d 0 (message f p k rest)
 unfolding put
-front k d rest m e = rw (zero-add, length-message, e)
+front f p k d rest m e = rw (zero-add, length-message, e)
 
 -- a body that was written
-module _ (k : Kind) (d rest : List ℕ) (n : ℕ) (e : n ≡ 4 + length rest) (h : n ≤ length d) where
+module _ (f : Family) (p : Path) (k : Kind) (d rest : List ℕ) (n : ℕ) (e : n ≡ 4 + length rest) (most : n ≤ longest) (h : n ≤ length d) where
   long : length (put d 4 rest) ≡ length d
   long = length-put d 4 rest (omega arith)
 
@@ -115,9 +135,9 @@ module _ (k : Kind) (d rest : List ℕ) (n : ℕ) (e : n ≡ 4 + length rest) (h
       let size : n - 4 ≡ length rest = omega arith in
       rw size (part-put d 4 rest (omega arith))
 
-  pub sealed-body : sealed k n (put d 4 rest) ≡ put d 0 (message k rest)
-  sealed-body = sealed-there k n (put d 4 rest) (omega arith) (omega (arith, long)) ∙ rw body (front k d rest (put d 4 rest) (drop-put-end d 4 rest))
+  pub sealed-body : sealed f p k n (put d 4 rest) ≡ put d 0 (message f p k rest)
+  sealed-body = sealed-there f p k n (put d 4 rest) (omega arith) most (omega (arith, long)) ∙ rw body (front f p k d rest (put d 4 rest) (drop-put-end d 4 rest))
 
   -- its sum was made from its numbers
-  pub with-body : (s : ℕ) → s ≡ sumFrom (firstWord k) (words rest) → withHeader k s (put d 4 rest) ≡ put d 0 (message k rest)
-  with-body s sum = with-sealed k n s (put d 4 rest) (omega arith) (omega (arith, long)) (rw body sum) ∙ sealed-body
+  pub with-body : Lawful f → (s : ℕ) → s ≡ sumFrom (startSum f p k n) (words rest) → withHeader k s (put d 4 rest) ≡ put d 0 (message f p k rest)
+  with-body lawful s sum = with-sealed f lawful p k n s (put d 4 rest) (omega arith) most (omega (arith, long)) (rw body sum) ∙ sealed-body

@@ -6,6 +6,6 @@ mod sealing;
 pub use message::Headed;
 pub use message::body;
 pub use message::header;
-pub use sealing::first_word;
 pub use sealing::put_header;
 pub use sealing::seal;
+pub use sealing::start_sum;

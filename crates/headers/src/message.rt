@@ -1,8 +1,11 @@
 // The checks of every message, 1 to 4 in that order, and the body past them.
+use addresses::sum_before;
 use format::GREATEST_LIMIT;
 use format::Kind;
+use format::Path;
 use format::Refusal;
 ghost use mathlib.Core.Path.{_≡_};
+ghost use Rattle.format.specs.Family.{familyOf};
 ghost use Rattle.format.specs.Header.{assertKind, registerKind, kindOf, header as headerOf, body as bodyOf};
 ghost use Rattle.headers.specs.Answers.{headed};
 
@@ -60,8 +63,8 @@ fn kind_of(t: u8, x: u8) -> Headed
 }
 
 // The kind of a message, or the first of 1, 2, 3 and 4 that applies. No message is longer than the greatest limit.
-pub fn header(m: &[u8]) -> Headed
-    ensures { λ r. ⌜ headed r ≡ headerOf (now (m .entry)) ⌝ }
+pub fn header(ipv6: bool, path: Path, m: &[u8]) -> Headed
+    ensures { λ r. ⌜ headed r ≡ headerOf (familyOf ipv6) path (now (m .entry)) ⌝ }
 {
     if m.len() < 4 {
         return refused(1);
@@ -72,17 +75,17 @@ pub fn header(m: &[u8]) -> Headed
     if m[0] / 16 != 2 {
         return refused(2);
     }
-    if !checksum::holds(m) {
+    if !checksum::holds_after(sum_before(ipv6, path, m.len()), m) {
         return refused(3);
     }
     kind_of(m[0] % 16, m[1])
 }
 
 // The message from octet 4 on, or an empty part where `header` refuses.
-pub fn body(m: &[u8]) -> &[u8]
-    ensures { λ r. ⌜ now r ≡ bodyOf (now (m .entry)) ⌝ }
+pub fn body(ipv6: bool, path: Path, m: &[u8]) -> &[u8]
+    ensures { λ r. ⌜ now r ≡ bodyOf (familyOf ipv6) path (now (m .entry)) ⌝ }
 {
-    let h = header(m);
+    let h = header(ipv6, path, m);
     let Headed::Is(_) = h else {
         return &m[..0];
     };

@@ -20,8 +20,10 @@ use lib.Dec.{eqb}
 use lib.ListN.{length}
 use Rattle.format.specs.Outcome.{gives, refuses, _>>=_, _>>_}
 use Rattle.format.specs.Reader.{from}
+use Rattle.format.specs.Family.{Family}
 use Rattle.format.specs.Header.{header}
 use Rattle.format.specs.declared.Kind.{Kind}
+use Rattle.format.specs.declared.Path.{Path}
 use Rattle.format.specs.declared.Kind.the-variants.{Hello, Assert, Simple, Aggregated, NullRegister, RegisterStop}
 use Rattle.format.proofs.Kind.{the-type}
 use Rattle.hello.specs.Options.{Said, nothing, options}
@@ -63,13 +65,13 @@ pub fine-cut : (o : List ℕ) {n p : ℕ} → from 4 (options (length o) nothing
 unfolding optionsFine _>>_
 fine-cut o e = rw (hello-cut o e)
 
-pub read-refused : (o : List ℕ) {n p : ℕ} → header o ≡ refuses n p → readHello o ≡ refuses n p
+pub read-refused : (f : Family) (path : Path) (o : List ℕ) {n p : ℕ} → header f path o ≡ refuses n p → readHello f path o ≡ refuses n p
 unfolding readHello _>>=_
-read-refused o e = rw e
+read-refused f path o e = rw e
 
-pub read-body : (o : List ℕ) {k : Kind} → header o ≡ gives k → readHello o ≡ helloBody k o
+pub read-body : (f : Family) (path : Path) (o : List ℕ) {k : Kind} → header f path o ≡ gives k → readHello f path o ≡ helloBody k o
 unfolding readHello _>>=_
-read-body o e = rw e
+read-body f path o e = rw e
 
 -- the variants after the first, by their numbers in the declaration
 pub other-kind : (k : Kind) (o : List ℕ) → OneOf (1 ∷ 2 ∷ 3 ∷ 4 ∷ 5 ∷ []) (tagOf the-type k) → helloBody k o ≡ refuses 4 0

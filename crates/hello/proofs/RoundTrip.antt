@@ -1,7 +1,7 @@
 -- What was written is read back: the theorem of specs/RoundTrip.antt, by way of each option in its place.
 --     reads-option      an option as it is written, read
 --     next-said         one option more, or none where it is not given
---     message-back      the message of a Hello, read
+--     options-back, message-back     the message of a Hello, its options and all of it, read
 --     round-trip        the theorem, of calls
 -- Assumes nothing.
 use Prim.Native.Nat.{ℕ, _+_, _^_, _≤_, _<_}
@@ -17,9 +17,12 @@ use lib.ListN.{length, take, drop, length-append}
 use Rattle.octets.specs.Octets.{be, put}
 use Rattle.octets.proofs.Laws.{length-be, value-be, take-put, drop-put}
 use Rattle.format.specs.Outcome.{gives, refuses}
-use Rattle.format.specs.Header.{message}
+use Rattle.format.specs.Family.{Family, familyOf, Lawful}
+use Rattle.format.specs.Header.{header, message}
 use Rattle.format.specs.Writing.{WritingCall, lengthBy}
 use Rattle.format.specs.declared.Kind.the-variants.{Hello as ofHello}
+use Rattle.format.specs.declared.Path.{Path}
+use Rattle.format.proofs.Families.{lawful}
 use Rattle.format.proofs.Outcomes.{gives-same}
 use Rattle.format.proofs.Readers.{At, at-left, at-right, Reads, reads-bind, reads-last, reads-here, reads-refuse, reads-octets, reads-number}
 use Rattle.format.proofs.Lengths.{AreOctets, no-octets, _then_, number}
@@ -27,7 +30,7 @@ use Rattle.format.proofs.Messages.{at-body, length-message, header-message}
 use Rattle.hello.specs.declared.table.Known.{Known}
 use Rattle.hello.specs.declared.table.Known.the-variants.{Holdtime, Priority, Packing, Other}
 use Rattle.hello.specs.Options.{Said, said, nothing, typeOf, among, named, lengthOf, isSome, given, hear, numberOctets, valueOf, against, optionValue, option, optionOctets, optionsOctets}
-use Rattle.hello.specs.Hello.{Hello, hello, holdtimeOf, helloOf, helloBody, readHello, saidIn, helloMessage, writeHello}
+use Rattle.hello.specs.Hello.{Hello, hello, holdtimeOf, helloOf, helloOptions, helloBody, readHello, saidIn, helloMessage, writeHello}
 use Rattle.hello.specs.Answers.{ifGiven, helloBy, told, zeroPriority, unannounced}
 use Rattle.hello.specs.RoundTrip.{WriteCall, Writes, announced, Trip, RoundTrip}
 use Rattle.hello.specs.declared.Hello.{Hello as Fields}
@@ -36,7 +39,7 @@ use Rattle.hello.specs.declared.HelloRead.the-variants.{Is, Refused}
 use Rattle.hello.proofs.Laws.{some-given}
 use Rattle.hello.proofs.SoFar.{SoFar, so-far-start, so-far-next, so-far-end}
 use Rattle.hello.proofs.Hellos.{given-zero, none-zero, hello-all, read-body}
-use Rattle.hello.proofs.Written.{option-given, option-absent, option-long, option-small, value-long, options-are, options-long, hello-long, hello-refused, hello-written}
+use Rattle.hello.proofs.Written.{option-given, option-absent, option-long, option-small, value-long, options-are, options-long, hello-long, hello-small, hello-refused, hello-written}
 
 -- ---- one option
 
@@ -134,17 +137,17 @@ octets-option s k = go (given s k) refl
 octets-options : (s : Said) → AreOctets (optionsOctets s)
 octets-options s = rw (options-are s) (octets-option s Holdtime then (octets-option s Priority then octets-option s Packing))
 
-module _ (n : ℕ) (p : Option ℕ) (c : Bool) (f : Fits n p) where
+module _ (g : Family) (path : Path) (n : ℕ) (p : Option ℕ) (c : Bool) (f : Fits n p) where
   abbrev s : Said
   s = said (some n) p c
 
   abbrev o : List ℕ
-  o = message ofHello (optionsOctets s)
+  o = message g path ofHello (optionsOctets s)
 
   -- after each option
   all-said : SoFar o 4 s (4 + length (optionsOctets s))
   all-said =
-      let first = at-body ofHello (optionsOctets s) in
+      let first = at-body g path ofHello (optionsOctets s) in
       let whole = subst (At o 4) (options-are s) first in
       let rest = at-right (optionOctets s Holdtime) _ whole in
       let new = fresh n p c in
@@ -154,30 +157,40 @@ module _ (n : ℕ) (p : Option ℕ) (c : Bool) (f : Fits n p) where
       let place : 4 + length (optionOctets s Holdtime) + length (optionOctets s Priority) + length (optionOctets s Packing) ≡ 4 + length (optionsOctets s) = omega (arith, options-long s) in
       subst (λ (t : Said). SoFar o 4 t (4 + length (optionsOctets s))) (all-next n p c f) (subst (SoFar o 4 _) place e)
 
-pub message-back : (n : ℕ) (p : Option ℕ) (c : Bool) → Fits n p → readHello (helloMessage (hello n p c)) ≡ gives (hello n p c)
-unfolding helloMessage saidIn helloBody helloOf holdtimeOf
-message-back n p c f =
-    let s = said (some n) p c in
+-- its options say it, whatever the addresses
+options-back : (g : Family) (path : Path) (n : ℕ) (p : Option ℕ) (c : Bool) → Fits n p → helloOptions (helloMessage g path (hello n p c)) ≡ gives (hello n p c)
+unfolding helloMessage saidIn helloOf holdtimeOf
+options-back g path n p c f =
     let rest = optionsOctets (said (some n) p c) in
-    let long = options-long s in
-    let small : length (optionsOctets (said (some n) p c)) ≤ 65511 = omega (arith, long, option-small s Holdtime, option-small s Priority, option-small s Packing) in
-    let past : length (message ofHello (optionsOctets (said (some n) p c))) ≤ 4 + length (optionsOctets (said (some n) p c)) = omega (arith, length-message ofHello rest) in
-    read-body (message ofHello rest) (header-message ofHello rest (octets-options s) small)
-    ∙ hello-all (message ofHello rest) (so-far-end (all-said n p c f) past)
+    let past : length (message g path ofHello (optionsOctets (said (some n) p c))) ≤ 4 + length (optionsOctets (said (some n) p c)) = omega (arith, length-message g path ofHello rest) in
+    hello-all (message g path ofHello rest) (so-far-end (all-said g path n p c f) past)
+
+message-headed : (g : Family) → Lawful g → (path : Path) (n : ℕ) (p : Option ℕ) (c : Bool) → header g path (helloMessage g path (hello n p c)) ≡ gives ofHello
+unfolding helloMessage saidIn
+message-headed g lawful path n p c =
+    let s = said (some n) p c in
+    let small : length (optionsOctets (said (some n) p c)) ≤ 65511 = omega (arith, hello-small s) in
+    header-message g path ofHello (optionsOctets (said (some n) p c)) (octets-options s) lawful small
+
+pub message-back : (g : Family) → Lawful g → (path : Path) (n : ℕ) (p : Option ℕ) (c : Bool) → Fits n p
+    → readHello g path (helloMessage g path (hello n p c)) ≡ gives (hello n p c)
+unfolding helloBody
+message-back g lawful path n p c f = read-body g path (helloMessage g path (hello n p c)) (message-headed g lawful path n p c) ∙ options-back g path n p c f
 
 -- ---- calls
 
 -- what a call answered and left, where it wrote
-wrote : (h : Hello) (d : List ℕ) (n : ℕ) → writeHello h d .answer ≡ gives n → (n ≡ length (helloMessage h)) × (writeHello h d .buffer ≡ put d 0 (helloMessage h))
-wrote h d n e = go (decLe (4 + length (optionsOctets (saidIn h))) (length d))
+wrote : (f : Family) (path : Path) (h : Hello) (d : List ℕ) (n : ℕ) → writeHello f path h d .answer ≡ gives n
+    → (n ≡ length (helloMessage f path h)) × (writeHello f path h d .buffer ≡ put d 0 (helloMessage f path h))
+wrote f path h d n e = go (decLe (4 + length (optionsOctets (saidIn h))) (length d))
   where
-    go : Dec (4 + length (optionsOctets (saidIn h)) ≤ length d) → (n ≡ length (helloMessage h)) × (writeHello h d .buffer ≡ put d 0 (helloMessage h))
+    go : Dec (4 + length (optionsOctets (saidIn h)) ≤ length d) → (n ≡ length (helloMessage f path h)) × (writeHello f path h d .buffer ≡ put d 0 (helloMessage f path h))
     go (yes room) =
-        let w = hello-written h d room in
-        let a : gives (length (helloMessage h)) ≡ gives n = sym (ap (λ (c : WritingCall). c .answer) w) ∙ e in
+        let w = hello-written f path h d room in
+        let a : gives (length (helloMessage f path h)) ≡ gives n = sym (ap (λ (c : WritingCall). c .answer) w) ∙ e in
         (sym (gives-same a), ap (λ (c : WritingCall). c .buffer) w)
     go (no less) =
-        let w = hello-refused h d (omega arith) in
+        let w = hello-refused f path h d (omega arith) in
         let a : refuses 8 0 ≡ gives n = sym (ap (λ (c : WritingCall). c .answer) w) ∙ e in
         absurd (let z : _≡_ {A = ℕ} 0 1 = cc in omega arith)
 
@@ -214,54 +227,63 @@ given-long : (s : Said) (k : Known) (b : Bool) → given s k ≡ b → length (o
 given-long s k true e = option-long s k e
 given-long s k false e = rw (option-absent s k e)
 
-hello-size : (g : Fields) → length (helloMessage (helloBy g)) ≡ 10 + cond (g .«has_priority») 8 0 + cond (g .packing) 4 0
+hello-size : (f : Family) (path : Path) (g : Fields) → length (helloMessage f path (helloBy g)) ≡ 10 + cond (g .«has_priority») 8 0 + cond (g .packing) 4 0
 unfolding saidIn helloBy given isSome lengthOf
-hello-size g =
+hello-size f path g =
     let s = saidIn (helloBy g) in
     let a = given-long s Holdtime true refl in
     let b = given-long s Priority (g .«has_priority») (some-given (g .«has_priority») (g .priority)) in
     let c = given-long s Packing (g .packing) refl in
-    omega (arith, hello-long (helloBy g), options-long s, a, b, c)
+    omega (arith, hello-long f path (helloBy g), options-long s, a, b, c)
 
 -- what a call wrote, and what reading it gives
-module _ (c : WriteCall) (n : ℕ) (w : Writes c) (e : lengthBy (c .answer) ≡ gives n) where
+module _ (f : Family) (lawful : Lawful f) (c : WriteCall) (n : ℕ) (w : Writes f c) (e : lengthBy (c .answer) ≡ gives n) where
   abbrev h : Hello
   h = helloBy (c .said)
 
-  left : (n ≡ length (helloMessage h)) × (c .returned ≡ put (c .lent) 0 (helloMessage h))
+  abbrev m : List ℕ
+  m = helloMessage f (c .path) h
+
+  left : (n ≡ length m) × (c .returned ≡ put (c .lent) 0 m)
   left =
-      let x = wrote h (c .lent) n (sym (w .answers) ∙ e) in
+      let x = wrote f (c .path) h (c .lent) n (sym (w .answers) ∙ e) in
       (x .0, w .returns ∙ x .1)
 
-  form : take n (c .returned) ≡ helloMessage h
-  form = rw (left .0, left .1) (take-put (c .lent) (helloMessage h))
+  form : take n (c .returned) ≡ m
+  form = rw (left .0, left .1) (take-put (c .lent) m)
 
   past : drop n (c .returned) ≡ drop n (c .lent)
-  past = rw (left .0, left .1) (drop-put (c .lent) (helloMessage h))
+  past = rw (left .0, left .1) (drop-put (c .lent) m)
 
-  reads : readHello (take n (c .returned)) ≡ gives h
+  fits : Fits (c .said .holdtime) (ifGiven (c .said .«has_priority») (c .said .priority))
+  fits = record { holdtime = w .holdtime; priority = λ k. given-fits (c .said .«has_priority») (c .said .priority) k (w .priority) }
+
+  reads : readHello f (c .path) (take n (c .returned)) ≡ gives h
   unfolding helloBy
-  reads =
-      let s = c .said in
-      rw form (message-back (s .holdtime) (ifGiven (s .«has_priority») (s .priority)) (s .packing) (record { holdtime = w .holdtime; priority = λ m. given-fits (s .«has_priority») (s .priority) m (w .priority) }))
+  reads = rw form (message-back f lawful (c .path) (c .said .holdtime) (ifGiven (c .said .«has_priority») (c .said .priority)) (c .said .packing) fits)
 
-  back : (r : HelloRead) → told r ≡ readHello (take n (c .returned)) → unannounced r → r ≡ Is (announced (c .said))
+  says : helloOptions (take n (c .returned)) ≡ gives h
+  unfolding helloBy
+  says = rw form (options-back f (c .path) (c .said .holdtime) (ifGiven (c .said .«has_priority») (c .said .priority)) (c .said .packing) fits)
+
+  back : (r : HelloRead) → told r ≡ readHello f (c .path) (take n (c .returned)) → unannounced r → r ≡ Is (announced (c .said))
   unfolding told
   back (Is g) q z = ap Is (same-hello g (c .said) (gives-same (q ∙ reads)) z)
   back (Refused r) q z = absurd (let x = q ∙ reads in let y : _≡_ {A = ℕ} 0 1 = cc in omega arith)
 
-  pub trip : Trip c n
-  trip = record { size = left .0 ∙ hello-size (c .said); form = form; past = past; back = back }
+  pub trip : Trip f c n
+  trip = record { size = left .0 ∙ hello-size f (c .path) (c .said); form = form; past = past; back = back }
 
 -- what went in says what was said
 announced-says : (g : Fields) → (helloBy (announced g) ≡ helloBy g) × zeroPriority (announced g)
 unfolding helloBy announced
 announced-says g = (rw (given-zero (g .«has_priority») (g .priority)), none-zero (g .«has_priority») (g .priority))
 
-pub round-trip : RoundTrip
-round-trip = record {
-  trip = λ c n w e. trip c n w e;
+-- in either family
+pub round-trip : (ipv6 : Bool) → RoundTrip (familyOf ipv6)
+round-trip ipv6 = let f = familyOf ipv6 in let law = lawful ipv6 in record {
+  trip = λ c n w e. trip (familyOf ipv6) (lawful ipv6) c n w e;
   differ = λ c n w e c′ n′ w′ e′ same.
-      let says = announced-says (c .said) in
-      same-hello (announced (c .said)) (c′ .said) (says .0 ∙ gives-same (sym (reads c n w e) ∙ ap readHello same ∙ reads c′ n′ w′ e′)) (says .1);
+      let was = announced-says (c .said) in
+      same-hello (announced (c .said)) (c′ .said) (was .0 ∙ gives-same (sym (says f law c n w e) ∙ ap helloOptions same ∙ says f law c′ n′ w′ e′)) (was .1);
 }

@@ -7,7 +7,7 @@
 --     options-are, options-long        all options, one after another
 --     options-put                      written so, or not written
 --     options-summed                   and their words
---     hello-long                       the message: four octets, and its options
+--     hello-long, hello-small          the message: four octets, and its options; no longer than one may be
 --     hello-refused, hello-written     the call: no room, or the message
 --     hello-headed                     what the code leaves in the buffer is the message
 -- Assumes nothing.
@@ -26,12 +26,14 @@ use Rattle.octets.proofs.Laws.{length-be, length-put, put-next, number-fits, co
 use Rattle.checksum.specs.Sum.{words, add, sumFrom}
 use Rattle.checksum.proofs.Laws.{words-be, sum-after}
 use Rattle.format.specs.Outcome.{gives, refuses, refuseIf, _>>_}
-use Rattle.format.specs.Header.{message}
+use Rattle.format.specs.Family.{Family, Lawful}
+use Rattle.format.specs.Header.{longest, message}
 use Rattle.format.specs.Record.{each}
 use Rattle.format.specs.Writing.{intoBuffer}
 use Rattle.format.specs.declared.Kind.the-variants.{Hello as ofHello}
+use Rattle.format.specs.declared.Path.{Path}
 use Rattle.format.proofs.Messages.{length-message}
-use Rattle.headers.specs.Sealing.{firstWord, withHeader}
+use Rattle.headers.specs.Sealing.{startSum, withHeader}
 use Rattle.headers.proofs.Seals.{with-body}
 use Rattle.hello.specs.declared.table.Known.{Known}
 use Rattle.hello.specs.declared.table.Known.the-variants.{Holdtime, Priority, Packing, Other}
@@ -165,21 +167,26 @@ options-summed s w =
 
 -- ---- the call
 
-pub hello-long : (h : Hello) → length (helloMessage h) ≡ 4 + length (optionsOctets (saidIn h))
+pub hello-long : (f : Family) (path : Path) (h : Hello) → length (helloMessage f path h) ≡ 4 + length (optionsOctets (saidIn h))
 unfolding helloMessage
-hello-long h = length-message ofHello (optionsOctets (saidIn h))
+hello-long f path h = length-message f path ofHello (optionsOctets (saidIn h))
 
-module _ (h : Hello) (d : List ℕ) where
-  pub hello-refused : length d < 4 + length (optionsOctets (saidIn h)) → writeHello h d ≡ record { answer = refuses 8 0; buffer = d }
+-- no longer than a message may be
+pub hello-small : (s : Said) → 4 + length (optionsOctets s) ≤ longest
+hello-small s = omega (arith, options-long s, option-small s Holdtime, option-small s Priority, option-small s Packing)
+
+module _ (f : Family) (path : Path) (h : Hello) (d : List ℕ) where
+  pub hello-refused : length d < 4 + length (optionsOctets (saidIn h)) → writeHello f path h d ≡ record { answer = refuses 8 0; buffer = d }
   unfolding writeHello intoBuffer refuseIf _>>_
   hello-refused e = rw (hello-long, lt-ltb _ _ e)
 
-  pub hello-written : 4 + length (optionsOctets (saidIn h)) ≤ length d → writeHello h d ≡ record { answer = gives (length (helloMessage h)); buffer = put d 0 (helloMessage h) }
+  pub hello-written : 4 + length (optionsOctets (saidIn h)) ≤ length d → writeHello f path h d ≡ record { answer = gives (length (helloMessage f path h)); buffer = put d 0 (helloMessage f path h) }
   unfolding writeHello intoBuffer refuseIf _>>_
-  hello-written e = rw (le-ltb (length d) (length (helloMessage h)) (omega (arith, hello-long h)))
+  hello-written e = rw (le-ltb (length d) (length (helloMessage f path h)) (omega (arith, hello-long f path h)))
 
   -- the options, then the header by their sum
-  pub hello-headed : (x : ℕ) → 4 + length (optionsOctets (saidIn h)) ≤ length d → x ≡ sumFrom (firstWord ofHello) (words (optionsOctets (saidIn h)))
-      → withHeader ofHello x (put d 4 (optionsOctets (saidIn h))) ≡ put d 0 (helloMessage h)
+  pub hello-headed : Lawful f → (x : ℕ) → 4 + length (optionsOctets (saidIn h)) ≤ length d
+      → x ≡ sumFrom (startSum f path ofHello (4 + length (optionsOctets (saidIn h)))) (words (optionsOctets (saidIn h)))
+      → withHeader ofHello x (put d 4 (optionsOctets (saidIn h))) ≡ put d 0 (helloMessage f path h)
   unfolding helloMessage
-  hello-headed x e sum = with-body ofHello d (optionsOctets (saidIn h)) _ refl e x sum
+  hello-headed lawful x e sum = with-body f path ofHello d (optionsOctets (saidIn h)) _ refl (hello-small (saidIn h)) e lawful x sum

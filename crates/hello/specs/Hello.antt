@@ -14,9 +14,11 @@ use lib.ListN.{length}
 use lib.Dec.{ltb}
 use Rattle.format.specs.Outcome.{Outcome, gives, refuses, refuseIf, _>>=_, _>>_}
 use Rattle.format.specs.Reader.{from}
+use Rattle.format.specs.Family.{Family}
 use Rattle.format.specs.Header.{header, message}
 use Rattle.format.specs.Writing.{WritingCall, intoBuffer}
 use Rattle.format.specs.declared.Kind.{Kind}
+use Rattle.format.specs.declared.Path.{Path}
 use Rattle.format.specs.declared.Kind.the-variants.{Hello as ofHello, Assert, Simple, Aggregated, NullRegister, RegisterStop}
 use Rattle.hello.specs.Options.{Said, said, nothing, options, optionsOctets}
 
@@ -52,9 +54,9 @@ helloBody Aggregated o = refuses 4 0
 helloBody NullRegister o = refuses 4 0
 helloBody RegisterStop o = refuses 4 0
 
-unfoldable pub readHello : List ℕ → Outcome Hello
-readHello o = do
-  k ← header o
+unfoldable pub readHello : Family → Path → List ℕ → Outcome Hello
+readHello f path o = do
+  k ← header f path o
   helloBody k o
 
 -- ---- written
@@ -63,11 +65,11 @@ readHello o = do
 unfoldable pub saidIn : Hello → Said
 saidIn (hello h p c) = said (some h) p c
 
-unfoldable pub helloMessage : Hello → List ℕ
-helloMessage h = message ofHello (optionsOctets (saidIn h))
+unfoldable pub helloMessage : Family → Path → Hello → List ℕ
+helloMessage f path h = message f path ofHello (optionsOctets (saidIn h))
 
 -- "8 if the buffer is smaller than the message; there is no other"
-unfoldable pub writeHello : Hello → List ℕ → WritingCall
-writeHello h d = intoBuffer d do
-  refuseIf (ltb (length d) (length (helloMessage h))) 8 0
-  gives (helloMessage h)
+unfoldable pub writeHello : Family → Path → Hello → List ℕ → WritingCall
+writeHello f path h d = intoBuffer d do
+  refuseIf (ltb (length d) (length (helloMessage f path h))) 8 0
+  gives (helloMessage f path h)

@@ -11,8 +11,10 @@ use crate::table::was_given;
 use checksum::add;
 use checksum::sum_after;
 use format::Kind;
+use format::Path;
 use format::Refusal;
 use format::Writing;
+use format::nowhere;
 use octets::copy4;
 use octets::write16;
 use octets::write32;
@@ -22,8 +24,9 @@ ghost use Prim.Native.Nat.{_+_, _≤_};
 ghost use lib.ListN.{length};
 ghost use Rattle.octets.specs.Octets.{put};
 ghost use Rattle.checksum.specs.Sum.{words, sumFrom};
+ghost use Rattle.format.specs.Path.{nowhere};
+ghost use Rattle.format.specs.Family.{ipv4, familyOf};
 ghost use Rattle.format.specs.Writing.{lengthBy};
-ghost use Rattle.headers.specs.Sealing.{firstWord};
 ghost use Rattle.hello.specs.Options.{lengthOf, given, optionOctets, optionsOctets};
 ghost use Rattle.hello.specs.Hello.{saidIn, writeHello};
 ghost use Rattle.hello.specs.Answers.{saidBy, helloBy};
@@ -120,36 +123,42 @@ fn pass_option(h: Heard, k: Known, write: bool, d: &mut [u8], x: Extent) -> Exte
     x
 }
 
-// The list of options, from octet 4 on: the extent of the message that says all of them.
-fn pass(h: Heard, write: bool, d: &mut [u8]) -> Extent
+// The list of options, from octet 4 on, summed onto an earlier sum: the extent of the message that says all of them.
+fn pass(h: Heard, write: bool, start: u16, d: &mut [u8]) -> Extent
     requires { ⌜ (write ≡ true → 4 + length (optionsOctets (saidBy h)) ≤ length (now d)) ⌝ }
-    ensures extent { λ r. ⌜ (r .end ≡ 4 + length (optionsOctets (saidBy h))) × (r .sum ≡ sumFrom (firstWord Kind.Hello) (words (optionsOctets (saidBy h)))) ⌝ }
+    ensures extent { λ r. ⌜ (r .end ≡ 4 + length (optionsOctets (saidBy h))) × (r .sum ≡ sumFrom start (words (optionsOctets (saidBy h)))) ⌝ }
     ensures buffer { λ _. ⌜ now (d .exit) ≡ cond write (put (now (d .entry)) 4 (optionsOctets (saidBy h))) (now (d .entry)) ⌝ }
 {
-    let header = Extent {
-        end: 4,
-        sum: headers::first_word(Kind::Hello),
-    };
+    let header = Extent { end: 4, sum: start };
     let holdtime = pass_option(h, Known::Holdtime, write, d, header);
     let priority = pass_option(h, Known::Priority, write, d, holdtime);
     pass_option(h, Known::Packing, write, d, priority)
 }
 
-// Writes the one Hello that says this. A priority that it has not is not looked at.
-pub fn write_hello(said: Hello, d: &mut [u8]) -> Writing
-    ensures answer { λ r. ⌜ lengthBy r ≡ writeHello (helloBy said) (now (d .entry)) .answer ⌝ }
-    ensures buffer { λ _. ⌜ now (d .exit) ≡ writeHello (helloBy said) (now (d .entry)) .buffer ⌝ }
+// Writes the one Hello that says this, in either family. A priority that it has not is not looked at.
+fn write_of(ipv6: bool, path: Path, said: Hello, d: &mut [u8]) -> Writing
+    ensures answer { λ r. ⌜ lengthBy r ≡ writeHello (familyOf ipv6) path (helloBy said) (now (d .entry)) .answer ⌝ }
+    ensures buffer { λ _. ⌜ now (d .exit) ≡ writeHello (familyOf ipv6) path (helloBy said) (now (d .entry)) .buffer ⌝ }
 {
     let h = to_say(said);
-    let x = pass(h, false, d);
-    let n = x.end;
+    let measured = pass(h, false, 0, d);
+    let n = measured.end;
     if d.len() < n {
         return Writing::Refused(Refusal {
             number: 8,
             place: 0,
         });
     }
-    pass(h, true, d);
+    let start = headers::start_sum(ipv6, path, Kind::Hello, n);
+    let x = pass(h, true, start, d);
     headers::put_header(Kind::Hello, x.sum, d);
     Writing::Wrote(n)
+}
+
+// A Hello.
+pub fn write_hello(said: Hello, d: &mut [u8]) -> Writing
+    ensures answer { λ r. ⌜ lengthBy r ≡ writeHello ipv4 nowhere (helloBy said) (now (d .entry)) .answer ⌝ }
+    ensures buffer { λ _. ⌜ now (d .exit) ≡ writeHello ipv4 nowhere (helloBy said) (now (d .entry)) .buffer ⌝ }
+{
+    write_of(false, nowhere(), said, d)
 }

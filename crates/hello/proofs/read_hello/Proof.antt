@@ -1,49 +1,11 @@
--- `hello::read_hello` meets its contract, by what the header says.
+-- `hello::read_hello` meets its contract, as the function over both families does at IPv4.
 -- Assumes nothing.
-use mathlib.Core.Path.{sym, ap, _∙_}
 use borrow.Author.Needs.{needs}
-use denote.Ref.{now}
-use Rattle.headers.specs.Answers.{headed}
-use Rattle.hello.specs.Hello.{helloBody}
-use Rattle.hello.specs.Answers.{told}
-use Rattle.hello.proofs.Hellos.{read-refused, read-body, other-kind}
 use Rattle.hello.proofs.read_hello.Statement.{statement}
 use Rattle.hello.proofs.read_hello.Tie as tie
 
 returns : tie.Need-returns
-unfolding headed told
-returns c =
-    let r = c .before .before .before in
-    let a = r .before .before .args in
-    (sym (read-refused (now (a .m)) (sym (r .header .ensures) ∙ ap headed (c .before .k .given .1))), tt)
-
-returns-2 : tie.Need-returns-2
-unfolding headed helloBody
-returns-2 c =
-    let t = c .before .before .before .before in
-    let r = t .before .before in
-    let a = r .before .before .args in
-    let e = read-body (now (a .m)) (sym (r .header .ensures) ∙ ap headed (t .k2 .given .1)) in
-    (c .hello-options .ensures .0 ∙ sym (e ∙ (rw (c .before .enum-told .given .1))), c .hello-options .ensures .1)
-
-returns-3 : tie.Need-returns-3
-unfolding headed told
-returns-3 c =
-    let t = c .before .before in
-    let r = t .before .before in
-    let a = r .before .before .args in
-    let e = read-body (now (a .m)) (sym (r .header .ensures) ∙ ap headed (t .k2 .given .1)) in
-    (sym (e ∙ other-kind _ (now (a .m)) (c .match2 .keys2)), tt)
+returns c = rw (← c .before .nowhere .ensures) (c .read-of .ensures)
 
 pub read-hello-spec : {M : Type 1} → statement M
-read-hello-spec =
-    tie.close
-    (tie.spec
-    (λ c κs. search needs)
-    (λ c. search needs)
-    (λ c. search needs)
-    (λ c. search needs)
-    (λ c κs. search needs)
-    returns
-    returns-2
-    returns-3)
+read-hello-spec = tie.close (tie.spec (λ c κs. search needs) (λ c κs. search needs) returns)
