@@ -1,5 +1,6 @@
 -- Entries written one after another into a lent buffer, from things that stand one after another in a message.
 --     copied-past, number-into          octets copied past those that were written; a number written into a part
+--     past-front                        an entry, field by field
 --     put-one                           one entry, as a list of entries
 --     Left                              what is still to be written gives the whole: left-room, left-step, left-end
 --     Series, series-length             things from a place on, by the first of them: their entries and octets; of one entry each
@@ -18,7 +19,7 @@ use native.Mathlib.Nat.{add-zero, mul-add, mul-suc, mul-zero, zero-add}
 use native.Mathlib.Omega.{arith}
 use mathlib.Core.Path.{_≡_, refl, sym, ap, _∙_}
 use mathlib.Core.Bool.{Bool, true, false, cond}
-use mathlib.Core.List.{List, [], _∷_, _++_, map, append-nil}
+use mathlib.Core.List.{List, [], _∷_, _++_, map, append-nil, append-assoc}
 use lib.ListN.{length, take, drop, length-append, length-drop, length-map, drop-of-length-le}
 use lib.Seq.{drop-drop, length-take-le}
 use borrow.Author.Tests.{le-leb, lt-leb}
@@ -29,13 +30,13 @@ use Rattle.octets.proofs.Laws.{put-nil, put-put, put-next, length-put, length-b
 use Rattle.records.specs.Records.{rBit, AssertRecord, assert, ofGroup, AggregatedRecord, ofSource, ofRp, groupEntries, allGroupEntries, entries, allEntries}
 use Rattle.records.specs.Sizes.{groupRecordSize, groupRecordsSize, aggregatedSize, allSize}
 use Rattle.format.specs.Family.{Family}
-use Rattle.format.specs.Entry.{assertEntryOctets, pairEntryOctets}
+use Rattle.format.specs.Entry.{frontSize, assertEntryOctets, pairEntryOctets}
 use Rattle.format.specs.Record.{each}
 use Rattle.format.proofs.Lengths.{each-append, length-each}
 use Rattle.fields.specs.Answers.{plainAssert, plainPair}
 use Rattle.reading.specs.Copied.{Fit, Copied}
 use Rattle.reading.specs.declared.copy.Places.{Places}
-use Rattle.reading.specs.Plain.{entriesFor, words, entryWith, plainEntry, plainSize, plainEntries, skip, plainAddresses, withAddress, likeEntries, plainGroupRecord, plainGroupRecords, plainAggregated, plainRecords}
+use Rattle.reading.specs.Plain.{entriesFor, entrySize, entryWith, plainEntry, plainSize, plainEntries, skip, plainAddresses, withAddress, likeEntries, plainGroupRecord, plainGroupRecords, plainAggregated, plainRecords}
 
 -- ---- octets
 
@@ -58,6 +59,13 @@ number-into k n d out past e room h =
     number-fits k (take k (drop out d)) 0 n (omega arith)
     ∙ rw (length-be k n, zero-add, drop-of-length-le (take k (drop out d)) {i = k} (omega arith), append-nil) refl in
     ap (putMid out (past - out) d) h ∙ rw (m, whole, length-be k n, drop-drop) refl
+
+-- the octets of an entry: its front, then two addresses, then what stands past them
+pub past-front : (f : Family) (d : List ℕ) (out : ℕ) (g s rest : List ℕ) {d₁ d₂ d₃ : List ℕ} {at past : ℕ} → d₁ ≡ put d out (f .front) → d₂ ≡ put d₁ at (g ++ s) → d₃ ≡ put d₂ past rest
+    → at ≡ out + frontSize f → past ≡ at + (length g + length s) → d₃ ≡ put d out (f .front ++ (g ++ (s ++ rest)))
+past-front f d out g s rest {d₁} {at = at} front addresses others h k =
+    put-next d out (f .front) (g ++ (s ++ rest)) front
+    (put-next d₁ at (g ++ s) rest addresses others (k ∙ ap (λ (x : ℕ). at + x) (sym (length-append g s))) ∙ ap (put d₁ at) (append-assoc g s rest)) h
 
 -- ---- entries of one size
 
@@ -160,7 +168,7 @@ module _ {A : Type 0} {entries : ℕ → List A} {size : ℕ → ℕ} {all : ℕ
 
 -- ---- the entries, and the things of a message
 
-pub length-entry : (isAssert : Bool) (f : Family) (e : entriesFor isAssert f .Entry) → length (entriesFor isAssert f .octetsOf e) ≡ 2 * f .width + words isAssert
+pub length-entry : (isAssert : Bool) (f : Family) (e : entriesFor isAssert f .Entry) → length (entriesFor isAssert f .octetsOf e) ≡ entrySize isAssert f
 unfolding assertEntryOctets pairEntryOctets
 length-entry true f e = simp (length-append, length-be) (omega arith)
 length-entry false f e = simp (length-append, length-be) (omega arith)
@@ -206,7 +214,7 @@ unfolding plainAddresses each
 addresses-none isGroup f o other word from n d start e =
     rw e (record {
       read = sym (ap (λ (x : ℕ). from + x) (mul-zero (f .width + skip isGroup)) ∙ add-zero from);
-      written = sym (ap (λ (x : ℕ). start + x) (mul-zero (2 * f .width + 8)) ∙ add-zero start);
+      written = sym (ap (λ (x : ℕ). start + x) (mul-zero (entrySize true f)) ∙ add-zero start);
       buffer = sym (put-nil d start);
     })
 
@@ -215,20 +223,20 @@ spans s {k = k} e = ap (λ (x : ℕ). s * x) e ∙ span-suc s k
 
 pub first-fits : (isGroup : Bool) (f : Family) (o : List ℕ) (other word from n k start : ℕ) (d : List ℕ) → n ≡ suc k
     → Fit f o from ((f .width + skip isGroup) * n) d start (likeEntries isGroup (f .width) o other word from n)
-    → (from + (f .width + skip isGroup) ≤ length o) × (start + (2 * f .width + 8) ≤ length d)
+    → (from + (f .width + skip isGroup) ≤ length o) × (start + entrySize true f ≤ length d)
 first-fits isGroup f o other word from n k start d e h =
     let room = rw (like-length isGroup (f .width) o other word from n) at (h .room) in
-    (omega (arith, h .there, spans (f .width + skip isGroup) e), omega (arith, room, spans (2 * f .width + 8) e))
+    (omega (arith, h .there, spans (f .width + skip isGroup) e), omega (arith, room, spans (entrySize true f) e))
 
 module _ (isGroup : Bool) (f : Family) (o : List ℕ) (other word from n k at out start : ℕ) (d d′ : List ℕ) (e : n ≡ suc k)
-    (next : at ≡ from + (f .width + skip isGroup)) (past : out ≡ start + (2 * f .width + 8)) where
+    (next : at ≡ from + (f .width + skip isGroup)) (past : out ≡ start + entrySize true f) where
   pub others-fit : length d′ ≡ length d → Fit f o from ((f .width + skip isGroup) * n) d start (likeEntries isGroup (f .width) o other word from n)
       → Fit f o at ((f .width + skip isGroup) * k) d′ out (likeEntries isGroup (f .width) o other word at k)
   others-fit same h =
       let room = rw (like-length isGroup (f .width) o other word from n) at (h .room) in
       record {
         there = omega (arith, h .there, spans (f .width + skip isGroup) e);
-        room = rw (like-length isGroup (f .width) o other word at k) (omega (arith, room, spans (2 * f .width + 8) e, same));
+        room = rw (like-length isGroup (f .width) o other word at k) (omega (arith, room, spans (entrySize true f) e, same));
       }
 
   pub others-copied : {d″ : List ℕ} {p : Places}
@@ -242,7 +250,7 @@ module _ (isGroup : Bool) (f : Family) (o : List ℕ) (other word from n k at ou
       let written = rw (like-length isGroup (f .width) o other word at k) at (h .written) in
       record {
         read = omega (arith, h .read, spans (f .width + skip isGroup) e);
-        written = rw (like-length isGroup (f .width) o other word from n) (omega (arith, written, spans (2 * f .width + 8) e));
+        written = rw (like-length isGroup (f .width) o other word from n) (omega (arith, written, spans (entrySize true f) e));
         buffer =
             put-next d start (assertEntryOctets f one) _ first (h .buffer) (omega (arith, length-entry true f one))
             ∙ ap (λ es. put d start (each (assertEntryOctets f) es)) (sym split);
@@ -333,7 +341,7 @@ recordsEntries w o at n = allEntries (plainRecords w n o at)
 
 abbrev RecordsWalk : Family → List ℕ → ℕ → List ℕ → List ℕ → ℕ → ℕ → ℕ → Type 0
 RecordsWalk f o from d₀ d at out left =
-    Walk (recordsEntries (f .width) o) (recordsSize (f .width) o) (assertEntryOctets f) (2 * f .width + 8) (length o) from (length o) d₀ 0 d at out left
+    Walk (recordsEntries (f .width) o) (recordsSize (f .width) o) (assertEntryOctets f) (entrySize true f) (length o) from (length o) d₀ 0 d at out left
 
 -- where a loop over the records up to the end stands: at most so many are left
 pub record ToEnd (f : Family) (o : List ℕ) (from : ℕ) (d₀ d : List ℕ) (at out : ℕ) : Type 0 where
@@ -342,7 +350,7 @@ pub record ToEnd (f : Family) (o : List ℕ) (from : ℕ) (d₀ d : List ℕ) (a
   pub walk : RecordsWalk f o from d₀ d at out left
 
 pub to-end-start : {f : Family} {o : List ℕ} {from : ℕ} {d : List ℕ} → from + recordsSize (f .width) o from (length o) ≡ length o
-    → (2 * f .width + 8) * length (recordsEntries (f .width) o from (length o)) ≤ length d → ToEnd f o from d d from 0
+    → entrySize true f * length (recordsEntries (f .width) o from (length o)) ≤ length d → ToEnd f o from d d from 0
 to-end-start {f} {o} h room =
     record {
       left = length o;
@@ -363,11 +371,11 @@ module _ {f : Family} {o : List ℕ} {from : ℕ} {d₀ d : List ℕ} {at out : 
       go zero w = absurd (omega (arith, t .whole, w .ends))
       go (suc n) w = next n w (rw (records-more (f .width) o at n h)) (rw (records-more (f .width) o at n h))
 
-  pub record-there : at < length o → (at + recordSize (f .width) o at ≤ length o) × (out + (2 * f .width + 8) * length (recordEntries (f .width) o at) ≤ length d)
+  pub record-there : at < length o → (at + recordSize (f .width) o at ≤ length o) × (out + entrySize true f * length (recordEntries (f .width) o at) ≤ length d)
   record-there h = first h (λ n w more further. walk-there w (recordEntries (f .width) o at) (recordSize (f .width) o at) n more further)
 
   pub record-next : {d′ : List ℕ} {at′ out′ : ℕ} → at < length o → d′ ≡ put d out (each (assertEntryOctets f) (recordEntries (f .width) o at)) → at′ ≡ at + recordSize (f .width) o at
-      → out′ ≡ out + (2 * f .width + 8) * length (recordEntries (f .width) o at) → ToEnd f o from d₀ d′ at′ out′
+      → out′ ≡ out + entrySize true f * length (recordEntries (f .width) o at) → ToEnd f o from d₀ d′ at′ out′
   record-next h p q r =
       first h (λ n w more further.
       record { left = n; whole = t .whole; walk = walk-step w (recordEntries (f .width) o at) (recordSize (f .width) o at) n more further p q r })

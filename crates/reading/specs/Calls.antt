@@ -14,6 +14,7 @@ use Rattle.format.specs.Reading.{Found, found, ReadingCall, readAsserts, readPa
 use Rattle.format.specs.Body.{assertsBody, pairsBody}
 use Rattle.format.specs.Family.{Family}
 use Rattle.format.specs.declared.Kind.{Kind}
+use Rattle.format.specs.declared.Path.{Path}
 use Rattle.counting.specs.Counts.{tallied}
 use Rattle.reading.specs.Plain.{entriesFor}
 use Rattle.reading.specs.declared.entries.Reading.{Reading}
@@ -27,7 +28,7 @@ abbrev pub bodyFor : (isAssert : Bool) (f : Family) → Kind → Reader (List (e
 bodyFor true f = assertsBody f
 bodyFor false f = pairsBody f
 
-abbrev pub readFor : Bool → Family → List ℕ → List ℕ → ReadingCall
+abbrev pub readFor : Bool → Family → Path → List ℕ → List ℕ → ReadingCall
 readFor true f = readAsserts f
 readFor false f = readPairs f
 

@@ -4,6 +4,7 @@
 --     Copied         the places past both, and the buffer with the entries written
 -- Assumes nothing: these are definitions.
 use Prim.Native.Nat.{ℕ, _+_, _*_, _≤_}
+use mathlib.Core.Bool.{true}
 use mathlib.Core.List.{List}
 use mathlib.Core.Path.{_≡_}
 use lib.ListN.{length}
@@ -12,14 +13,14 @@ use Rattle.records.specs.Records.{AssertRecord}
 use Rattle.format.specs.Family.{Family}
 use Rattle.format.specs.Record.{each}
 use Rattle.format.specs.Entry.{assertEntryOctets}
+use Rattle.reading.specs.Plain.{entrySize}
 use Rattle.reading.specs.declared.copy.Places.{Places}
 
 pub record Fit (f : Family) (o : List ℕ) (at size : ℕ) (d : List ℕ) (out : ℕ) (es : List AssertRecord) : Type 0 where
   pub there : at + size ≤ length o
-  -- an entry is two addresses and 8 octets
-  pub room : out + (2 * f .width + 8) * length es ≤ length d
+  pub room : out + entrySize true f * length es ≤ length d
 
 pub record Copied (f : Family) (at size : ℕ) (d : List ℕ) (out : ℕ) (es : List AssertRecord) (d′ : List ℕ) (past : Places) : Type 0 where
   pub read : past .at ≡ at + size
-  pub written : past .out ≡ out + (2 * f .width + 8) * length es
+  pub written : past .out ≡ out + entrySize true f * length es
   pub buffer : d′ ≡ put d out (each (assertEntryOctets f) es)

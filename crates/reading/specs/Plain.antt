@@ -1,5 +1,5 @@
 -- The records of octets that were checked, by plain numbers at their places: no test, and no refusal.
---     entriesFor, words, entryWith       asserts or pairs: the entries, their octets past the two addresses, and an entry of its numbers
+--     entriesFor, words, entrySize, entryWith     asserts or pairs: the entries, their octets past the two addresses, all their octets, and an entry of its numbers
 --     plainEntry, plainSize, plainEntries     an assert record or a pair, how many octets it is, and n of them one after another
 --     skip, plainAddresses               n groups or n sources one after another
 --     withAddress, likeEntries           an entry for each of them
@@ -8,7 +8,7 @@
 -- The numbers of one assert record and of one pair are in Answers.antt of the crate fields. That a reader of the crate format that gives a value
 -- gives this one is proved in proofs/.
 -- Assumes nothing: these are definitions.
-use Prim.Native.Nat.{ℕ, zero, suc, _+_}
+use Prim.Native.Nat.{ℕ, zero, suc, _+_, _*_}
 use mathlib.Core.Bool.{Bool, true, false, cond}
 use mathlib.Core.List.{List, [], _∷_, map}
 use lib.ListN.{length}
@@ -17,7 +17,7 @@ use Rattle.octets.specs.Octets.{numberAt}
 use Rattle.records.specs.Records.{AssertRecord, assert, pair, rBit, GroupRecord, ofGroup, AggregatedRecord, ofSource, ofRp}
 use Rattle.records.specs.Sizes.{groupSize, sourceSize, groupRecordSize, aggregatedSize}
 use Rattle.format.specs.Family.{Family}
-use Rattle.format.specs.Entry.{Entries, assertEntries, pairEntries}
+use Rattle.format.specs.Entry.{Entries, frontSize, assertEntries, pairEntries}
 use Rattle.fields.specs.Answers.{plainAssert, plainPair}
 
 abbrev pub entriesFor : Bool → Family → Entries
@@ -27,6 +27,10 @@ entriesFor false f = pairEntries f false
 -- R with preference, and metric: a pair has neither
 abbrev pub words : Bool → ℕ
 words isAssert = cond isAssert 8 0
+
+-- the octets of an entry: the front, group, source, words
+abbrev pub entrySize : Bool → Family → ℕ
+entrySize isAssert f = frontSize f + (2 * f .width + words isAssert)
 
 -- group, source, R with preference, metric
 unfoldable pub entryWith : (isAssert : Bool) (f : Family) → ℕ → ℕ → ℕ → ℕ → entriesFor isAssert f .Entry

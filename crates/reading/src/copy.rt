@@ -4,6 +4,7 @@
 // A loop over n things is two functions, the loop and one that calls it with the family as a literal: so the compiler
 // makes a loop for each family.
 use addresses::copy_address;
+use addresses::front_size;
 use addresses::width;
 use format::r_bit;
 use octets::number16;
@@ -19,18 +20,25 @@ ghost use Rattle.records.specs.Sizes.{groupRecordSize, groupRecordsSize, aggreg
 ghost use Rattle.records.specs.Records.{assert, groupEntries, allGroupEntries, entries, allEntries};
 ghost use Rattle.format.specs.Family.{familyOf};
 ghost use Rattle.format.specs.Record.{each};
-ghost use Rattle.format.specs.Entry.{assertEntryOctets};
-ghost use Rattle.reading.specs.Plain.{entriesFor, words, entryWith, plainSize, plainEntries, skip, likeEntries, plainGroupRecord, plainGroupRecords, plainAggregated, plainRecords};
+ghost use Rattle.format.specs.Entry.{frontSize, assertEntryOctets};
+ghost use Rattle.reading.specs.Plain.{entriesFor, words, entrySize, entryWith, plainSize, plainEntries, skip, likeEntries, plainGroupRecord, plainGroupRecords, plainAggregated, plainRecords};
 ghost use Rattle.reading.specs.Copied.{Fit, Copied};
 
 // One of two numbers.
-pub(crate) fn either(first: bool, a: usize, b: usize) -> usize
+fn either(first: bool, a: usize, b: usize) -> usize
     ensures { λ r. ⌜ (r ≡ cond first a b) × (r ≤ a + b) ⌝ }
 {
     if first {
         return a;
     }
     b
+}
+
+// The octets of an entry: the front, group and source, and of an assert two words.
+pub(crate) fn entry_size(ipv6: bool, is_assert: bool) -> usize
+    ensures { λ r. ⌜ (r ≡ entrySize «is_assert» (familyOf ipv6)) × (8 ≤ r) × (r ≤ 44) ⌝ }
+{
+    front_size(ipv6) + 2 * width(ipv6) + either(is_assert, 8, 0)
 }
 
 // Two fields of one size, one after another: addresses of a family, or words, which are as long as an IPv4 address.
@@ -41,6 +49,24 @@ fn copy_two(ipv6: bool, m: &[u8], first: usize, s: &[u8], second: usize, d: &mut
     let w = width(ipv6);
     copy_address(ipv6, &m[first..first + w], &mut d[out..out + w]);
     copy_address(ipv6, &s[second..second + w], &mut d[out + w..out + 2 * w]);
+}
+
+// A word at a place where there is room for it.
+fn put_word(d: &mut [u8], out: usize, n: u32)
+    requires { ⌜ out + 4 ≤ length (now d) ⌝ }
+    ensures { λ r. ⌜ now (d .exit) ≡ put (now (d .entry)) out (be 4 n) ⌝ }
+{
+    write32(&mut d[out..out + 4], 0, n);
+}
+
+// What an entry begins with: the family and three zero octets, as one word. IPv4 has nothing there.
+fn put_front(ipv6: bool, d: &mut [u8], out: usize)
+    requires { ⌜ out + frontSize (familyOf ipv6) ≤ length (now d) ⌝ }
+    ensures { λ r. ⌜ now (d .exit) ≡ put (now (d .entry)) out (familyOf ipv6 .front) ⌝ }
+{
+    if ipv6 {
+        put_word(d, out, 0x0200_0000);
+    }
 }
 
 // An entry, from the places of its group and, of an assert, of its word R with preference, after which the metric stands.
@@ -56,21 +82,15 @@ fn copy_entry(
     d: &mut [u8],
     out: usize,
 )
-    requires { ⌜ (group + familyOf ipv6 .width ≤ length (now m)) × (source + familyOf ipv6 .width ≤ length (now s)) × (word + words «is_assert» ≤ length (now m)) × (out + (2 * familyOf ipv6 .width + words «is_assert») ≤ length (now d)) ⌝ }
+    requires { ⌜ (group + familyOf ipv6 .width ≤ length (now m)) × (source + familyOf ipv6 .width ≤ length (now s)) × (word + words «is_assert» ≤ length (now m)) × (out + entrySize «is_assert» (familyOf ipv6) ≤ length (now d)) ⌝ }
     ensures { λ r. ⌜ now (d .exit) ≡ put (now (d .entry)) out (entriesFor «is_assert» (familyOf ipv6) .octetsOf (entryWith «is_assert» (familyOf ipv6) (numberAt (familyOf ipv6 .width) (now (m .entry)) group) (numberAt (familyOf ipv6 .width) (now (s .entry)) source) (numberAt 4 (now (m .entry)) word) (numberAt 4 (now (m .entry)) (word + 4)))) ⌝ }
 {
-    copy_two(ipv6, m, group, s, source, d, out);
+    let addresses = out + front_size(ipv6);
+    put_front(ipv6, d, out);
+    copy_two(ipv6, m, group, s, source, d, addresses);
     if is_assert {
-        copy_two(false, m, word, m, word + 4, d, out + 2 * width(ipv6));
+        copy_two(false, m, word, m, word + 4, d, addresses + 2 * width(ipv6));
     }
-}
-
-// A word at a place where there is room for it.
-fn put_word(d: &mut [u8], out: usize, n: u32)
-    requires { ⌜ out + 4 ≤ length (now d) ⌝ }
-    ensures { λ r. ⌜ now (d .exit) ≡ put (now (d .entry)) out (be 4 n) ⌝ }
-{
-    write32(&mut d[out..out + 4], 0, n);
 }
 
 // An assert entry whose two words are numbers. The compiler does not know that message and entries are apart, and would load
@@ -85,29 +105,32 @@ fn put_entry(
     d: &mut [u8],
     out: usize,
 )
-    requires { ⌜ (group + familyOf ipv6 .width ≤ length (now m)) × (source + familyOf ipv6 .width ≤ length (now m)) × (out + (2 * familyOf ipv6 .width + 8) ≤ length (now d)) ⌝ }
+    requires { ⌜ (group + familyOf ipv6 .width ≤ length (now m)) × (source + familyOf ipv6 .width ≤ length (now m)) × (out + entrySize true (familyOf ipv6) ≤ length (now d)) ⌝ }
     ensures { λ r. ⌜ now (d .exit) ≡ put (now (d .entry)) out (assertEntryOctets (familyOf ipv6) (assert (numberAt (familyOf ipv6 .width) (now (m .entry)) group) (numberAt (familyOf ipv6 .width) (now (m .entry)) source) «r_preference» metric)) ⌝ }
 {
-    let words = out + 2 * width(ipv6);
-    copy_two(ipv6, m, group, m, source, d, out);
+    let addresses = out + front_size(ipv6);
+    let words = addresses + 2 * width(ipv6);
+    put_front(ipv6, d, out);
+    copy_two(ipv6, m, group, m, source, d, addresses);
     put_word(d, words, r_preference);
     put_word(d, words + 4, metric);
 }
 
 // n assert records, or n pairs, one after another.
 fn copy_records_of(ipv6: bool, is_assert: bool, m: &[u8], from: usize, n: usize, d: &mut [u8])
-    requires { ⌜ (from + plainSize «is_assert» (familyOf ipv6 .width) * n ≤ length (now m)) × ((2 * familyOf ipv6 .width + words «is_assert») * n ≤ length (now d)) ⌝ }
+    requires { ⌜ (from + plainSize «is_assert» (familyOf ipv6 .width) * n ≤ length (now m)) × (entrySize «is_assert» (familyOf ipv6) * n ≤ length (now d)) ⌝ }
     ensures { λ r. ⌜ now (d .exit) ≡ put (now (d .entry)) 0 (each (entriesFor «is_assert» (familyOf ipv6) .octetsOf) (plainEntries «is_assert» (familyOf ipv6) (now (m .entry)) from n)) ⌝ }
 {
     let w = width(ipv6);
-    let size = 2 * w + either(is_assert, 8, 0);
+    let record = 2 * w + 6 + either(is_assert, 8, 0);
+    let size = entry_size(ipv6, is_assert);
     let mut left = n;
     let mut at = from;
     let mut out = 0;
     while left > 0 {
         let source = at + (w + 6);
         copy_entry(ipv6, is_assert, m, at + 4, m, source, source + w, d, out);
-        at += size + 6;
+        at += record;
         out += size;
         left -= 1;
     }
@@ -121,7 +144,7 @@ pub(crate) fn copy_records(
     n: usize,
     d: &mut [u8],
 )
-    requires { ⌜ (from + plainSize «is_assert» (familyOf ipv6 .width) * n ≤ length (now m)) × ((2 * familyOf ipv6 .width + words «is_assert») * n ≤ length (now d)) ⌝ }
+    requires { ⌜ (from + plainSize «is_assert» (familyOf ipv6 .width) * n ≤ length (now m)) × (entrySize «is_assert» (familyOf ipv6) * n ≤ length (now d)) ⌝ }
     ensures { λ r. ⌜ now (d .exit) ≡ put (now (d .entry)) 0 (each (entriesFor «is_assert» (familyOf ipv6) .octetsOf) (plainEntries «is_assert» (familyOf ipv6) (now (m .entry)) from n)) ⌝ }
 {
     if ipv6 {
@@ -152,6 +175,7 @@ fn put_addresses(
     ensures { λ r. ⌜ Copied (familyOf ipv6) from ((familyOf ipv6 .width + skip «is_group») * n) (now (d .entry)) start (likeEntries «is_group» (familyOf ipv6 .width) (now (m .entry)) other word from n) (now (d .exit)) r ⌝ }
 {
     let w = width(ipv6);
+    let size = entry_size(ipv6, true);
     let r_preference = number32(&m[word..word + 4], 0);
     let metric = number32(&m[word + 4..word + 8], 0);
     let mut left = n;
@@ -163,7 +187,7 @@ fn put_addresses(
         let source = either(is_group, other, address);
         put_entry(ipv6, m, group, source, r_preference, metric, d, out);
         at = address + w;
-        out += 2 * w + 8;
+        out += size;
         left -= 1;
     }
     Places { at, out }
@@ -205,7 +229,7 @@ fn copy_addresses_of(
         other,
         word,
         d,
-        start + (2 * w + 8),
+        start + entry_size(ipv6, true),
     )
 }
 
@@ -249,7 +273,7 @@ fn copy_group_record(
         copy_entry(ipv6, true, m, at + 4, zeros, 0, word, d, out);
         return Places {
             at: sources,
-            out: out + (2 * w + 8),
+            out: out + entry_size(ipv6, true),
         };
     }
     copy_addresses(ipv6, false, m, sources, p, at + 4, word, d, out)
@@ -296,7 +320,7 @@ fn copy_record(ipv6: bool, m: &[u8], at: usize, d: &mut [u8], out: usize) -> Pla
 
 // The entries of the aggregated records up to the end of a message.
 pub(crate) fn copy_aggregated(ipv6: bool, m: &[u8], from: usize, d: &mut [u8])
-    requires { ⌜ (from + allSize (familyOf ipv6 .width) (plainRecords (familyOf ipv6 .width) (length (now m)) (now m) from) ≡ length (now m)) × ((2 * familyOf ipv6 .width + 8) * length (allEntries (plainRecords (familyOf ipv6 .width) (length (now m)) (now m) from)) ≤ length (now d)) ⌝ }
+    requires { ⌜ (from + allSize (familyOf ipv6 .width) (plainRecords (familyOf ipv6 .width) (length (now m)) (now m) from) ≡ length (now m)) × (entrySize true (familyOf ipv6) * length (allEntries (plainRecords (familyOf ipv6 .width) (length (now m)) (now m) from)) ≤ length (now d)) ⌝ }
     ensures { λ r. ⌜ now (d .exit) ≡ put (now (d .entry)) 0 (each (assertEntryOctets (familyOf ipv6)) (allEntries (plainRecords (familyOf ipv6 .width) (length (now (m .entry))) (now (m .entry)) from))) ⌝ }
 {
     let mut at = from;

@@ -2,24 +2,26 @@
 // counted to its end, and only then copied.
 use crate::copy::copy_aggregated;
 use crate::copy::copy_records;
-use crate::copy::either;
-use addresses::width;
+use crate::copy::entry_size;
 use counting::Counted;
 use counting::count_asserts;
 use counting::count_pairs;
 use format::Kind;
+use format::Path;
 use format::Refusal;
+use format::nowhere;
 use headers::Headed;
 use headers::header;
 ghost use mathlib.Core.Path.{_≡_};
-ghost use Prim.Native.Nat.{_+_, _*_, _≤_};
+ghost use Prim.Native.Nat.{_*_, _≤_};
 ghost use lib.ListN.{length};
 ghost use Rattle.octets.specs.Octets.{put};
-ghost use Rattle.format.specs.Family.{ipv4, familyOf};
+ghost use Rattle.format.specs.Path.{nowhere};
+ghost use Rattle.format.specs.Family.{familyOf, ipv4};
 ghost use Rattle.format.specs.Record.{each};
 ghost use Rattle.format.specs.Reading.{readAsserts, readPairs};
 ghost use Rattle.counting.specs.Counts.{counted, tallied};
-ghost use Rattle.reading.specs.Plain.{entriesFor, words};
+ghost use Rattle.reading.specs.Plain.{entriesFor, entrySize};
 ghost use Rattle.reading.specs.Calls.{answered, bodyFor, readFor, valueOf, HasCounted};
 
 // What a reading call found.
@@ -41,7 +43,7 @@ fn count(ipv6: bool, is_assert: bool, kind: Kind, m: &[u8]) -> Counted
 
 // The entries that were counted, one after another.
 fn copy_entries(ipv6: bool, is_assert: bool, kind: Kind, m: &[u8], n: usize, d: &mut [u8])
-    requires { ⌜ HasCounted (bodyFor «is_assert» (familyOf ipv6) kind (now m) 4) n × ((2 * familyOf ipv6 .width + words «is_assert») * n ≤ length (now d)) ⌝ }
+    requires { ⌜ HasCounted (bodyFor «is_assert» (familyOf ipv6) kind (now m) 4) n × (entrySize «is_assert» (familyOf ipv6) * n ≤ length (now d)) ⌝ }
     ensures { λ r. ⌜ now (d .exit) ≡ put (now (d .entry)) 0 (each (entriesFor «is_assert» (familyOf ipv6) .octetsOf) (valueOf (bodyFor «is_assert» (familyOf ipv6) kind (now (m .entry)) 4))) ⌝ }
 {
     match kind {
@@ -55,11 +57,11 @@ fn copy_entries(ipv6: bool, is_assert: bool, kind: Kind, m: &[u8], n: usize, d: 
 }
 
 // Reads a message of the assert kinds, or of the pair kinds.
-fn read_of(ipv6: bool, is_assert: bool, m: &[u8], d: &mut [u8]) -> Reading
-    ensures answer { λ r. ⌜ answered r ≡ readFor «is_assert» (familyOf ipv6) (now (m .entry)) (now (d .entry)) .answer ⌝ }
-    ensures lent { λ r. ⌜ now (d .exit) ≡ readFor «is_assert» (familyOf ipv6) (now (m .entry)) (now (d .entry)) .lent ⌝ }
+fn read_of(ipv6: bool, path: Path, is_assert: bool, m: &[u8], d: &mut [u8]) -> Reading
+    ensures answer { λ r. ⌜ answered r ≡ readFor «is_assert» (familyOf ipv6) path (now (m .entry)) (now (d .entry)) .answer ⌝ }
+    ensures lent { λ r. ⌜ now (d .exit) ≡ readFor «is_assert» (familyOf ipv6) path (now (m .entry)) (now (d .entry)) .lent ⌝ }
 {
-    let h = header(m);
+    let h = header(ipv6, path, m);
     match h {
         Headed::Refused(r) => Reading::Refused(r),
         Headed::Is(kind) => {
@@ -67,7 +69,7 @@ fn read_of(ipv6: bool, is_assert: bool, m: &[u8], d: &mut [u8]) -> Reading
             match c {
                 Counted::Bad(r) => Reading::Refused(r),
                 Counted::All { entries, next: _ } => {
-                    let size = 2 * width(ipv6) + either(is_assert, 8, 0);
+                    let size = entry_size(ipv6, is_assert);
                     if d.len() / size < entries {
                         return Reading::Refused(Refusal {
                             number: 8,
@@ -85,18 +87,18 @@ fn read_of(ipv6: bool, is_assert: bool, m: &[u8], d: &mut [u8]) -> Reading
     }
 }
 
-// Reads a message of the assert kinds into 16-octet entries.
+// Reads a message of the assert kinds into assert entries.
 pub fn read_asserts(m: &[u8], d: &mut [u8]) -> Reading
-    ensures answer { λ r. ⌜ answered r ≡ readAsserts ipv4 (now (m .entry)) (now (d .entry)) .answer ⌝ }
-    ensures lent { λ r. ⌜ now (d .exit) ≡ readAsserts ipv4 (now (m .entry)) (now (d .entry)) .lent ⌝ }
+    ensures answer { λ r. ⌜ answered r ≡ readAsserts ipv4 nowhere (now (m .entry)) (now (d .entry)) .answer ⌝ }
+    ensures lent { λ r. ⌜ now (d .exit) ≡ readAsserts ipv4 nowhere (now (m .entry)) (now (d .entry)) .lent ⌝ }
 {
-    read_of(false, true, m, d)
+    read_of(false, nowhere(), true, m, d)
 }
 
-// Reads a message of the pair kinds into 8-octet entries.
+// Reads a message of the pair kinds into pair entries.
 pub fn read_pairs(m: &[u8], d: &mut [u8]) -> Reading
-    ensures answer { λ r. ⌜ answered r ≡ readPairs ipv4 (now (m .entry)) (now (d .entry)) .answer ⌝ }
-    ensures lent { λ r. ⌜ now (d .exit) ≡ readPairs ipv4 (now (m .entry)) (now (d .entry)) .lent ⌝ }
+    ensures answer { λ r. ⌜ answered r ≡ readPairs ipv4 nowhere (now (m .entry)) (now (d .entry)) .answer ⌝ }
+    ensures lent { λ r. ⌜ now (d .exit) ≡ readPairs ipv4 nowhere (now (m .entry)) (now (d .entry)) .lent ⌝ }
 {
-    read_of(false, false, m, d)
+    read_of(false, nowhere(), false, m, d)
 }

@@ -16,7 +16,7 @@ assert-lines-requires : tie.Need-assert-lines-requires
 unfolding answered readAsserts
 assert-lines-requires c κs =
     let r = c .before .before .before .before .before .before .before in
-    let fits = room (assertEntries ipv4) (unpackAsserts ipv4 _) _ (sym (r .read-asserts .ensures .0) ∙ ap answered (c .before .before .before .before .found .given .1)) in
+    let fits = room (assertEntries ipv4) (unpackAsserts ipv4 _ _) _ (sym (r .read-asserts .ensures .0) ∙ ap answered (c .before .before .before .before .found .given .1)) in
     omega (arith, fits)
 
 pub list-asserts-spec : {M : Type 1} → statement M

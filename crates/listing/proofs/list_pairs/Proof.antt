@@ -17,7 +17,7 @@ pair-lines-requires : tie.Need-pair-lines-requires
 unfolding answered readPairs
 pair-lines-requires c κs =
     let r = c .before .before .before .before .before .before .before in
-    let fits = room (pairEntries ipv4 false) (unpackPairs ipv4 _) _ (sym (r .read-pairs .ensures .0) ∙ ap answered (c .before .before .before .before .found .given .1)) in
+    let fits = room (pairEntries ipv4 false) (unpackPairs ipv4 _ _) _ (sym (r .read-pairs .ensures .0) ∙ ap answered (c .before .before .before .before .found .given .1)) in
     omega (arith, fits)
 
 pub list-pairs-spec : {M : Type 1} → statement M

@@ -1,6 +1,6 @@
 -- `reading::copy::copy_addresses_of` meets its contract: none, or the first entry and the others.
 -- Assumes nothing.
-use Prim.Native.Nat.{ℕ, suc, _+_, _-_, _*_, _≤_}
+use Prim.Native.Nat.{ℕ, suc, _+_, _-_, _≤_}
 use native.Mathlib.Omega.{arith}
 use mathlib.Core.Path.{_≡_, refl, ap, _∙_}
 use mathlib.Core.Bool.{true}
@@ -10,7 +10,7 @@ use Rattle.octets.specs.Octets.{numberAt, put}
 use Rattle.octets.proofs.Laws.{length-put}
 use Rattle.format.specs.Entry.{assertEntryOctets}
 use Rattle.format.specs.Family.{familyOf}
-use Rattle.reading.specs.Plain.{skip, withAddress, entryWith}
+use Rattle.reading.specs.Plain.{entrySize, skip, withAddress, entryWith}
 use Rattle.reading.proofs.Copying.{length-entry, addresses-none, first-fits, others-fit, others-copied, either-there, either-entry}
 use borrow.Author.Needs.{needs}
 use Rattle.reading.proofs.copy.copy_addresses_of.Statement.{statement}
@@ -31,7 +31,7 @@ some c = omega (arith, c .if1 .left)
 -- the first is there, and its entry fits
 there : (c : tie.Else1)
     → (begin c .args .from + (familyOf (begin c .args .ipv6) .width + skip (begin c .args .is-group)) ≤ length (now (begin c .args .m)))
-    × (begin c .args .start + (2 * familyOf (begin c .args .ipv6) .width + 8) ≤ length (now (begin c .args .d)))
+    × (begin c .args .start + entrySize true (familyOf (begin c .args .ipv6)) ≤ length (now (begin c .args .d)))
 there c =
     let s = begin c in
     let a = s .args in
@@ -64,7 +64,7 @@ entry-is c =
 
 put-addresses-requires : tie.Need-put-addresses-requires
 put-addresses-requires c κs =
-    let copy = c .before .before .before in
+    let copy = c .before .before .before .before in
     let chosen = copy .before .before in
     let wide = chosen .before .before .before in
     let none = wide .before in
@@ -77,13 +77,13 @@ put-addresses-requires c κs =
       s .pre .0,
       s .pre .1,
       others-fit (a .is-group) f (now (a .m)) (a .other) (a .word) (a .from) (a .n) (a .n - 1) _ _ (a .start) (now (a .d)) _ (some none)
-          (omega (arith, e, wide .width .ensures)) (omega (arith, wide .width .ensures)) same (s .pre .2),
+          (omega (arith, e, wide .width .ensures)) (omega (arith, c .entry-size .ensures)) same (s .pre .2),
     )
 
 returns-2 : tie.Need-returns-2
 returns-2 c =
     let rest = c .before .before in
-    let copy = rest .before .before .before .before in
+    let copy = rest .before .before .before .before .before in
     let chosen = copy .before .before in
     let wide = chosen .before .before .before in
     let none = wide .before in
@@ -91,7 +91,7 @@ returns-2 c =
     let f = familyOf (a .ipv6) in
     let e = chosen .before .before .either .ensures .0 in
     others-copied (a .is-group) f (now (a .m)) (a .other) (a .word) (a .from) (a .n) (a .n - 1) _ _ (a .start) (now (a .d)) _ (some none)
-    (omega (arith, e, wide .width .ensures)) (omega (arith, wide .width .ensures))
+    (omega (arith, e, wide .width .ensures)) (omega (arith, rest .before .entry-size .ensures))
     (copy .copy-entry .ensures ∙ ap (λ r. put (now (a .d)) (a .start) (assertEntryOctets f r)) (entry-is chosen)) (rest .put-addresses .ensures)
 
 pub copy-addresses-of-spec : {M : Type 1} → statement M
@@ -107,9 +107,8 @@ copy-addresses-of-spec =
     copy-entry-requires
     (λ c. omega (arith, there (c .before .before .before .before .before .before .before .before), c .before .before .before .before .before .before .either .ensures, c .before .before .before .before .before .before .before .width .ensures))
     (λ c. omega (arith, some (c .before .before .before .before .before .before .before .before)))
-    (λ c. search needs)
-    (λ c. search needs)
-    (λ c. search needs)
+    (λ c κs. search needs)
+    (λ c. omega (arith, c .entry-size .ensures, there (c .before .before .before .before .before .before .before .before .before .before)))
     put-addresses-requires
     (λ c. search needs)
     returns-2)

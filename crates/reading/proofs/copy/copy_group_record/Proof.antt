@@ -83,17 +83,17 @@ copy-entry-requires c κs =
 returns : tie.Need-returns
 unfolding entryWith
 returns c =
-    let s = c .before .before .before .before .before .before .before .before .before .before .before .before in
+    let s = c .before .before .before .before .before .before .before .before .before .before .before .before .before in
     let a = s .args in
-    let w = c .before .before .before .before .before .before .before .before .before .width .ensures .0 in
-    let n = ap (λ (x : ℕ). (wide s + 2) * x) (sym (count (c .before .before .before .before .before .before .before)) ∙ c .before .before .before .before .before .before .if1 .taken) in
-    let e = none (c .before .before .before .before .before .before) in
+    let w = c .before .before .before .before .before .before .before .before .before .before .width .ensures .0 in
+    let n = ap (λ (x : ℕ). (wide s + 2) * x) (sym (count (c .before .before .before .before .before .before .before .before)) ∙ c .before .before .before .before .before .before .before .if1 .taken) in
+    let e = none (c .before .before .before .before .before .before .before) in
     let zero = ap (λ (x : ℕ). assert (number s (wide s) (a .at + 4)) x (number s 4 (a .word)) (number s 4 (a .word + 4))) (zero-source (a .ipv6)) in
     rw e
     (record {
       read = omega (arith, w, n);
-      written = omega (arith, w);
-      buffer = put-one (assertEntryOctets (familyOf (a .ipv6))) (now (a .d)) (a .out) (c .before .before .copy-entry .ensures) zero;
+      written = omega (arith, c .entry-size .ensures);
+      buffer = put-one (assertEntryOctets (familyOf (a .ipv6))) (now (a .d)) (a .out) (c .before .before .before .copy-entry .ensures) zero;
     })
 
 copy-addresses-requires : tie.Need-copy-addresses-requires
@@ -122,9 +122,8 @@ copy-group-record-spec =
     (λ c κs. search needs)
     (λ c. search needs)
     copy-entry-requires
-    (λ c. let e = none (c .before .before .before .before .before .before) in omega (arith, c .before .before .before .before .before .before .before .before .before .width .ensures, rw e at (c .before .before .before .before .before .before .before .before .before .before .before .before .pre .1 .room)))
-    (λ c. let e = none (c .before .before .before .before .before .before) in omega (arith, c .before .before .before .before .before .before .before .before .before .width .ensures, rw e at (c .before .before .before .before .before .before .before .before .before .before .before .before .pre .1 .room)))
-    (λ c. let e = none (c .before .before .before .before .before .before) in omega (arith, c .before .before .before .before .before .before .before .before .before .width .ensures, rw e at (c .before .before .before .before .before .before .before .before .before .before .before .before .pre .1 .room)))
+    (λ c κs. search needs)
+    (λ c. let e = none (c .before .before .before .before .before .before .before) in omega (arith, c .entry-size .ensures, rw e at (c .before .before .before .before .before .before .before .before .before .before .before .before .before .pre .1 .room)))
     (λ c. search needs)
     returns
     (λ c. search needs)

@@ -1,7 +1,7 @@
 -- `reading::copy::copy_group_records` meets its contract: the loop's invariant is `Walk` over `groups-series`.
 -- The measure is the group records left.
 -- Assumes nothing.
-use Prim.Native.Nat.{_+_, _*_}
+use Prim.Native.Nat.{_+_}
 use native.Mathlib.Omega.{arith}
 use mathlib.Core.Bool.{true}
 use lib.ListN.{length}
@@ -11,7 +11,7 @@ use Rattle.records.specs.Records.{allGroupEntries}
 use Rattle.records.specs.Sizes.{groupRecordsSize}
 use Rattle.format.specs.Entry.{assertEntryOctets}
 use Rattle.format.specs.Family.{familyOf}
-use Rattle.reading.specs.Plain.{plainGroupRecords}
+use Rattle.reading.specs.Plain.{entrySize, plainGroupRecords}
 use Rattle.reading.proofs.Copying.{Walk, walk-start, walk-end, turn-there, turn-next, groups-series, length-entry}
 use borrow.Author.Needs.{needs}
 use Rattle.reading.proofs.copy.copy_group_records.Statement.{statement}
@@ -20,7 +20,7 @@ use Rattle.reading.proofs.copy.copy_group_records.Tie as tie
 abbrev Inv-loop : tie.InvT-loop
 Inv-loop ipv6 m from n d₀ start word left₀ at₀ out₀ d left at out =
     let f = familyOf ipv6 in
-    Walk (λ p k. allGroupEntries (numberAt 4 m word) (numberAt 4 m (word + 4)) (plainGroupRecords (f .width) m p k)) (λ p k. groupRecordsSize (f .width) (plainGroupRecords (f .width) m p k)) (assertEntryOctets f) (2 * f .width + 8) (length m) from n d₀ start d at out left
+    Walk (λ p k. allGroupEntries (numberAt 4 m word) (numberAt 4 m (word + 4)) (plainGroupRecords (f .width) m p k)) (λ p k. groupRecordsSize (f .width) (plainGroupRecords (f .width) m p k)) (assertEntryOctets f) (entrySize true f) (length m) from n d₀ start d at out left
 
 abbrev μ-loop : tie.MeasureT-loop
 μ-loop ipv6 m from n d₀ start word left₀ at₀ out₀ d left at out = left

@@ -8,39 +8,39 @@ use mathlib.Core.Path.{_≡_, refl}
 use lib.ListN.{length}
 use denote.Ref.{now}
 use Rattle.format.specs.Family.{familyOf}
-use Rattle.reading.specs.Plain.{entriesFor, words, plainEntries, plainSize}
+use Rattle.reading.specs.Plain.{entriesFor, words, entrySize, plainEntries, plainSize}
 use Rattle.reading.proofs.Copying.{Walk, walk-start, walk-end, series-length, turn-there, turn-next, put-one, records-series, length-entry, entry-at}
 use borrow.Author.Needs.{needs}
 use Rattle.reading.proofs.copy.copy_records_of.Statement.{statement}
 use Rattle.reading.proofs.copy.copy_records_of.Tie as tie
 
 abbrev Inv-loop : tie.InvT-loop
-Inv-loop ipv6 isAssert m from n d₀ w size left₀ at₀ out₀ d left at out =
+Inv-loop ipv6 isAssert m from n d₀ w step size left₀ at₀ out₀ d left at out =
     let f = familyOf ipv6 in
-    Walk (plainEntries isAssert f m) (λ p k. plainSize isAssert (f .width) * k) (entriesFor isAssert f .octetsOf) (2 * f .width + words isAssert) (length m) from n d₀ 0 d at out left
+    Walk (plainEntries isAssert f m) (λ p k. plainSize isAssert (f .width) * k) (entriesFor isAssert f .octetsOf) (entrySize isAssert f) (length m) from n d₀ 0 d at out left
 
 abbrev μ-loop : tie.MeasureT-loop
-μ-loop ipv6 isAssert m from n d₀ w size left₀ at₀ out₀ d left at out = left
+μ-loop ipv6 isAssert m from n d₀ w step size left₀ at₀ out₀ d left at out = left
 
 loop-holds : tie.Need-loop-holds Inv-loop μ-loop
 loop-holds c =
-    let s = c .before .before .before .before in
+    let s = c .before .before .before .before .before in
     let a = s .args in
     let f = familyOf (a .ipv6) in
-    let room : 0 + (2 * f .width + words (a .is-assert)) * length (plainEntries (a .is-assert) f (now (a .m)) (a .from) (a .n)) ≤ length (now (a .d)) =
+    let room : 0 + entrySize (a .is-assert) f * length (plainEntries (a .is-assert) f (now (a .m)) (a .from) (a .n)) ≤ length (now (a .d)) =
     rw (zero-add, series-length (records-series (a .is-assert) f (now (a .m))) (λ p. refl) (a .from) (a .n)) (s .pre .1) in
     walk-start (length-entry (a .is-assert) f) (s .pre .0) room
 
 -- in a turn the octets are there, and their entry fits
 there : (c : tie.In-loop Inv-loop μ-loop)
-    → let a = c .before .before .before .before .before .before .args in
-    let w = familyOf (a .ipv6) .width in
-    (c .before .loop .at + plainSize (a .is-assert) w ≤ length (now (a .m))) × (c .before .loop .out + (2 * w + words (a .is-assert)) * 1 ≤ length (c .before .loop .d))
-    × (c .before .before .before .width .result ≡ w) × (c .before .before .either .result ≡ words (a .is-assert))
+    → let a = c .before .before .before .before .before .before .before .args in
+    let f = familyOf (a .ipv6) in
+    (c .before .loop .at + plainSize (a .is-assert) (f .width) ≤ length (now (a .m))) × (c .before .loop .out + entrySize (a .is-assert) f * 1 ≤ length (c .before .loop .d))
+    × (c .before .before .before .before .width .result ≡ f .width) × (c .before .before .before .either .result ≡ words (a .is-assert)) × (c .before .before .entry-size .result ≡ entrySize (a .is-assert) f)
 there c =
-    let a = c .before .before .before .before .before .before .args in
+    let a = c .before .before .before .before .before .before .before .args in
     let t = turn-there (records-series (a .is-assert) (familyOf (a .ipv6)) (now (a .m))) (c .before .loop .inv) (c .loop-test .taken) in
-    (t .0, t .1, c .before .before .before .width .ensures .0, c .before .before .either .ensures .0)
+    (t .0, t .1, c .before .before .before .before .width .ensures .0, c .before .before .before .either .ensures .0, c .before .before .entry-size .ensures .0)
 
 copy-entry-requires : tie.Need-copy-entry-requires Inv-loop μ-loop
 copy-entry-requires c κs =
@@ -50,7 +50,7 @@ copy-entry-requires c κs =
 loop-again : tie.Need-loop-again Inv-loop μ-loop
 loop-again c =
     let l = c .before .before .before .before .before in
-    let a = c .before .before .before .before .before .before .before .before .before .before .args in
+    let a = c .before .before .before .before .before .before .before .before .before .before .before .args in
     let t = there (c .before .before .before .before) in
     let f = familyOf (a .ipv6) in
     turn-next (records-series (a .is-assert) f (now (a .m))) (l .loop .inv) (omega (arith, c .before .before .before .before .loop-test))
@@ -61,7 +61,7 @@ same-length c = c .before .loop .inv .written .same
 
 returns : tie.Need-returns Inv-loop μ-loop
 returns c =
-    let a = c .before .before .before .before .before .before .args in
+    let a = c .before .before .before .before .before .before .before .args in
     walk-end (records-series (a .is-assert) (familyOf (a .ipv6)) (now (a .m))) (c .before .loop .inv) (c .loop-test .left) .2
 
 pub copy-records-of-spec : {M : Type 1} → statement M
@@ -72,15 +72,16 @@ copy-records-of-spec =
     μ-loop
     (λ c κs. search needs)
     (λ c. search needs)
+    (λ c. search needs)
     (λ c κs. search needs)
     (λ c. search needs)
+    (λ c κs. search needs)
     loop-holds
     (λ c. omega (arith, there c))
     (λ c. omega (arith, there c))
     (λ c. omega (arith, there c))
     (λ c. omega (arith, there c))
     copy-entry-requires
-    (λ c. omega (arith, there (c .before .before .before .before)))
     (λ c. omega (arith, there (c .before .before .before .before)))
     (λ c. omega (arith, there (c .before .before .before .before)))
     (λ c. search needs)

@@ -13,36 +13,38 @@ use Rattle.octets.proofs.Laws.{number-cut}
 use Rattle.records.specs.Records.{AssertRecord}
 use Rattle.format.specs.Entry.{assertEntryOctets}
 use Rattle.format.specs.Family.{familyOf}
-use Rattle.reading.specs.Plain.{skip, withAddress, likeEntries}
+use Rattle.reading.specs.Plain.{entrySize, skip, withAddress, likeEntries}
 use Rattle.reading.proofs.Copying.{Walk, walk-start, walk-end, turn-there, turn-next, put-one, addresses-series, length-entry, either-there, either-entry}
 use borrow.Author.Needs.{needs}
 use Rattle.reading.proofs.copy.put_addresses.Statement.{statement}
 use Rattle.reading.proofs.copy.put_addresses.Tie as tie
 
 abbrev Inv-loop : tie.InvT-loop
-Inv-loop ipv6 isGroup m from n other word d₀ start w v x left₀ at₀ out₀ d left at out =
+Inv-loop ipv6 isGroup m from n other word d₀ start w size v x left₀ at₀ out₀ d left at out =
     let f = familyOf ipv6 in
-    Walk (likeEntries isGroup (f .width) m other word) (λ p k. (f .width + skip isGroup) * k) (assertEntryOctets f) (2 * f .width + 8) (length m) from n d₀ start d at out left
+    Walk (likeEntries isGroup (f .width) m other word) (λ p k. (f .width + skip isGroup) * k) (assertEntryOctets f) (entrySize true f) (length m) from n d₀ start d at out left
 
 abbrev μ-loop : tie.MeasureT-loop
-μ-loop ipv6 isGroup m from n other word d₀ start w v x left₀ at₀ out₀ d left at out = left
+μ-loop ipv6 isGroup m from n other word d₀ start w size v x left₀ at₀ out₀ d left at out = left
 
--- the loop begins after the width and the two words
+-- the loop begins after the width, the size and the two words
 abbrev begin : tie.After-number322 Inv-loop μ-loop → tie.Start Inv-loop μ-loop
-begin c = c .before .before .before .before .before .before .before
+begin c = c .before .before .before .before .before .before .before .before
 
--- the width, and the words as numbers
+-- the width, the words as numbers, and the size of an entry
 shared : (c : tie.After-number322 Inv-loop μ-loop)
-    → (c .before .before .before .before .width .result ≡ familyOf (begin c .args .ipv6) .width)
+    → (c .before .before .before .before .before .width .result ≡ familyOf (begin c .args .ipv6) .width)
     × (c .before .before .number32 .result ≡ numberAt 4 (now (begin c .args .m)) (begin c .args .word))
     × (c .number322 .result ≡ numberAt 4 (now (begin c .args .m)) (begin c .args .word + 4))
+    × (c .before .before .before .before .entry-size .result ≡ entrySize true (familyOf (begin c .args .ipv6)))
 shared c =
     let s = begin c in
     let m = now (s .args .m) in
     let word = s .args .word in (
-      c .before .before .before .before .width .ensures .0,
+      c .before .before .before .before .before .width .ensures .0,
       c .before .before .number32 .ensures ∙ number-cut 4 m word (word + 4) (omega arith) (omega (arith, s .pre .1)),
       c .number322 .ensures ∙ number-cut 4 m (word + 4) (word + 8) (omega arith) (omega (arith, s .pre .1)),
+      c .before .before .before .before .entry-size .ensures .0,
     )
 
 loop-holds : tie.Need-loop-holds Inv-loop μ-loop
@@ -58,13 +60,13 @@ entry isGroup w m other word = withAddress isGroup (numberAt w m other) (numberA
 there : (c : tie.In-loop Inv-loop μ-loop)
     → let a = begin (c .before .before) .args in
     let w = familyOf (a .ipv6) .width in
-    (c .before .loop .at + (w + skip (a .is-group)) ≤ length (now (a .m))) × (c .before .loop .out + (2 * w + 8) * 1 ≤ length (c .before .loop .d))
-    × (c .before .before .before .before .before .before .width .result ≡ w)
+    (c .before .loop .at + (w + skip (a .is-group)) ≤ length (now (a .m))) × (c .before .loop .out + entrySize true (familyOf (a .ipv6)) * 1 ≤ length (c .before .loop .d))
+    × (c .before .before .before .before .before .before .before .width .result ≡ w) × (c .before .before .before .before .before .before .entry-size .result ≡ entrySize true (familyOf (a .ipv6)))
 there c =
     let a = begin (c .before .before) .args in
     let w = familyOf (a .ipv6) .width in
     let t = turn-there (addresses-series (a .is-group) w (now (a .m)) (entry (a .is-group) w (now (a .m)) (a .other) (a .word))) (c .before .loop .inv) (c .loop-test .taken) in
-    (t .0, t .1, shared (c .before .before) .0)
+    (t .0, t .1, shared (c .before .before) .0, shared (c .before .before) .3)
 
 put-entry-requires : tie.Need-put-entry-requires Inv-loop μ-loop
 put-entry-requires c κs =
@@ -102,6 +104,7 @@ put-addresses-spec =
     Inv-loop
     μ-loop
     (λ c κs. search needs)
+    (λ c κs. search needs)
     (λ c. search needs)
     (λ c. search needs)
     (λ c. search needs)
@@ -119,8 +122,6 @@ put-addresses-spec =
     (λ c κs. search needs)
     (λ c κs. search needs)
     put-entry-requires
-    (λ c. omega (arith, there (c .before .before .before .before .before .before .before), c .before .before .before .before .before .before .either .ensures))
-    (λ c. omega (arith, there (c .before .before .before .before .before .before .before), c .before .before .before .before .before .before .either .ensures))
     (λ c. omega (arith, there (c .before .before .before .before .before .before .before), c .before .before .before .before .before .before .either .ensures))
     (λ c. omega (arith, there (c .before .before .before .before .before .before .before), c .before .before .before .before .before .before .either .ensures))
     (λ c. search needs)

@@ -1,12 +1,13 @@
 -- `reading::entries::copy_entries` meets its contract, kind by kind: what was counted is there, and is what is copied.
 -- Assumes nothing.
-use Prim.Native.Nat.{ℕ, _+_, _*_}
+use Prim.Native.Nat.{ℕ, _*_}
 use native.Mathlib.Omega.{arith}
+use mathlib.Core.Bool.{true}
 use mathlib.Core.Path.{_≡_, ap}
 use denote.Ref.{now}
 use Rattle.format.specs.Family.{familyOf}
 use Rattle.format.specs.declared.Kind.{Kind}
-use Rattle.reading.specs.Plain.{words}
+use Rattle.reading.specs.Plain.{entrySize}
 use Rattle.reading.specs.Calls.{bodyFor}
 use Rattle.reading.proofs.Delivered.{Delivers, delivers}
 use borrow.Author.Needs.{needs}
@@ -28,10 +29,10 @@ copy-records-requires-2 c κs = let s = c .before .before .before .before .befor
 copy-aggregated-requires : tie.Need-copy-aggregated-requires
 copy-aggregated-requires c κs =
     let s = c .before .before .before .before .before in
-    let w = familyOf (s .args .ipv6) .width in
+    let f = familyOf (s .args .ipv6) in
     let j = there s (c .before .enum-told4 .given .1) in
-    let eight : (2 * w + words (s .args .is-assert)) * s .args .n ≡ (2 * w + 8) * s .args .n = ap (λ x. (2 * w + words x) * s .args .n) (j .is) in
-    (j .whole, omega (arith, ap (λ (x : ℕ). (2 * w + 8) * x) (j .count), eight, s .pre .1))
+    let same : entrySize (s .args .is-assert) f * s .args .n ≡ entrySize true f * s .args .n = ap (λ x. entrySize x f * s .args .n) (j .is) in
+    (j .whole, omega (arith, ap (λ (x : ℕ). entrySize true f * x) (j .count), same, s .pre .1))
 
 copy-records-requires-3 : tie.Need-copy-records-requires-3
 copy-records-requires-3 c κs = let s = c .before .before .before .before .before in (there s (c .before .enum-told5 .given .1) .there, s .pre .1)

@@ -1,13 +1,12 @@
 -- `reading::entries::read_of` meets its contract: what its passes found says which way the call goes.
 -- Assumes nothing.
-use Prim.Native.Nat.{_+_, _*_, _<_}
+use Prim.Native.Nat.{_<_}
 use native.Mathlib.Omega.{arith}
 use mathlib.Core.Path.{_≡_, _∙_}
 use denote.Ref.{now}
 use Rattle.format.specs.Outcome.{gives}
 use Rattle.format.specs.Header.{header}
 use Rattle.format.specs.Family.{Family, familyOf}
-use Rattle.reading.specs.Plain.{words}
 use Rattle.reading.specs.Calls.{answered, bodyFor, HasCounted}
 use Rattle.reading.proofs.Readings.{headed-refuses, headed-gives, counted-bad, counted-all, room-short, room-all, room-entries, read-refused, read-bad, read-short, read-all, both}
 use borrow.Author.Needs.{needs}
@@ -18,8 +17,10 @@ abbrev family : tie.Start → Family
 family s = familyOf (s .args .ipv6)
 
 -- the header gave a kind
-is-kind : (c : tie.After-known-told2) → header (now (c .before .before .before .before .before .before .args .m)) ≡ gives (c .before .h2 .given .0 .0)
-is-kind c = headed-gives (now (c .before .before .before .before .before .before .args .m)) (c .before .h2 .given .1) (c .before .before .before .header .ensures)
+is-kind : (c : tie.After-known-told2) → let s = c .before .before .before .before .before .before in header (family s) (s .args .path) (now (s .args .m)) ≡ gives (c .before .h2 .given .0 .0)
+is-kind c =
+    let s = c .before .before .before .before .before .before in
+    headed-gives (family s) (s .args .path) (now (s .args .m)) (c .before .h2 .given .1) (c .before .before .before .header .ensures)
 
 -- its entries were counted
 has-counted : (c : tie.After-known-told4)
@@ -29,48 +30,42 @@ has-counted c =
     let s = c .before .before .before .before .before .before .before .before .before .before in
     counted-all (bodyFor (s .args .is-assert) (family s) (c .before .before .before .before .before .h2 .given .0 .0) (now (s .args .m)) 4) (c .before .c2 .given .1) (c .before .before .before .count .ensures)
 
--- an entry's octets
-size : (c : tie.After-either)
-    → let s = c .before .before .before .before .before .before .before .before .before .before .before .before in
-    let k = 2 * c .before .width .result + c .either .result in
-    (k ≡ 2 * family s .width + words (s .args .is-assert)) × (0 < k)
-size c = let w = c .before .width .ensures in (omega (arith, w, c .either .ensures), omega (arith, w))
+-- an entry has octets
+some : (c : tie.After-entry-size) → 0 < c .entry-size .result
+some c = omega (arith, c .entry-size .ensures)
 
 returns : tie.Need-returns
 unfolding answered
 returns c =
-    let s = c .before .before .before .before .before .before .before .before .before .before .before .before .before in
+    let s = c .before .before .before .before .before .before .before .before .before .before .before .before in
     let a = s .args in
-    let k = size (c .before) in
-    both (read-short (a .is-assert) (family s) (now (a .m)) (now (a .d)) (is-kind (c .before .before .before .before .before .before .before)) (has-counted (c .before .before .before)) (room-short (a .is-assert) (family s) (k .0) (k .1) (c .if1 .taken)))
+    both (read-short (a .is-assert) (family s) (a .path) (now (a .m)) (now (a .d)) (is-kind (c .before .before .before .before .before .before)) (has-counted (c .before .before)) (room-short (a .is-assert) (family s) (c .before .entry-size .ensures .0) (some (c .before)) (c .if1 .taken)))
 
 copy-entries-requires : tie.Need-copy-entries-requires
 copy-entries-requires c κs =
-    let s = c .before .before .before .before .before .before .before .before .before .before .before .before .before .before in
-    let k = size (c .before .before) in
-    (has-counted (c .before .before .before .before), room-entries (s .args .is-assert) (family s) (k .0) (k .1) (c .before .if1 .left))
+    let s = c .before .before .before .before .before .before .before .before .before .before .before .before .before in
+    (has-counted (c .before .before .before), room-entries (s .args .is-assert) (family s) (c .before .before .entry-size .ensures .0) (some (c .before .before)) (c .before .if1 .left))
 
 returns-2 : tie.Need-returns-2
 unfolding answered
 returns-2 c =
     let s = c .before .before .before .before .before .before in
     let a = s .args in
-    both (read-refused (a .is-assert) (family s) (now (a .m)) (now (a .d)) (headed-refuses (now (a .m)) (c .before .h .given .1) (c .before .before .before .header .ensures)))
+    both (read-refused (a .is-assert) (family s) (a .path) (now (a .m)) (now (a .d)) (headed-refuses (family s) (a .path) (now (a .m)) (c .before .h .given .1) (c .before .before .before .header .ensures)))
 
 returns-3 : tie.Need-returns-3
 unfolding answered
 returns-3 c =
     let s = c .before .before .before .before .before .before .before .before .before .before in
     let a = s .args in
-    both (read-bad (a .is-assert) (family s) (now (a .m)) (now (a .d)) (is-kind (c .before .before .before .before)) (counted-bad (bodyFor (a .is-assert) (family s) (c .before .before .before .before .before .h2 .given .0 .0) (now (a .m)) 4) (c .before .c .given .1) (c .before .before .before .count .ensures)))
+    both (read-bad (a .is-assert) (family s) (a .path) (now (a .m)) (now (a .d)) (is-kind (c .before .before .before .before)) (counted-bad (bodyFor (a .is-assert) (family s) (c .before .before .before .before .before .h2 .given .0 .0) (now (a .m)) 4) (c .before .c .given .1) (c .before .before .before .count .ensures)))
 
 returns-4 : tie.Need-returns-4
 unfolding answered
 returns-4 c =
-    let s = c .before .before .before .before .before .before .before .before .before .before .before .before .before .before .before .before .before in
+    let s = c .before .before .before .before .before .before .before .before .before .before .before .before .before .before .before .before in
     let a = s .args in
-    let k = size (c .before .before .before .before .before) in
-    let r = both (read-all (a .is-assert) (family s) (now (a .m)) (now (a .d)) (is-kind (c .before .before .before .before .before .before .before .before .before .before .before)) (has-counted (c .before .before .before .before .before .before .before)) (room-all (a .is-assert) (family s) (k .0) (k .1) (c .before .before .before .before .if1 .left))) in
+    let r = both (read-all (a .is-assert) (family s) (a .path) (now (a .m)) (now (a .d)) (is-kind (c .before .before .before .before .before .before .before .before .before .before)) (has-counted (c .before .before .before .before .before .before)) (room-all (a .is-assert) (family s) (c .before .before .before .before .before .entry-size .ensures .0) (some (c .before .before .before .before .before)) (c .before .before .before .before .if1 .left))) in
     (r .0, c .before .before .copy-entries .ensures ∙ r .1)
 
 pub read-of-spec : {M : Type 1} → statement M
@@ -84,9 +79,6 @@ read-of-spec =
     (λ c. search needs)
     (λ c. search needs)
     (λ c κs. search needs)
-    (λ c. search needs)
-    (λ c κs. search needs)
-    (λ c. search needs)
     (λ c. search needs)
     returns
     copy-entries-requires
