@@ -1,6 +1,7 @@
 -- Entries by the kind of message, over the family.
 --     byKind                     a table over the kinds
 --     isAssert, isStop           the kinds with asserts, and the one whose source may always be 0
+--     fieldsSize                 the octets of an entry past its front
 --     entriesBy, zeroBy          entries by both: what they are, and whether the source of one may be 0
 --     entriesFor                 the entries of a kind
 --     numbered                   what the first bad one comes to, by its number
@@ -35,6 +36,10 @@ isAssert = byKind true true true true false false
 abbrev pub isStop : Kind → Bool
 isStop = byKind false false false false false true
 
+-- group and source, and R with preference and metric of an assert
+abbrev pub fieldsSize : Family → Bool → ℕ
+fieldsSize f asserts = 2 * f .width + cond asserts 8 0
+
 abbrev pub entriesBy : Family → Bool → Bool → Entries
 entriesBy f true stop = assertEntries f
 entriesBy f false stop = pairEntries f stop
@@ -42,10 +47,10 @@ entriesBy f false stop = pairEntries f stop
 abbrev pub entriesFor : Bool → Kind → Entries
 entriesFor ipv6 k = entriesBy (familyOf ipv6) (isAssert k) (isStop k)
 
--- of an assert by its R bit, past its group and its source
+-- of an assert by its R bit, past its group and its source; from the place of its group on
 unfoldable pub zeroBy : Family → Bool → Bool → List ℕ → ℕ → Bool
-zeroBy f true stop o at = rBit (numberAt 4 o (at + 2 * f .width))
-zeroBy f false stop o at = stop
+zeroBy f true stop o group = rBit (numberAt 4 o (group + 2 * f .width))
+zeroBy f false stop o group = stop
 
 -- what is found by the number of the first of n entries that is not allowed, or n
 unfoldable pub numbered : ℕ → ℕ → Outcome (Unit {0})

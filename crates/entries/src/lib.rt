@@ -1,6 +1,7 @@
 // Entries by the kind of message that is made of them: their size, which are allowed, and the first that is not. Octets
 // past the last whole entry are not looked at.
 use addresses::begins_source;
+use addresses::front_size;
 use addresses::is_multicast;
 use addresses::may_be_source;
 use addresses::width;
@@ -12,9 +13,9 @@ ghost use mathlib.Core.Bool.{Bool, true, false};
 ghost use Prim.Native.Nat.{_+_, _*_, _/_, _<_, _≤_};
 ghost use lib.ListN.{length};
 ghost use Rattle.format.specs.Family.{familyOf};
-ghost use Rattle.format.specs.Entry.{AllAllowed};
+ghost use Rattle.format.specs.Entry.{frontSize, hasFront, AllAllowed};
 ghost use Rattle.format.specs.Packing.{firstBad};
-ghost use Rattle.entries.specs.Kinds.{isAssert, isStop, entriesBy, entriesFor, zeroBy, numbered, listedBy};
+ghost use Rattle.entries.specs.Kinds.{isAssert, isStop, fieldsSize, entriesBy, entriesFor, zeroBy, numbered, listedBy};
 
 // Whether the entries of a list are allowed.
 pub enum Listed {
@@ -50,11 +51,11 @@ fn is_stop(kind: Kind) -> bool
     }
 }
 
-// The octets of an entry: an assert has 8 more than a pair.
+// The octets of an entry: its front, group and source, and 8 more of an assert.
 fn size_by(ipv6: bool, asserts: bool) -> usize
     ensures { λ r. ⌜ ((stop : Bool) → r ≡ entriesBy (familyOf ipv6) asserts stop .size) ⌝ }
 {
-    let pair = 2 * width(ipv6);
+    let pair = front_size(ipv6) + 2 * width(ipv6);
     if asserts {
         return pair + 8;
     }
@@ -67,45 +68,64 @@ pub fn entry_size(ipv6: bool, kind: Kind) -> usize
     size_by(ipv6, is_assert(kind))
 }
 
-// Whether the source of an entry may be 0: of an assert by its R bit, of a pair by the kind.
-fn zero_allowed(ipv6: bool, asserts: bool, stop: bool, e: &[u8], at: usize) -> bool
-    requires { ⌜ at + entriesBy (familyOf ipv6) asserts stop .size ≤ length (now e) ⌝ }
-    ensures { λ r. ⌜ r ≡ zeroBy (familyOf ipv6) asserts stop (now (e .entry)) at ⌝ }
+// Whether the front of its family stands at the place of an entry. It is looked at as one number: octet by octet took half as long again.
+fn has_front(ipv6: bool, e: &[u8], at: usize) -> bool
+    requires { ⌜ at + frontSize (familyOf ipv6) ≤ length (now e) ⌝ }
+    ensures { λ r. ⌜ r ≡ hasFront (familyOf ipv6) (now (e .entry)) at ⌝ }
+{
+    if ipv6 {
+        return number32(&e[at..at + 4], 0) == 0x0200_0000;
+    }
+    true
+}
+
+// Whether the source of the entry whose group stands at a place may be 0: of an assert by its R bit, of a pair by the kind.
+fn zero_allowed(ipv6: bool, asserts: bool, stop: bool, e: &[u8], group: usize) -> bool
+    requires { ⌜ group + fieldsSize (familyOf ipv6) asserts ≤ length (now e) ⌝ }
+    ensures { λ r. ⌜ r ≡ zeroBy (familyOf ipv6) asserts stop (now (e .entry)) group ⌝ }
 {
     if asserts {
-        let word = at + 2 * width(ipv6);
+        let word = group + 2 * width(ipv6);
         return r_bit(number32(&e[word..word + 4], 0));
     }
     stop
 }
 
-// Whether an entry is allowed: by its group, and by its source.
+// Whether an entry is allowed: by its front, its group and its source.
 fn allowed(ipv6: bool, asserts: bool, stop: bool, e: &[u8], at: usize) -> bool
     requires { ⌜ at + entriesBy (familyOf ipv6) asserts stop .size ≤ length (now e) ⌝ }
     ensures { λ r. ⌜ r ≡ entriesBy (familyOf ipv6) asserts stop .allowedAt (now (e .entry)) at ⌝ }
 {
-    if !is_multicast(ipv6, e[at]) {
+    if !has_front(ipv6, e, at) {
+        return false;
+    }
+    let group = at + front_size(ipv6);
+    if !is_multicast(ipv6, e[group]) {
         return false;
     }
     let w = width(ipv6);
     may_be_source(
         ipv6,
-        &e[at + w..at + 2 * w],
+        &e[group + w..group + 2 * w],
         0,
-        zero_allowed(ipv6, asserts, stop, e, at),
+        zero_allowed(ipv6, asserts, stop, e, group),
     )
 }
 
-// Whether an entry is allowed by the first octets of its group and of its source alone, as nearly all are. Of one that is not passed so nothing is
-// said.
+// Whether an entry is allowed by its front and the first octets of its group and of its source alone, as nearly all are. Of one that is not passed so
+// nothing is said.
 fn begins(ipv6: bool, e: &[u8], at: usize) -> bool
-    requires { ⌜ at + 2 * familyOf ipv6 .width ≤ length (now e) ⌝ }
+    requires { ⌜ at + frontSize (familyOf ipv6) + 2 * familyOf ipv6 .width ≤ length (now e) ⌝ }
     ensures { λ r. ⌜ ((asserts stop : Bool) → r ≡ true → entriesBy (familyOf ipv6) asserts stop .allowedAt (now (e .entry)) at ≡ true) ⌝ }
 {
-    if !is_multicast(ipv6, e[at]) {
+    if !has_front(ipv6, e, at) {
         return false;
     }
-    begins_source(ipv6, e[at + width(ipv6)])
+    let group = at + front_size(ipv6);
+    if !is_multicast(ipv6, e[group]) {
+        return false;
+    }
+    begins_source(ipv6, e[group + width(ipv6)])
 }
 
 // The same of four entries.

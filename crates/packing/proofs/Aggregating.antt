@@ -31,7 +31,7 @@ use Rattle.format.specs.Record.{each, reserved2, groupRecordOctets, aggregatedO
 use Rattle.format.specs.Entry.{Entries, assertAt, assertEntries, entriesAt}
 use Rattle.format.proofs.Lengths.{length-group, length-source, length-each, length-groupRecords}
 use Rattle.format.proofs.Entries.{length-entriesAt}
-use Rattle.packing.specs.Joins.{asserts, entrySize, Aggregated, Group}
+use Rattle.packing.specs.Joins.{asserts, entryAt, groupAt, entrySize, Aggregated, Group}
 use Rattle.packing.specs.Aggregates.{octetsOf, sources, recordsIn, recordsOf, oneOf, allOf, numberOf, addressSize, addressOctets, groupHead, zeroSource, apart, few}
 use Rattle.packing.proofs.Joins.{leading-le}
 
@@ -99,9 +99,9 @@ pub all-zero : (f : Family) (o : List ℕ) (k n at : ℕ) → k ≤ n → allZer
 unfolding allZero leading entriesAt
 all-zero f o zero n at h = sym (le-leb 0 (leading zeroSource (asserts f o at n)) (omega arith))
 all-zero f o (suc k) zero at h = absurd (omega arith)
-all-zero f o (suc k) (suc n) at h = go (zeroSource (assertAt f o at)) refl (all-zero f o k n (at + entrySize f) (omega arith))
+all-zero f o (suc k) (suc n) at h = go (zeroSource (entryAt f o at)) refl (all-zero f o k n (at + entrySize f) (omega arith))
   where
-    go : (b : Bool) → zeroSource (assertAt f o at) ≡ b → allZero (sources (asserts f o (at + entrySize f) k)) ≡ leb k (leading zeroSource (asserts f o (at + entrySize f) n))
+    go : (b : Bool) → zeroSource (entryAt f o at) ≡ b → allZero (sources (asserts f o (at + entrySize f) k)) ≡ leb k (leading zeroSource (asserts f o (at + entrySize f) n))
         → allZero (sources (asserts f o at (suc k))) ≡ leb (suc k) (leading zeroSource (asserts f o at (suc n)))
     go true t ih = rw t (ih ∙ sym (leb-suc k _))
     go false t ih = rw t (sym (lt-leb (suc k) 0 (omega arith)))
@@ -161,77 +161,77 @@ again-is f g o (suc k) at = ap (λ x. groupRecordOctets f (ofGroup g []) ++ x) (
 module _ (f : Family) (o : List ℕ) (at : ℕ) where
   -- ---- group records
 
-  pub records-apart : (k : ℕ) → apart f (asserts f o at k) ≡ true → recordsIn f Group (asserts f o at k) ≡ replicate k (ofGroup (numberAt (f .width) o at) [])
+  pub records-apart : (k : ℕ) → apart f (asserts f o at k) ≡ true → recordsIn f Group (asserts f o at k) ≡ replicate k (ofGroup (numberAt (f .width) o (groupAt f at)) [])
   unfolding recordsIn entriesAt apart groupRecords assertAt
   records-apart zero e = refl
   records-apart (suc m) e =
-      rw e (ap (λ n. replicate (suc n) (ofGroup (numberAt (f .width) o at) [])) (sources-long f o (at + entrySize f) m))
+      rw e (ap (λ n. replicate (suc n) (ofGroup (numberAt (f .width) o (groupAt f at)) [])) (sources-long f o (at + entrySize f) m))
 
-  pub records-whole : (k : ℕ) → 0 < k → apart f (asserts f o at k) ≡ false → recordsIn f Group (asserts f o at k) ≡ ofGroup (numberAt (f .width) o at) (sources (asserts f o at k)) ∷ []
+  pub records-whole : (k : ℕ) → 0 < k → apart f (asserts f o at k) ≡ false → recordsIn f Group (asserts f o at k) ≡ ofGroup (numberAt (f .width) o (groupAt f at)) (sources (asserts f o at k)) ∷ []
   unfolding recordsIn entriesAt apart groupRecords assertAt
   records-whole zero h e = absurd (omega arith)
   records-whole (suc m) h e = rw e
 
-  pub apart-octets : (k : ℕ) → apart f (asserts f o at k) ≡ true → oneOf f Group (asserts f o at k) ≡ each (groupRecordOctets f) (replicate k (ofGroup (numberAt (f .width) o at) []))
+  pub apart-octets : (k : ℕ) → apart f (asserts f o at k) ≡ true → oneOf f Group (asserts f o at k) ≡ each (groupRecordOctets f) (replicate k (ofGroup (numberAt (f .width) o (groupAt f at)) []))
   unfolding oneOf octetsOf
   apart-octets k e = rw (records-apart k e)
 
   pub apart-long : (k : ℕ) → apart f (asserts f o at k) ≡ true → length (oneOf f Group (asserts f o at k)) ≡ (f .width + 8) * k
   apart-long k e =
-      let g = numberAt (f .width) o at in
+      let g = numberAt (f .width) o (groupAt f at) in
       ap length (apart-octets k e ∙ sym (again-is f g o k 0))
       ∙ length-each (λ e. groupRecordOctets f (ofGroup g [])) (f .width + 8) (λ e. none-sized f g) (entriesAt (again f) o 0 k)
       ∙ ap (λ n. (f .width + 8) * n) (length-entriesAt (again f) o 0 k)
 
   pub whole-is : (k : ℕ) → 0 < k → apart f (asserts f o at k) ≡ false
-      → oneOf f Group (asserts f o at k) ≡ groupHead f (numberAt (f .width) o at) k ++ each (addressOctets f true) (asserts f o at k)
+      → oneOf f Group (asserts f o at k) ≡ groupHead f (numberAt (f .width) o (groupAt f at)) k ++ each (addressOctets f true) (asserts f o at k)
   unfolding oneOf octetsOf
   whole-is k h e =
       rw (records-whole k h e)
-      (each-one (groupRecordOctets f) _ ∙ group-octets f (numberAt (f .width) o at) (sources (asserts f o at k))
+      (each-one (groupRecordOctets f) _ ∙ group-octets f (numberAt (f .width) o (groupAt f at)) (sources (asserts f o at k))
       ∙ rw (length-map, length-entriesAt (assertEntries f) o at k, each-sources f (asserts f o at k)))
 
   pub whole-long : (k : ℕ) → 0 < k → apart f (asserts f o at k) ≡ false → length (oneOf f Group (asserts f o at k)) ≡ f .width + 8 + (f .width + 2) * k
   whole-long k h e =
-      ap length (whole-is k h e) ∙ length-append (groupHead f (numberAt (f .width) o at) k) _ ∙ omega (arith, head-long f (numberAt (f .width) o at) k, addresses-long f true o at k)
+      ap length (whole-is k h e) ∙ length-append (groupHead f (numberAt (f .width) o (groupAt f at)) k) _ ∙ omega (arith, head-long f (numberAt (f .width) o (groupAt f at)) k, addresses-long f true o at k)
 
   pub group-long : (k : ℕ) → 0 < k → length (oneOf f Group (asserts f o at k)) ≡ groupRunSize (f .width) (allZero (sources (asserts f o at k))) k
   unfolding oneOf octetsOf recordsIn entriesAt
   group-long zero h = absurd (omega arith)
   group-long (suc m) h =
-      length-groupRecords f (groupRecords (f .width) (assertAt f o at .group) (sources (asserts f o at (suc m))))
-      ∙ group-size (f .width) (assertAt f o at .group) (sources (asserts f o at (suc m)))
+      length-groupRecords f (groupRecords (f .width) (entryAt f o at .group) (sources (asserts f o at (suc m))))
+      ∙ group-size (f .width) (entryAt f o at .group) (sources (asserts f o at (suc m)))
       ∙ ap (λ n. groupRunSize (f .width) (allZero (sources (asserts f o at (suc m)))) (suc n)) (sources-long f o (at + entrySize f) m)
 
   -- ---- aggregated records
 
   abbrev metric : List ℕ
-  metric = be 4 (numberAt 4 o (at + 2 * f .width)) ++ be 4 (numberAt 4 o (at + 2 * f .width + 4))
+  metric = be 4 (numberAt 4 o (groupAt f at + 2 * f .width)) ++ be 4 (numberAt 4 o (groupAt f at + 2 * f .width + 4))
 
-  pub source-is : (k : ℕ) → 0 < k → rBit (numberAt 4 o (at + 2 * f .width)) ≡ false
-      → oneOf f Aggregated (asserts f o at k) ≡ metric ++ (sourceOctets f (numberAt (f .width) o (at + f .width)) ++ ((be 2 k ++ reserved2) ++ each (addressOctets f false) (asserts f o at k)))
+  pub source-is : (k : ℕ) → 0 < k → rBit (numberAt 4 o (groupAt f at + 2 * f .width)) ≡ false
+      → oneOf f Aggregated (asserts f o at k) ≡ metric ++ (sourceOctets f (numberAt (f .width) o (groupAt f at + f .width)) ++ ((be 2 k ++ reserved2) ++ each (addressOctets f false) (asserts f o at k)))
   unfolding oneOf octetsOf recordsIn aggregatedOctets entriesAt assertAt
   source-is zero h r = absurd (omega arith)
   source-is (suc m) h r =
       each-one (aggregatedOctets f) _
-      ∙ rw (aggregated-source (f .width) (assertAt f o at) (asserts f o (at + entrySize f) m) r, length-map, each-groups f (asserts f o at (suc m)), length-entriesAt (assertEntries f) o (at + entrySize f) m)
-      (counted (be 4 (numberAt 4 o (at + 2 * f .width))) _ (sourceOctets f (numberAt (f .width) o (at + f .width))) (be 2 (suc m)) _)
+      ∙ rw (aggregated-source (f .width) (entryAt f o at) (asserts f o (at + entrySize f) m) r, length-map, each-groups f (asserts f o at (suc m)), length-entriesAt (assertEntries f) o (at + entrySize f) m)
+      (counted (be 4 (numberAt 4 o (groupAt f at + 2 * f .width))) _ (sourceOctets f (numberAt (f .width) o (groupAt f at + f .width))) (be 2 (suc m)) _)
 
-  pub source-long : (k : ℕ) → 0 < k → rBit (numberAt 4 o (at + 2 * f .width)) ≡ false → length (oneOf f Aggregated (asserts f o at k)) ≡ 14 + f .width + (f .width + 4) * k
+  pub source-long : (k : ℕ) → 0 < k → rBit (numberAt 4 o (groupAt f at + 2 * f .width)) ≡ false → length (oneOf f Aggregated (asserts f o at k)) ≡ 14 + f .width + (f .width + 4) * k
   source-long k h r =
       rw (source-is k h r)
       (simp (length-append, length-source, length-be, addresses-long) (omega arith))
 
-  pub rp-is : (k : ℕ) → 0 < k → rBit (numberAt 4 o (at + 2 * f .width)) ≡ true
+  pub rp-is : (k : ℕ) → 0 < k → rBit (numberAt 4 o (groupAt f at + 2 * f .width)) ≡ true
       → oneOf f Aggregated (asserts f o at k) ≡ (metric ++ (be 2 (numberOf f Group (asserts f o at k)) ++ reserved2)) ++ allOf f Group (asserts f o at k)
   unfolding oneOf allOf numberOf octetsOf recordsIn recordsOf aggregatedOctets entriesAt assertAt
   rp-is zero h r = absurd (omega arith)
   rp-is (suc m) h r =
       each-one (aggregatedOctets f) _
-      ∙ rw (aggregated-rp (f .width) (assertAt f o at) (asserts f o (at + entrySize f) m) r)
-      (grouped (be 4 (numberAt 4 o (at + 2 * f .width))) _ (be 2 (numberOf f Group (asserts f o at (suc m)))) _)
+      ∙ rw (aggregated-rp (f .width) (entryAt f o at) (asserts f o (at + entrySize f) m) r)
+      (grouped (be 4 (numberAt 4 o (groupAt f at + 2 * f .width))) _ (be 2 (numberOf f Group (asserts f o at (suc m)))) _)
 
-  pub rp-long : (k : ℕ) → 0 < k → rBit (numberAt 4 o (at + 2 * f .width)) ≡ true → length (oneOf f Aggregated (asserts f o at k)) ≡ 12 + length (allOf f Group (asserts f o at k))
+  pub rp-long : (k : ℕ) → 0 < k → rBit (numberAt 4 o (groupAt f at + 2 * f .width)) ≡ true → length (oneOf f Aggregated (asserts f o at k)) ≡ 12 + length (allOf f Group (asserts f o at k))
   rp-long k h r =
       rw (rp-is k h r)
       (simp (length-append, length-be) (omega arith))

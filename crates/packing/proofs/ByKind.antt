@@ -1,6 +1,6 @@
 -- What holds of every kind, and of those whose records have one length.
 --     record-long, record-short, record-is     the record of an assert entry, and of a pair, as code writes it
---     by-sized, record-sized         a record is 6 octets longer than its entry
+--     by-sized, record-sized, record-range     a record is 6 octets longer than its entry without the front
 --     kind-is, most-is               a form is of its kind, and takes no more than there is
 --     front-long, front-short, head-range, limit-head     what comes before the records, with Zero and Reserved or without
 --     packed-is, hello-never         the five kinds that are packed, and the one that is not
@@ -22,19 +22,21 @@ use Rattle.format.specs.Record.{each, assertOctets, pairOctets}
 use Rattle.format.specs.declared.Kind.{Kind}
 use Rattle.format.specs.declared.Kind.the-variants.{Hello, Assert, Simple, Aggregated, NullRegister, RegisterStop}
 use Rattle.format.proofs.Lengths.{length-assert, length-pair}
-use Rattle.entries.specs.Kinds.{isAssert, isStop, entriesBy, entriesFor}
+use Rattle.entries.specs.Kinds.{isAssert, isStop, fieldsSize, entriesBy, entriesFor}
+use Rattle.packing.specs.Joins.{groupAt}
 use Rattle.packing.specs.Kinds.{formFor, recordSize, recordBy, recordOctets, recordAt, isAggregated, recordsFor, takesOne, frontOf, headSize, isPacked, Packs}
 
 -- ---- records
 
 -- an assert record goes on past the pair of its group and source
 pub record-long : (f : Family) (asserts : Bool) (o : List ℕ) (at : ℕ) → asserts ≡ true
-    → recordAt f asserts o at ≡ pairOctets f (pairAt f o at) ++ (be 4 (numberAt 4 o (at + 2 * f .width)) ++ be 4 (numberAt 4 o (at + 2 * f .width + 4)))
+    → recordAt f asserts o at
+    ≡ pairOctets f (pairAt f o (groupAt f at)) ++ (be 4 (numberAt 4 o (groupAt f at + 2 * f .width)) ++ be 4 (numberAt 4 o (groupAt f at + 2 * f .width + 4)))
 unfolding recordAt assertOctets pairOctets assertAt pairAt
 record-long f true o at h = rw append-assoc
 record-long f false o at h = cc
 
-pub record-short : (f : Family) (asserts : Bool) (o : List ℕ) (at : ℕ) → asserts ≡ false → recordAt f asserts o at ≡ pairOctets f (pairAt f o at)
+pub record-short : (f : Family) (asserts : Bool) (o : List ℕ) (at : ℕ) → asserts ≡ false → recordAt f asserts o at ≡ pairOctets f (pairAt f o (groupAt f at))
 unfolding recordAt
 record-short f true o at h = cc
 record-short f false o at h = refl
@@ -44,13 +46,21 @@ unfolding recordAt recordBy
 record-is f true stop o at = refl
 record-is f false stop o at = refl
 
-pub by-sized : (f : Family) (asserts stop : Bool) (e : entriesBy f asserts stop .Entry) → length (recordBy f asserts stop e) ≡ entriesBy f asserts stop .size + 6
+pub by-sized : (f : Family) (asserts stop : Bool) (e : entriesBy f asserts stop .Entry) → length (recordBy f asserts stop e) ≡ fieldsSize f asserts + 6
 unfolding recordBy
 by-sized f true stop e = length-assert f e ∙ omega arith
 by-sized f false stop e = length-pair f e ∙ omega arith
 
 pub record-sized : (ipv6 : Bool) (k : Kind) (e : entriesFor ipv6 k .Entry) → length (recordOctets ipv6 k e) ≡ recordSize ipv6 k
 record-sized ipv6 k e = by-sized (familyOf ipv6) (isAssert k) (isStop k) e
+
+-- it has octets, and one fits past any head into the least limit
+pub record-range : (ipv6 : Bool) (k : Kind) → (0 < recordSize ipv6 k) × (recordSize ipv6 k ≤ 2 * familyOf ipv6 .width + 14)
+record-range ipv6 k = go (isAssert k)
+  where
+    go : (asserts : Bool) → (0 < fieldsSize (familyOf ipv6) asserts + 6) × (fieldsSize (familyOf ipv6) asserts + 6 ≤ 2 * familyOf ipv6 .width + 14)
+    go true = (omega arith, omega arith)
+    go false = (omega arith, omega arith)
 
 -- ---- forms
 

@@ -26,7 +26,7 @@ use Rattle.format.specs.Record.{each}
 use Rattle.format.specs.Entry.{assertAt, assertEntries, entriesAt}
 use Rattle.format.proofs.Entries.{length-entriesAt, take-entries, drop-at}
 use Rattle.addresses.proofs.Laws.{halves}
-use Rattle.packing.specs.Joins.{asserts, entrySize, joins, runLength, Run, Aggregated, Group}
+use Rattle.packing.specs.Joins.{asserts, entryAt, groupAt, entrySize, joins, runLength, Run, Aggregated, Group}
 use Rattle.packing.specs.Aggregates.{recordsIn, recordsOf, allOf}
 
 -- ---- where a run ends
@@ -34,18 +34,18 @@ use Rattle.packing.specs.Aggregates.{recordsIn, recordsOf, allOf}
 module _ (f : Family) (o : List ℕ) (a b : ℕ) where
   abbrev same-metric : Bool
   same-metric =
-      eqb (numberAt 4 o (a + 2 * f .width)) (numberAt 4 o (b + 2 * f .width)) && eqb (numberAt 4 o (a + 2 * f .width + 4)) (numberAt 4 o (b + 2 * f .width + 4))
+      eqb (numberAt 4 o (groupAt f a + 2 * f .width)) (numberAt 4 o (groupAt f b + 2 * f .width)) && eqb (numberAt 4 o (groupAt f a + 2 * f .width + 4)) (numberAt 4 o (groupAt f b + 2 * f .width + 4))
 
-  pub source-joins : rBit (numberAt 4 o (a + 2 * f .width)) ≡ false
-      → joins Aggregated (assertAt f o a) (assertAt f o b) ≡ (same-metric && eqb (numberAt (f .width) o (a + f .width)) (numberAt (f .width) o (b + f .width)))
+  pub source-joins : rBit (numberAt 4 o (groupAt f a + 2 * f .width)) ≡ false
+      → joins Aggregated (entryAt f o a) (entryAt f o b) ≡ (same-metric && eqb (numberAt (f .width) o (groupAt f a + f .width)) (numberAt (f .width) o (groupAt f b + f .width)))
   unfolding joins together assertAt
   source-joins r = rw r
 
-  pub rp-joins : rBit (numberAt 4 o (a + 2 * f .width)) ≡ true → joins Aggregated (assertAt f o a) (assertAt f o b) ≡ same-metric
+  pub rp-joins : rBit (numberAt 4 o (groupAt f a + 2 * f .width)) ≡ true → joins Aggregated (entryAt f o a) (entryAt f o b) ≡ same-metric
   unfolding joins together assertAt
   rp-joins r = rw (r, and-true)
 
-  pub group-joins : joins Group (assertAt f o a) (assertAt f o b) ≡ eqb (numberAt (f .width) o a) (numberAt (f .width) o b)
+  pub group-joins : joins Group (entryAt f o a) (entryAt f o b) ≡ eqb (numberAt (f .width) o (groupAt f a)) (numberAt (f .width) o (groupAt f b))
   unfolding joins sameGroup assertAt
   group-joins = refl
 
@@ -74,7 +74,7 @@ pub record Counting (f : Family) (test : AssertRecord → Bool) (o : List ℕ) (
 
 -- a run: of its first entry it is known that it is in it
 pub count-run : (f : Family) (r : Run) (o : List ℕ) (from n : ℕ) → 0 < n → from + entrySize f * n ≤ length o
-    → Counting f (joins r (assertAt f o from)) o n (runLength f r o from n) 1 (from + entrySize f)
+    → Counting f (joins r (entryAt f o from)) o n (runLength f r o from n) 1 (from + entrySize f)
 unfolding runLength
 count-run f r o from zero h there = absurd (omega arith)
 count-run f r o from (suc m) h there =
@@ -89,7 +89,7 @@ module _ {f : Family} {test : AssertRecord → Bool} {o : List ℕ} {n all k at 
   module _ (h : k < n) where
     -- there is an entry to look at
     one-left : (X : Type 0) → ((left : ℕ) → k + suc left ≡ n → at + entrySize f + entrySize f * left ≤ length o
-        → k + leading test (assertAt f o at ∷ asserts f o (at + entrySize f) left) ≡ all → X) → X
+        → k + leading test (entryAt f o at ∷ asserts f o (at + entrySize f) left) ≡ all → X) → X
     unfolding entriesAt
     one-left X then = go (t .left) (t .count) (t .there) (t .same)
       where
@@ -100,11 +100,11 @@ module _ {f : Family} {test : AssertRecord → Bool} {o : List ℕ} {n all k at 
     pub count-there : at + entrySize f ≤ length o
     count-there = one-left _ (λ left e a s. omega arith)
 
-    pub count-stop : test (assertAt f o at) ≡ false → k ≡ all
+    pub count-stop : test (entryAt f o at) ≡ false → k ≡ all
     unfolding leading
     count-stop q = one-left _ (λ left e a s. let s′ = rw q at s in omega arith)
 
-    pub count-next : (at′ : ℕ) → test (assertAt f o at) ≡ true → at′ ≡ at + entrySize f → Counting f test o n all (k + 1) at′
+    pub count-next : (at′ : ℕ) → test (entryAt f o at) ≡ true → at′ ≡ at + entrySize f → Counting f test o n all (k + 1) at′
     unfolding leading
     count-next at′ q p = rw p (one-left _ (λ left e a s. let s′ = rw q at s in record { left = left; count = omega arith; there = a; same = omega arith }))
 
@@ -137,31 +137,31 @@ module _ (f : Family) (r : Run) (o : List ℕ) where
   pub run-range : (at n : ℕ) → 0 < n → (0 < runLength f r o at n) × (runLength f r o at n ≤ n)
   unfolding runLength
   run-range at n h =
-      let few = leading-le (joins r (assertAt f o at)) (asserts f o (at + entrySize f) (n - 1)) in
+      let few = leading-le (joins r (entryAt f o at)) (asserts f o (at + entrySize f) (n - 1)) in
       let long : length (asserts f o (at + entrySize f) (n - 1)) ≡ n - 1 = length-entriesAt (assertEntries f) o (at + entrySize f) (n - 1) in
       (omega arith, omega arith)
 
   -- the entries after the first that are in its run
   abbrev more : ℕ → ℕ → ℕ
-  more at m = leading (joins r (assertAt f o at)) (asserts f o (at + entrySize f) m)
+  more at m = leading (joins r (entryAt f o at)) (asserts f o (at + entrySize f) m)
 
   -- the runs of entries, by their first
   runs-at : (at m : ℕ) → runs (joins r) (asserts f o at (suc m))
-      ≡ run (assertAt f o at) (asserts f o (at + entrySize f) (more at m)) ∷ runs (joins r) (asserts f o (at + entrySize f * suc (more at m)) (m - more at m))
+      ≡ run (entryAt f o at) (asserts f o (at + entrySize f) (more at m)) ∷ runs (joins r) (asserts f o (at + entrySize f * suc (more at m)) (m - more at m))
   unfolding entriesAt
   runs-at at m = go (more at m) refl
     where
       go : (k : ℕ) → more at m ≡ k
-          → runs (joins r) (assertAt f o at ∷ asserts f o (at + entrySize f) m)
-          ≡ run (assertAt f o at) (asserts f o (at + entrySize f) k) ∷ runs (joins r) (asserts f o (at + entrySize f * suc k) (m - k))
+          → runs (joins r) (entryAt f o at ∷ asserts f o (at + entrySize f) m)
+          ≡ run (entryAt f o at) (asserts f o (at + entrySize f) k) ∷ runs (joins r) (asserts f o (at + entrySize f * suc k) (m - k))
       go k e =
-          let few : k ≤ m = omega (arith, e, leading-le (joins r (assertAt f o at)) (asserts f o (at + entrySize f) m), length-entriesAt (assertEntries f) o (at + entrySize f) m) in
+          let few : k ≤ m = omega (arith, e, leading-le (joins r (entryAt f o at)) (asserts f o (at + entrySize f) m), length-entriesAt (assertEntries f) o (at + entrySize f) m) in
           let split : m ≡ k + (m - k) = omega arith in
           let place : at + entrySize f + entrySize f * k ≡ at + entrySize f * suc k = omega (arith, mul-suc (entrySize f) k) in
           let front : take k (asserts f o (at + entrySize f) m) ≡ asserts f o (at + entrySize f) k = take-entries (assertEntries f) o k m (at + entrySize f) few in
           let back : drop k (asserts f o (at + entrySize f) m) ≡ asserts f o (at + entrySize f * suc k) (m - k) =
           ap (λ x. drop k (asserts f o (at + entrySize f) x)) split ∙ drop-at (assertEntries f) o k (m - k) (at + entrySize f) ∙ ap (λ x. asserts f o x (m - k)) place in
-          rw (runs-first (joins r) (joins-cong r) (assertAt f o at) (asserts f o (at + entrySize f) m), e, front, back)
+          rw (runs-first (joins r) (joins-cong r) (entryAt f o at) (asserts f o (at + entrySize f) m), e, front, back)
 
   length-at : (at m : ℕ) → runLength f r o at (suc m) ≡ suc (more at m)
   unfolding runLength

@@ -28,11 +28,11 @@ use Rattle.records.specs.Sizes.{groupRunSize, groupRecordsSize}
 use Rattle.records.proofs.Runs.{total, Parts}
 use Rattle.records.proofs.Least.{groupCost, groupsCost, group-size, groups-parts, joined-parts}
 use Rattle.format.specs.Family.{Family, familyOf}
-use Rattle.format.specs.Entry.{assertAt, assertEntries, entriesAt}
+use Rattle.format.specs.Entry.{assertEntries, entriesAt}
 use Rattle.format.specs.Record.{each, groupRecordOctets}
 use Rattle.format.proofs.Lengths.{each-append, length-groupRecords, length-all}
 use Rattle.format.proofs.Entries.{length-entriesAt, take-entries, drop-at}
-use Rattle.packing.specs.Joins.{asserts, entrySize, joins, runLength, Run, Aggregated, Group}
+use Rattle.packing.specs.Joins.{asserts, entryAt, groupAt, entrySize, joins, runLength, Run, Aggregated, Group}
 use Rattle.packing.specs.Aggregates.{octetsOf, sources, recordsIn, recordsOf, oneOf, allOf, numberOf, zeroSource, few, MostWithin}
 use Rattle.packing.proofs.Joins.{leading-le, run-range, records-first, records-none, all-none}
 use Rattle.packing.proofs.Aggregating.{all-zero, group-long, source-long, rp-long}
@@ -54,8 +54,8 @@ module _ (f : Family) (r : Run) (o : List ℕ) (at : ℕ) where
   unfolding runLength
   run-fewer m n some fewer =
       let front = take-entries (assertEntries f) o (m - 1) (n - 1) (at + entrySize f) (omega arith) in
-      let cut : leading (joins r (assertAt f o at)) (asserts f o (at + entrySize f) (m - 1)) ≡ min (m - 1) (leading (joins r (assertAt f o at)) (asserts f o (at + entrySize f) (n - 1))) =
-      rw (← front) (leading-take (joins r (assertAt f o at)) (m - 1) (asserts f o (at + entrySize f) (n - 1))) in
+      let cut : leading (joins r (entryAt f o at)) (asserts f o (at + entrySize f) (m - 1)) ≡ min (m - 1) (leading (joins r (entryAt f o at)) (asserts f o (at + entrySize f) (n - 1))) =
+      rw (← front) (leading-take (joins r (entryAt f o at)) (m - 1) (asserts f o (at + entrySize f) (n - 1))) in
       omega arith
 
   -- entries of one run are its records, whether they are taken for one run or looked at for runs
@@ -165,7 +165,7 @@ module _ (f : Family) (r : Run) (o : List ℕ) (at : ℕ) where
 
 module _ (f : Family) (o : List ℕ) (at : ℕ) where
   -- a source aggregated record
-  module _ (r : rBit (numberAt 4 o (at + 2 * f .width)) ≡ false) where
+  module _ (r : rBit (numberAt 4 o (groupAt f at + 2 * f .width)) ≡ false) where
     pub source-grows : (k m : ℕ) → 0 < k → k ≤ m → length (oneOf f Aggregated (asserts f o at k)) ≤ length (oneOf f Aggregated (asserts f o at m))
     source-grows k m some h = omega (arith, source-long f o at k some r, source-long f o at m (omega arith) r, mul-le-mul-left (f .width + 4) h)
 
@@ -363,7 +363,7 @@ groups-many f o (suc bound) at k h = go (decLe k 0) (groups-many f o bound)
           ih (at + entrySize f * first) (k - first) (omega (arith, range .0)),
         )
 
-module _ (f : Family) (o : List ℕ) (at : ℕ) (r : rBit (numberAt 4 o (at + 2 * f .width)) ≡ true) where
+module _ (f : Family) (o : List ℕ) (at : ℕ) (r : rBit (numberAt 4 o (groupAt f at + 2 * f .width)) ≡ true) where
   pub rp-least : 20 + f .width ≤ length (oneOf f Aggregated (asserts f o at 1))
   rp-least =
       let range = run-range f Group o at 1 (omega arith) in

@@ -14,8 +14,10 @@ use Rattle.format.specs.Outcome
 use Rattle.format.specs.Outcome.{Outcome, gives, refuses}
 use Rattle.format.specs.Entry.{Entries, entriesOf}
 use Rattle.format.specs.Family.{familyOf}
+use Rattle.format.specs.Header.{longest}
 use Rattle.format.specs.Packing.{leastLimit, Form, Due, due, asked, Packed, octetsOf, tookOf, pack, wrote, written, packDue, packing}
 use Rattle.format.specs.declared.Kind.{Kind}
+use Rattle.format.specs.declared.Path.{Path}
 use Rattle.format.specs.declared.Refusal.{Refusal}
 use Rattle.format.proofs.Outcomes.{no-refusal, gives-same}
 use Rattle.format.proofs.Calls.{limit-range, Asked, asked-gives, gives-asked}
@@ -39,17 +41,19 @@ limit-asked E o start limit room {a} {l} p q = go (asked E o start limit room) r
     go (gives (due m es)) e s = let same : m ≡ l = gives-same s in gives-asked E o start limit room l es (e ∙ rw same) .0
     go (refuses n i) e s = absurd (no-refusal s)
 
-pub call-refused : {E : Entries} (F : Form E) (o : List ℕ) (start limit : ℕ) (d : List ℕ) (n p : ℕ) → asked E o start limit (length d) ≡ refuses n p
-    → packing F o start limit d ≡ record { answer = refuses n p; buffer = d }
+pub call-refused : {E : Entries} (F : Form E) (path : Path) (o : List ℕ) (start limit : ℕ) (d : List ℕ) (n p : ℕ) → asked E o start limit (length d) ≡ refuses n p
+    → packing F path o start limit d ≡ record { answer = refuses n p; buffer = d }
 unfolding packing written Outcome._>>=_
-call-refused F o start limit d n p e = rw e
+call-refused F path o start limit d n p e = rw e
 
 -- the limit that was read
-pub asked-limit : (ipv6 : Bool) (k : Kind) (o : List ℕ) (start limit room l : ℕ) → Asked (entriesFor ipv6 k) o start limit room l → leastLimit (familyOf ipv6) ≤ l
-asked-limit ipv6 k o start limit room l h = limit-range (familyOf ipv6) limit l (rw (family-is ipv6 k) at (h .limitRead)) .0 (least-usual ipv6)
+pub asked-limit : (ipv6 : Bool) (k : Kind) (o : List ℕ) (start limit room l : ℕ) → Asked (entriesFor ipv6 k) o start limit room l → (leastLimit (familyOf ipv6) ≤ l) × (l ≤ longest)
+asked-limit ipv6 k o start limit room l h =
+    let range = limit-range (familyOf ipv6) limit l (rw (family-is ipv6 k) at (h .limitRead)) in
+    (range .0 (least-usual ipv6), range .1)
 
 -- a call that is not refused packs the entries from the start on
-pub call-packs : {E : Entries} (F : Form E) (o : List ℕ) (start limit l : ℕ) (d : List ℕ) (p : Packed) → Asked E o start limit (length d) l → p ≡ pack F l (drop start (entriesOf E o))
-    → packing F o start limit d ≡ record { answer = gives (wrote (length (octetsOf p)) (tookOf p)); buffer = put d 0 (octetsOf p) }
+pub call-packs : {E : Entries} (F : Form E) (path : Path) (o : List ℕ) (start limit l : ℕ) (d : List ℕ) (p : Packed) → Asked E o start limit (length d) l → p ≡ pack F path l (drop start (entriesOf E o))
+    → packing F path o start limit d ≡ record { answer = gives (wrote (length (octetsOf p)) (tookOf p)); buffer = put d 0 (octetsOf p) }
 unfolding packing packDue written Outcome._>>=_
-call-packs {E} F o start limit l d p h e = rw (asked-gives E o start limit (length d) l h, ← e)
+call-packs {E} F path o start limit l d p h e = rw (asked-gives E o start limit (length d) l h, ← e)

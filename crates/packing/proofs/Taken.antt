@@ -14,20 +14,20 @@ use Rattle.records.proofs.Least.{one-entry}
 use Rattle.records.proofs.Most.{most-unique, most-ge}
 use Rattle.format.specs.Outcome
 use Rattle.format.specs.Family.{Family, familyOf}
-use Rattle.format.specs.Entry.{assertAt, assertEntries, entriesAt}
-use Rattle.format.specs.Packing.{leastLimit, aggregated, canonical, taken, packed, pack}
+use Rattle.format.specs.Entry.{assertEntries, entriesAt}
+use Rattle.format.specs.Packing.{leastLimit, aggregated, canonical, sizeOf, taken, packed, pack}
 use Rattle.format.specs.declared.Kind.{Kind}
+use Rattle.format.specs.declared.Path.{Path}
 use Rattle.format.proofs.Lengths.{length-all}
-use Rattle.format.proofs.Trains.{length-canonical}
+use Rattle.format.proofs.Trains.{size-aggregated}
 use Rattle.format.proofs.MostThatFit.{Grows, aggregated-grows}
 use Rattle.format.proofs.Entries.{length-entriesAt, take-entries}
 use Rattle.format.proofs.Calls.{taken-most, taken-fits, pack-none, pack-some}
-use Rattle.packing.specs.Joins.{asserts, Aggregated as Joined}
+use Rattle.packing.specs.Joins.{asserts, entryAt, Aggregated as Joined}
 use Rattle.packing.specs.Aggregates.{octetsOf, recordsOf, allOf, MostWithin}
 use Rattle.packing.specs.Kinds.{formFor, recordSize, isAggregated, takesOne, headSize, Packs, fitting}
-use Rattle.packing.proofs.ByKind.{most-is, head-range, aggregated-is, most-one, most-all}
+use Rattle.packing.proofs.ByKind.{record-range, most-is, head-range, aggregated-is, most-one, most-all}
 use Rattle.packing.proofs.Fitting.{taken-fixed}
-use Rattle.entries.proofs.ByKind.{size-pair, size-range}
 use Rattle.entries.specs.Kinds.{entriesFor}
 use mathlib.Core.Bool.{Bool, true, false}
 use borrow.Author.Tests.{le-leb, lt-leb, leb-true}
@@ -36,18 +36,18 @@ use borrow.Author.Tests.{le-leb, lt-leb, leb-true}
 
 module _ (f : Family) (o : List ℕ) (from n limit : ℕ) where
   fits : ℕ → Bool
-  fits k = leb (length (canonical (aggregated f) (take k (asserts f o from n)))) limit
+  fits k = leb (sizeOf (aggregated f) (take k (asserts f o from n))) limit
 
   fewer : (k : ℕ) → fits (suc k) ≡ true → fits k ≡ true
   unfolding fits Grows
   fewer k e = le-leb _ limit (le-trans (aggregated-grows f (asserts f o from n) k (suc k) (omega arith)) (leb-true _ limit e))
 
   -- the message of the first k entries, by its records
-  prefix : (k : ℕ) → k ≤ n → length (canonical (aggregated f) (take k (asserts f o from n))) ≡ 8 + length (allOf f Joined (asserts f o from k))
+  prefix : (k : ℕ) → k ≤ n → sizeOf (aggregated f) (take k (asserts f o from n)) ≡ 8 + length (allOf f Joined (asserts f o from k))
   unfolding allOf recordsOf octetsOf
   prefix k h =
-      ap (λ es. length (canonical (aggregated f) es)) (take-entries (assertEntries f) o k n from h)
-      ∙ length-canonical f (asserts f o from k)
+      ap (sizeOf (aggregated f)) (take-entries (assertEntries f) o k n from h)
+      ∙ size-aggregated f (asserts f o from k)
       ∙ ap (λ m. 8 + m) (sym (length-all f (joined (f .width) (asserts f o from k))))
 
   -- they fit, and one more does not
@@ -64,15 +64,15 @@ module _ (f : Family) (o : List ℕ) (from n limit : ℕ) where
   taken-one some room =
       rw (length-entriesAt (assertEntries f) o from n)
       (most-ge fits n 1 (omega arith) (omega arith)
-      (le-leb _ limit (rw (take-entries (assertEntries f) o 1 n from (omega arith)) (omega (arith, length-canonical f (asserts f o from 1), one-entry (f .width) (assertAt f o from))))))
+      (le-leb _ limit (rw (take-entries (assertEntries f) o 1 n from (omega arith)) (omega (arith, size-aggregated f (asserts f o from 1), one-entry (f .width) (entryAt f o from))))))
 
 module _ (ipv6 : Bool) (k : Kind) (packs : Packs ipv6 k) (limit : ℕ) (room : leastLimit (familyOf ipv6) ≤ limit) where
   -- one record has room past the head
   one-fits : 0 < (limit - headSize k) / recordSize ipv6 k
   unfolding leastLimit
   one-fits =
-      let there : recordSize ipv6 k ≤ limit - headSize k = omega (arith, size-pair ipv6 k, head-range k) in
-      omega (arith, div-eq-sub-div {m = recordSize ipv6 k} {n = limit - headSize k} (omega (arith, size-range ipv6 k)) there)
+      let there : recordSize ipv6 k ≤ limit - headSize k = omega (arith, record-range ipv6 k .1, head-range k) in
+      omega (arith, div-eq-sub-div {m = recordSize ipv6 k} {n = limit - headSize k} (record-range ipv6 k .0) there)
 
   fixed-some : (n : ℕ) → 0 < n → 0 < fitting ipv6 k limit n
   unfolding fitting
@@ -100,16 +100,16 @@ module _ (ipv6 : Bool) (k : Kind) (o : List ℕ) (from n l t : ℕ) (e : t ≡ t
       let long = length-entriesAt (entriesFor ipv6 k) o from n in
       omega (arith, e, taken-most (formFor ipv6 k) l (entriesAt (entriesFor ipv6 k) o from n), most-is ipv6 k (length (entriesAt (entriesFor ipv6 k) o from n)))
 
-  pub most-none : n ≡ 0 → pack (formFor ipv6 k) l (entriesAt (entriesFor ipv6 k) o from n) ≡ packed [] 0
-  most-none z = pack-none (formFor ipv6 k) l (entriesAt (entriesFor ipv6 k) o from n) (omega (arith, e, most-inside))
+  pub most-none : (path : Path) → n ≡ 0 → pack (formFor ipv6 k) path l (entriesAt (entriesFor ipv6 k) o from n) ≡ packed [] 0
+  most-none path z = pack-none (formFor ipv6 k) path l (entriesAt (entriesFor ipv6 k) o from n) (omega (arith, e, most-inside))
 
   first-taken : take (taken (formFor ipv6 k) l (entriesAt (entriesFor ipv6 k) o from n)) (entriesAt (entriesFor ipv6 k) o from n) ≡ entriesAt (entriesFor ipv6 k) o from t
   first-taken = rw (← e) (take-entries (entriesFor ipv6 k) o t n from most-inside)
 
-  pub most-fits : 0 < t → length (canonical (formFor ipv6 k) (entriesAt (entriesFor ipv6 k) o from t)) ≤ l
+  pub most-fits : 0 < t → sizeOf (formFor ipv6 k) (entriesAt (entriesFor ipv6 k) o from t) ≤ l
   most-fits some = rw first-taken at (taken-fits (formFor ipv6 k) l (entriesAt (entriesFor ipv6 k) o from n) (rw e at some))
 
-  pub most-some : 0 < t → pack (formFor ipv6 k) l (entriesAt (entriesFor ipv6 k) o from n) ≡ packed (canonical (formFor ipv6 k) (entriesAt (entriesFor ipv6 k) o from t)) t
-  most-some some =
-      pack-some (formFor ipv6 k) l (entriesAt (entriesFor ipv6 k) o from n) (rw e at some)
-      ∙ ap₂ packed (ap (canonical (formFor ipv6 k)) first-taken) (sym e)
+  pub most-some : (path : Path) → 0 < t → pack (formFor ipv6 k) path l (entriesAt (entriesFor ipv6 k) o from n) ≡ packed (canonical (formFor ipv6 k) path (entriesAt (entriesFor ipv6 k) o from t)) t
+  most-some path some =
+      pack-some (formFor ipv6 k) path l (entriesAt (entriesFor ipv6 k) o from n) (rw e at some)
+      ∙ ap₂ packed (ap (canonical (formFor ipv6 k) path) first-taken) (sym e)

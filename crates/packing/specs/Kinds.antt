@@ -16,13 +16,13 @@ use lib.Dec.{eqb, ltb}
 use Rattle.octets.specs.Octets.{_&_}
 use Rattle.records.specs.Joining.{joined}
 use Rattle.format.specs.Family.{Family, familyOf}
-use Rattle.format.specs.Entry.{assertAt, pairAt}
+use Rattle.format.specs.Entry.{frontSize, assertAt, pairAt}
 use Rattle.format.specs.Record.{each, assertOctets, pairOctets, aggregatedOctets}
 use Rattle.format.specs.Body.{zeros}
 use Rattle.format.specs.Packing.{Form, plain, simple, aggregated, nullRegister, registerStop}
 use Rattle.format.specs.declared.Kind.{Kind}
 use Rattle.format.specs.declared.Kind.the-variants.{Hello, Assert, Simple, Aggregated, NullRegister, RegisterStop}
-use Rattle.entries.specs.Kinds.{byKind, isAssert, isStop, entriesBy, entriesFor}
+use Rattle.entries.specs.Kinds.{byKind, isAssert, isStop, fieldsSize, entriesBy, entriesFor}
 
 abbrev pub formFor : (ipv6 : Bool) (k : Kind) → Form (entriesFor ipv6 k)
 formFor ipv6 Hello = record { kind = Hello; atMost = λ n. 0; body = λ es. []; size = λ es. 4 }
@@ -32,9 +32,9 @@ formFor ipv6 Aggregated = aggregated (familyOf ipv6)
 formFor ipv6 NullRegister = nullRegister (familyOf ipv6)
 formFor ipv6 RegisterStop = registerStop (familyOf ipv6)
 
--- family, 0, 0 and mask before the group, family and 0 before the source
+-- family, 0, 0 and mask before the group, family and 0 before the source; an entry's front is not in it
 abbrev pub recordSize : Bool → Kind → ℕ
-recordSize ipv6 k = entriesFor ipv6 k .size + 6
+recordSize ipv6 k = fieldsSize (familyOf ipv6) (isAssert k) + 6
 
 unfoldable pub recordBy : (f : Family) (asserts stop : Bool) → entriesBy f asserts stop .Entry → List ℕ
 recordBy f true stop = assertOctets f
@@ -45,8 +45,8 @@ recordOctets ipv6 k = recordBy (familyOf ipv6) (isAssert k) (isStop k)
 
 -- the record of the entry at a place
 unfoldable pub recordAt : Family → Bool → List ℕ → ℕ → List ℕ
-recordAt f true o at = assertOctets f (assertAt f o at)
-recordAt f false o at = pairOctets f (pairAt f o at)
+recordAt f true o at = assertOctets f (assertAt f o (at + frontSize f))
+recordAt f false o at = pairOctets f (pairAt f o (at + frontSize f))
 
 unfoldable pub isAggregated : Kind → Bool
 isAggregated = byKind false false false true false false

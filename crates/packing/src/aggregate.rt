@@ -5,6 +5,8 @@ use crate::record::put_group;
 use crate::record::put_metric;
 use crate::record::put_source;
 use crate::run::address;
+use crate::run::assert_size;
+use addresses::front_size;
 use addresses::is_zero;
 use addresses::width;
 ghost use mathlib.Core.Path.{_≡_};
@@ -16,9 +18,8 @@ ghost use Rattle.octets.specs.Octets.{numberAt, put, be, _&_};
 ghost use Rattle.records.specs.Records.{rBit, ofGroup};
 ghost use Rattle.records.specs.Runs.{leading};
 ghost use Rattle.format.specs.Family.{familyOf};
-ghost use Rattle.format.specs.Entry.{assertAt};
 ghost use Rattle.format.specs.Record.{each, reserved2, groupRecordOctets};
-ghost use Rattle.packing.specs.Joins.{asserts, entrySize, Aggregated, Group};
+ghost use Rattle.packing.specs.Joins.{asserts, entryAt, groupAt, entrySize, Aggregated, Group};
 ghost use Rattle.packing.specs.Aggregates.{addressOctets, addressSize, groupHead, zeroSource, apart, few, recordsIn, oneOf};
 
 // The place past group records, and how many they are.
@@ -40,13 +41,14 @@ fn address_size(ipv6: bool, source: bool) -> usize
 // The source or the group of an entry.
 fn put_address(ipv6: bool, source: bool, e: &[u8], at: usize, d: &mut [u8], out: usize)
     requires { ⌜ (at + entrySize (familyOf ipv6) ≤ length (now e)) × (out + addressSize (familyOf ipv6) source ≤ length (now d)) ⌝ }
-    ensures { λ r. ⌜ now (d .exit) ≡ put (now (d .entry)) out (addressOctets (familyOf ipv6) source (assertAt (familyOf ipv6) (now (e .entry)) at)) ⌝ }
+    ensures { λ r. ⌜ now (d .exit) ≡ put (now (d .entry)) out (addressOctets (familyOf ipv6) source (entryAt (familyOf ipv6) (now (e .entry)) at)) ⌝ }
 {
+    let group = at + front_size(ipv6);
     if source {
-        put_source(ipv6, e, at + width(ipv6), d, out);
+        put_source(ipv6, e, group + width(ipv6), d, out);
         return;
     }
-    put_group(ipv6, e, at, d, out);
+    put_group(ipv6, e, group, d, out);
 }
 
 fn put_addresses_of(
@@ -62,14 +64,14 @@ fn put_addresses_of(
     ensures next { λ r. ⌜ r ≡ start + addressSize (familyOf ipv6) source * n ⌝ }
     ensures buffer { λ r. ⌜ now (d .exit) ≡ put (now (d .entry)) start (each (addressOctets (familyOf ipv6) source) (asserts (familyOf ipv6) (now (e .entry)) from n)) ⌝ }
 {
-    let w = width(ipv6);
+    let entry = assert_size(ipv6);
     let size = address_size(ipv6, source);
     let mut i = 0;
     let mut at = from;
     let mut out = start;
     while i < n {
         put_address(ipv6, source, e, at, d, out);
-        at += 2 * w + 8;
+        at += entry;
         out += size;
         i += 1;
     }
@@ -124,15 +126,16 @@ pub(crate) fn zeros(ipv6: bool, e: &[u8], from: usize, n: usize) -> usize
     requires { ⌜ from + entrySize (familyOf ipv6) * n ≤ length (now e) ⌝ }
     ensures { λ r. ⌜ r ≡ leading zeroSource (asserts (familyOf ipv6) (now (e .entry)) from n) ⌝ }
 {
-    let w = width(ipv6);
+    let source = front_size(ipv6) + width(ipv6);
+    let size = assert_size(ipv6);
     let mut k = 0;
     let mut at = from;
     while k < n {
-        if !is_zero(address(ipv6, e, at + w)) {
+        if !is_zero(address(ipv6, e, at + source)) {
             return k;
         }
         k += 1;
-        at += 2 * w + 8;
+        at += size;
     }
     k
 }
@@ -148,7 +151,7 @@ fn are_apart(ipv6: bool, e: &[u8], from: usize, k: usize) -> bool
     zeros(ipv6, e, from, k) == k
 }
 
-// What a group record of p sources begins with.
+// What a record of the group at a place, with p sources, begins with.
 fn put_group_head(ipv6: bool, e: &[u8], at: usize, p: usize, d: &mut [u8], out: usize) -> usize
     requires { ⌜ (at + familyOf ipv6 .width ≤ length (now e)) × (out + (familyOf ipv6 .width + 8) ≤ length (now d)) ⌝ }
     ensures next { λ r. ⌜ r ≡ out + (familyOf ipv6 .width + 8) ⌝ }
@@ -189,14 +192,15 @@ pub(crate) fn put_group_records(
     ensures number { λ r. ⌜ r .number ≡ length (recordsIn (familyOf ipv6) Group (asserts (familyOf ipv6) (now (e .entry)) from k)) ⌝ }
     ensures buffer { λ r. ⌜ now (d .exit) ≡ put (now (d .entry)) out (oneOf (familyOf ipv6) Group (asserts (familyOf ipv6) (now (e .entry)) from k)) ⌝ }
 {
+    let group = from + front_size(ipv6);
     if are_apart(ipv6, e, from, k) {
-        let end = put_apart(ipv6, e, from, k, d, out);
+        let end = put_apart(ipv6, e, group, k, d, out);
         return Records {
             next: end,
             number: k,
         };
     }
-    let head = put_group_head(ipv6, e, from, k, d, out);
+    let head = put_group_head(ipv6, e, group, k, d, out);
     let next = put_addresses(ipv6, true, e, from, k, d, head);
     Records { next, number: 1 }
 }
@@ -210,13 +214,14 @@ pub(crate) fn put_source_aggregated(
     d: &mut [u8],
     out: usize,
 ) -> usize
-    requires { ⌜ (0 < k) × (from + entrySize (familyOf ipv6) * k ≤ length (now e)) × (rBit (numberAt 4 (now e) (from + 2 * familyOf ipv6 .width)) ≡ false) × (out + length (oneOf (familyOf ipv6) Aggregated (asserts (familyOf ipv6) (now e) from k)) ≤ length (now d)) ⌝ }
+    requires { ⌜ (0 < k) × (from + entrySize (familyOf ipv6) * k ≤ length (now e)) × (rBit (numberAt 4 (now e) (groupAt (familyOf ipv6) from + 2 * familyOf ipv6 .width)) ≡ false) × (out + length (oneOf (familyOf ipv6) Aggregated (asserts (familyOf ipv6) (now e) from k)) ≤ length (now d)) ⌝ }
     ensures next { λ r. ⌜ r ≡ out + length (oneOf (familyOf ipv6) Aggregated (asserts (familyOf ipv6) (now (e .entry)) from k)) ⌝ }
     ensures buffer { λ r. ⌜ now (d .exit) ≡ put (now (d .entry)) out (oneOf (familyOf ipv6) Aggregated (asserts (familyOf ipv6) (now (e .entry)) from k)) ⌝ }
 {
     let w = width(ipv6);
-    put_metric(e, from + 2 * w, d, out);
-    put_source(ipv6, e, from + w, d, out + 8);
+    let group = from + front_size(ipv6);
+    put_metric(e, group + 2 * w, d, out);
+    put_source(ipv6, e, group + w, d, out + 8);
     put_number(d, out + (w + 10), k);
     put_addresses(ipv6, false, e, from, k, d, out + (w + 14))
 }

@@ -5,10 +5,13 @@ use crate::most::write_most;
 use crate::within::Fitted;
 use crate::within::smaller;
 use format::Kind;
+use format::Path;
 use format::Refusal;
+use format::nowhere;
 ghost use mathlib.Core.Path.{_≡_};
 ghost use mathlib.Core.Bool.{_&&_, _||_};
 ghost use lib.Dec.{eqb, ltb};
+ghost use Rattle.format.specs.Path.{nowhere};
 ghost use Rattle.format.specs.Family.{ipv4, familyOf};
 ghost use Rattle.format.specs.Packing.{choice};
 ghost use Rattle.packing.specs.Answers.{chosenBy};
@@ -40,23 +43,24 @@ fn prefers_aggregated(s: Fitted, a: Fitted) -> bool
 // Packs both forms and says which is chosen. Either buffer below the limit is refused with 8.
 fn both(
     ipv6: bool,
+    path: Path,
     e: &[u8],
     start: usize,
     limit: usize,
     simple: &mut [u8],
     aggregated: &mut [u8],
 ) -> Choice
-    ensures answer { λ r. ⌜ chosenBy r ≡ choice (familyOf ipv6) (now (e .entry)) start limit (now (simple .entry)) (now (aggregated .entry)) .answer ⌝ }
-    ensures simple { λ r. ⌜ now (simple .exit) ≡ choice (familyOf ipv6) (now (e .entry)) start limit (now (simple .entry)) (now (aggregated .entry)) .simpleBuffer ⌝ }
-    ensures aggregated { λ r. ⌜ now (aggregated .exit) ≡ choice (familyOf ipv6) (now (e .entry)) start limit (now (simple .entry)) (now (aggregated .entry)) .aggregatedBuffer ⌝ }
+    ensures answer { λ r. ⌜ chosenBy r ≡ choice (familyOf ipv6) path (now (e .entry)) start limit (now (simple .entry)) (now (aggregated .entry)) .answer ⌝ }
+    ensures simple { λ r. ⌜ now (simple .exit) ≡ choice (familyOf ipv6) path (now (e .entry)) start limit (now (simple .entry)) (now (aggregated .entry)) .simpleBuffer ⌝ }
+    ensures aggregated { λ r. ⌜ now (aggregated .exit) ≡ choice (familyOf ipv6) path (now (e .entry)) start limit (now (simple .entry)) (now (aggregated .entry)) .aggregatedBuffer ⌝ }
 {
     let room = smaller(simple.len(), aggregated.len());
     let x = asked(ipv6, Kind::Simple, e, start, limit, room);
     match x {
         Limit::Refused(r) => Choice::Refused(r),
         Limit::Is(l) => {
-            let s = write_most(ipv6, Kind::Simple, e, start, l, simple);
-            let a = write_most(ipv6, Kind::Aggregated, e, start, l, aggregated);
+            let s = write_most(ipv6, path, Kind::Simple, e, start, l, simple);
+            let a = write_most(ipv6, path, Kind::Aggregated, e, start, l, aggregated);
             if prefers_aggregated(s, a) {
                 return Choice::Wrote {
                     aggregated: true,
@@ -81,11 +85,11 @@ pub fn pack_both(
     simple: &mut [u8],
     aggregated: &mut [u8],
 ) -> Choice
-    ensures answer { λ r. ⌜ chosenBy r ≡ choice ipv4 (now (e .entry)) start limit (now (simple .entry)) (now (aggregated .entry)) .answer ⌝ }
-    ensures simple { λ r. ⌜ now (simple .exit) ≡ choice ipv4 (now (e .entry)) start limit (now (simple .entry)) (now (aggregated .entry)) .simpleBuffer ⌝ }
-    ensures aggregated { λ r. ⌜ now (aggregated .exit) ≡ choice ipv4 (now (e .entry)) start limit (now (simple .entry)) (now (aggregated .entry)) .aggregatedBuffer ⌝ }
+    ensures answer { λ r. ⌜ chosenBy r ≡ choice ipv4 nowhere (now (e .entry)) start limit (now (simple .entry)) (now (aggregated .entry)) .answer ⌝ }
+    ensures simple { λ r. ⌜ now (simple .exit) ≡ choice ipv4 nowhere (now (e .entry)) start limit (now (simple .entry)) (now (aggregated .entry)) .simpleBuffer ⌝ }
+    ensures aggregated { λ r. ⌜ now (aggregated .exit) ≡ choice ipv4 nowhere (now (e .entry)) start limit (now (simple .entry)) (now (aggregated .entry)) .aggregatedBuffer ⌝ }
 {
-    both(false, e, start, limit, simple, aggregated)
+    both(false, nowhere(), e, start, limit, simple, aggregated)
 }
 
 // The message that is chosen, as a part of the buffer that it was written into; empty where `pack_both` refuses
@@ -97,9 +101,9 @@ pub fn pack_chosen<'a>(
     simple: &'a mut [u8],
     aggregated: &'a mut [u8],
 ) -> &'a mut [u8]
-    ensures { λ r. ⌜ now r ≡ choice ipv4 (now (e .entry)) start limit (now (simple .entry)) (now (aggregated .entry)) .part ⌝ }
+    ensures { λ r. ⌜ now r ≡ choice ipv4 nowhere (now (e .entry)) start limit (now (simple .entry)) (now (aggregated .entry)) .part ⌝ }
 {
-    match both(false, e, start, limit, simple, aggregated) {
+    match pack_both(e, start, limit, simple, aggregated) {
         Choice::Refused(_) => &mut simple[..0],
         Choice::Wrote {
             aggregated: better,

@@ -2,6 +2,7 @@
 // record fits. Parts that are copied are lent with their length, so that it is not tested either.
 use addresses::copy_address;
 use addresses::family_number;
+use addresses::front_size;
 use addresses::mask_length;
 use addresses::width;
 use entries::entry_size;
@@ -9,16 +10,15 @@ use entries::is_assert;
 use format::Kind;
 use octets::copy8;
 ghost use mathlib.Core.Path.{_≡_};
-ghost use mathlib.Core.Bool.{cond};
-ghost use Prim.Native.Nat.{_+_, _*_, _≤_};
+ghost use Prim.Native.Nat.{_+_, _*_, _≤_, _<_};
 ghost use lib.ListN.{length};
 ghost use Rattle.octets.specs.Octets.{numberAt, put, be, _&_};
 ghost use Rattle.records.specs.Sizes.{groupSize, sourceSize, pairSize};
 ghost use Rattle.format.specs.Family.{familyOf};
 ghost use Rattle.format.specs.Address.{groupOctets, sourceOctets};
-ghost use Rattle.format.specs.Entry.{pairAt, entriesAt};
+ghost use Rattle.format.specs.Entry.{frontSize, pairAt, entriesAt};
 ghost use Rattle.format.specs.Record.{each, pairOctets};
-ghost use Rattle.entries.specs.Kinds.{entriesFor};
+ghost use Rattle.entries.specs.Kinds.{fieldsSize, entriesFor};
 ghost use Rattle.packing.specs.Kinds.{recordAt, recordOctets, recordSize};
 
 // The octets of an address, from a place to a place.
@@ -52,7 +52,7 @@ pub(crate) fn put_source(ipv6: bool, e: &[u8], at: usize, d: &mut [u8], out: usi
     put_octets(ipv6, e, at, d, out + 2);
 }
 
-// What every record begins with: group, source.
+// What every record begins with: group, source; from the place of the group.
 fn put_pair(ipv6: bool, e: &[u8], at: usize, d: &mut [u8], out: usize)
     requires { ⌜ (at + 2 * familyOf ipv6 .width ≤ length (now e)) × (out + pairSize (familyOf ipv6 .width) ≤ length (now d)) ⌝ }
     ensures { λ r. ⌜ now (d .exit) ≡ put (now (d .entry)) out (pairOctets (familyOf ipv6) (pairAt (familyOf ipv6) (now (e .entry)) at)) ⌝ }
@@ -70,15 +70,27 @@ pub(crate) fn put_metric(e: &[u8], at: usize, d: &mut [u8], out: usize)
     copy8(&e[at..at + 8], &mut d[out..out + 8]);
 }
 
-// A record; that of an assert goes on with R, preference and metric.
+// The octets of a record: an entry without its front, with what goes before the group and the source.
+pub(crate) fn record_size(ipv6: bool, asserts: bool) -> usize
+    ensures { λ r. ⌜ (r ≡ fieldsSize (familyOf ipv6) asserts + 6) × (0 < r) × (r ≤ 46) ⌝ }
+{
+    let pair = 2 * width(ipv6) + 6;
+    if asserts {
+        return pair + 8;
+    }
+    pair
+}
+
+// The record of the entry at a place; that of an assert goes on with R, preference and metric.
 fn put_record(ipv6: bool, asserts: bool, e: &[u8], at: usize, d: &mut [u8], out: usize)
-    requires { ⌜ (at + (2 * familyOf ipv6 .width + cond asserts 8 0) ≤ length (now e)) × (out + (2 * familyOf ipv6 .width + cond asserts 8 0 + 6) ≤ length (now d)) ⌝ }
+    requires { ⌜ (at + (frontSize (familyOf ipv6) + fieldsSize (familyOf ipv6) asserts) ≤ length (now e)) × (out + (fieldsSize (familyOf ipv6) asserts + 6) ≤ length (now d)) ⌝ }
     ensures { λ r. ⌜ now (d .exit) ≡ put (now (d .entry)) out (recordAt (familyOf ipv6) asserts (now (e .entry)) at) ⌝ }
 {
+    let group = at + front_size(ipv6);
     let pair = 2 * width(ipv6);
-    put_pair(ipv6, e, at, d, out);
+    put_pair(ipv6, e, group, d, out);
     if asserts {
-        put_metric(e, at + pair, d, out + 6 + pair);
+        put_metric(e, group + pair, d, out + 6 + pair);
     }
 }
 
@@ -98,13 +110,14 @@ fn put_records_of(
 {
     let asserts = is_assert(kind);
     let size = entry_size(ipv6, kind);
+    let record = record_size(ipv6, asserts);
     let mut i = 0;
     let mut at = from;
     let mut out = start;
     while i < n {
         put_record(ipv6, asserts, e, at, d, out);
         at += size;
-        out += size + 6;
+        out += record;
         i += 1;
     }
     out

@@ -2,6 +2,7 @@
 // those of one group. What the entries of a run share is read once, and the others are compared with it. Each run is
 // looked for by a loop in which the family is a literal, so that the compiler makes one for each.
 use addresses::address_at;
+use addresses::front_size;
 use addresses::width;
 use format::Address;
 use octets::number32;
@@ -13,8 +14,15 @@ ghost use lib.Dec.{eqb};
 ghost use Rattle.octets.specs.Octets.{numberAt};
 ghost use Rattle.records.specs.Records.{rBit};
 ghost use Rattle.format.specs.Family.{familyOf};
-ghost use Rattle.format.specs.Values.{numberOf};
-ghost use Rattle.packing.specs.Joins.{entrySize, runLength, Aggregated, Group};
+ghost use Rattle.format.specs.Path.{numberOf};
+ghost use Rattle.packing.specs.Joins.{groupAt, entrySize, runLength, Aggregated, Group};
+
+// The octets of an assert entry.
+pub(crate) fn assert_size(ipv6: bool) -> usize
+    ensures { λ r. ⌜ (r ≡ entrySize (familyOf ipv6)) × (r ≤ 44) ⌝ }
+{
+    front_size(ipv6) + 2 * width(ipv6) + 8
+}
 
 // The number in the four octets at a place. Of a part of four octets the compiler knows that none is missing.
 pub(crate) fn word(e: &[u8], at: usize) -> u32
@@ -53,21 +61,22 @@ fn has_metric(e: &[u8], at: usize, preference: u32, metric: u32) -> bool
 }
 
 fn source_run_of(ipv6: bool, e: &[u8], from: usize, n: usize) -> usize
-    requires { ⌜ (0 < n) × (from + entrySize (familyOf ipv6) * n ≤ length (now e)) × (rBit (numberAt 4 (now e) (from + 2 * familyOf ipv6 .width)) ≡ false) ⌝ }
+    requires { ⌜ (0 < n) × (from + entrySize (familyOf ipv6) * n ≤ length (now e)) × (rBit (numberAt 4 (now e) (groupAt (familyOf ipv6) from + 2 * familyOf ipv6 .width)) ≡ false) ⌝ }
     ensures { λ r. ⌜ r ≡ runLength (familyOf ipv6) Aggregated (now (e .entry)) from n ⌝ }
 {
+    let front = front_size(ipv6);
     let w = width(ipv6);
-    let size = 2 * w + 8;
-    let source = address(ipv6, e, from + w);
-    let preference = word(e, from + 2 * w);
-    let metric = word(e, from + 2 * w + 4);
+    let size = assert_size(ipv6);
+    let source = address(ipv6, e, from + front + w);
+    let preference = word(e, from + front + 2 * w);
+    let metric = word(e, from + front + 2 * w + 4);
     let mut k = 1;
     let mut at = from + size;
     while k < n {
-        if !has_metric(e, at + 2 * w, preference, metric) {
+        if !has_metric(e, at + front + 2 * w, preference, metric) {
             return k;
         }
-        if !is_same(source, address(ipv6, e, at + w)) {
+        if !is_same(source, address(ipv6, e, at + front + w)) {
             return k;
         }
         k += 1;
@@ -78,7 +87,7 @@ fn source_run_of(ipv6: bool, e: &[u8], from: usize, n: usize) -> usize
 
 // How many of n entries are in the first run with R=0: by equal preference, metric and source.
 pub(crate) fn source_run(ipv6: bool, e: &[u8], from: usize, n: usize) -> usize
-    requires { ⌜ (0 < n) × (from + entrySize (familyOf ipv6) * n ≤ length (now e)) × (rBit (numberAt 4 (now e) (from + 2 * familyOf ipv6 .width)) ≡ false) ⌝ }
+    requires { ⌜ (0 < n) × (from + entrySize (familyOf ipv6) * n ≤ length (now e)) × (rBit (numberAt 4 (now e) (groupAt (familyOf ipv6) from + 2 * familyOf ipv6 .width)) ≡ false) ⌝ }
     ensures { λ r. ⌜ r ≡ runLength (familyOf ipv6) Aggregated (now (e .entry)) from n ⌝ }
 {
     if ipv6 {
@@ -88,17 +97,18 @@ pub(crate) fn source_run(ipv6: bool, e: &[u8], from: usize, n: usize) -> usize
 }
 
 fn rp_run_of(ipv6: bool, e: &[u8], from: usize, n: usize) -> usize
-    requires { ⌜ (0 < n) × (from + entrySize (familyOf ipv6) * n ≤ length (now e)) × (rBit (numberAt 4 (now e) (from + 2 * familyOf ipv6 .width)) ≡ true) ⌝ }
+    requires { ⌜ (0 < n) × (from + entrySize (familyOf ipv6) * n ≤ length (now e)) × (rBit (numberAt 4 (now e) (groupAt (familyOf ipv6) from + 2 * familyOf ipv6 .width)) ≡ true) ⌝ }
     ensures { λ r. ⌜ r ≡ runLength (familyOf ipv6) Aggregated (now (e .entry)) from n ⌝ }
 {
+    let front = front_size(ipv6);
     let w = width(ipv6);
-    let size = 2 * w + 8;
-    let preference = word(e, from + 2 * w);
-    let metric = word(e, from + 2 * w + 4);
+    let size = assert_size(ipv6);
+    let preference = word(e, from + front + 2 * w);
+    let metric = word(e, from + front + 2 * w + 4);
     let mut k = 1;
     let mut at = from + size;
     while k < n {
-        if !has_metric(e, at + 2 * w, preference, metric) {
+        if !has_metric(e, at + front + 2 * w, preference, metric) {
             return k;
         }
         k += 1;
@@ -109,7 +119,7 @@ fn rp_run_of(ipv6: bool, e: &[u8], from: usize, n: usize) -> usize
 
 // How many of n entries are in the first run with R=1: by equal preference and metric.
 pub(crate) fn rp_run(ipv6: bool, e: &[u8], from: usize, n: usize) -> usize
-    requires { ⌜ (0 < n) × (from + entrySize (familyOf ipv6) * n ≤ length (now e)) × (rBit (numberAt 4 (now e) (from + 2 * familyOf ipv6 .width)) ≡ true) ⌝ }
+    requires { ⌜ (0 < n) × (from + entrySize (familyOf ipv6) * n ≤ length (now e)) × (rBit (numberAt 4 (now e) (groupAt (familyOf ipv6) from + 2 * familyOf ipv6 .width)) ≡ true) ⌝ }
     ensures { λ r. ⌜ r ≡ runLength (familyOf ipv6) Aggregated (now (e .entry)) from n ⌝ }
 {
     if ipv6 {
@@ -122,13 +132,13 @@ fn group_run_of(ipv6: bool, e: &[u8], from: usize, n: usize) -> usize
     requires { ⌜ (0 < n) × (from + entrySize (familyOf ipv6) * n ≤ length (now e)) ⌝ }
     ensures { λ r. ⌜ r ≡ runLength (familyOf ipv6) Group (now (e .entry)) from n ⌝ }
 {
-    let w = width(ipv6);
-    let size = 2 * w + 8;
-    let group = address(ipv6, e, from);
+    let front = front_size(ipv6);
+    let size = assert_size(ipv6);
+    let group = address(ipv6, e, from + front);
     let mut k = 1;
     let mut at = from + size;
     while k < n {
-        if !is_same(group, address(ipv6, e, at)) {
+        if !is_same(group, address(ipv6, e, at + front)) {
             return k;
         }
         k += 1;

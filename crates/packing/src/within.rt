@@ -7,10 +7,12 @@ use crate::aggregate::put_number;
 use crate::aggregate::put_source_aggregated;
 use crate::aggregate::zeros;
 use crate::record::put_metric;
+use crate::run::assert_size;
 use crate::run::group_run;
 use crate::run::rp_run;
 use crate::run::source_run;
 use crate::run::word;
+use addresses::front_size;
 use addresses::width;
 use format::r_bit;
 ghost use mathlib.Core.Path.{_≡_};
@@ -20,7 +22,7 @@ ghost use lib.ListN.{length};
 ghost use Rattle.octets.specs.Octets.{numberAt, put};
 ghost use Rattle.records.specs.Records.{rBit};
 ghost use Rattle.format.specs.Family.{familyOf};
-ghost use Rattle.packing.specs.Joins.{asserts, entrySize, runLength, Aggregated, Group};
+ghost use Rattle.packing.specs.Joins.{asserts, groupAt, entrySize, runLength, Aggregated, Group};
 ghost use Rattle.packing.specs.Aggregates.{oneOf, allOf, numberOf, MostWithin};
 
 // How many entries were taken, and the place past what was written.
@@ -46,8 +48,8 @@ pub(crate) fn smaller(a: usize, b: usize) -> usize
     a
 }
 
-// How many fields of an address and some octets more have room past a beginning of so many octets. Both divisors are
-// literals where the call is inlined.
+// How many fields of an address and some octets more have room past a beginning of so many octets. Both quotients are made, since both divisors are
+// literals where the call is inlined: of two divisions in two arms the compiler makes one by a number that it does not know.
 fn in_room(ipv6: bool, room: usize, first: usize, more: usize) -> usize
     requires { ⌜ more ≤ 8 ⌝ }
     ensures { λ r. ⌜ r ≡ (room - first) / (familyOf ipv6 .width + more) ⌝ }
@@ -55,10 +57,12 @@ fn in_room(ipv6: bool, room: usize, first: usize, more: usize) -> usize
     if room < first {
         return 0;
     }
+    let six = (room - first) / (16 + more);
+    let four = (room - first) / (4 + more);
     if ipv6 {
-        return (room - first) / (16 + more);
+        return six;
     }
-    (room - first) / (4 + more)
+    four
 }
 
 // How many of n entries of one group fit into so many octets: as one group record, or where their sources are 0 as
@@ -90,7 +94,7 @@ fn put_source_within(
     out: usize,
     limit: usize,
 ) -> Fitted
-    requires { ⌜ (0 < n) × (from + entrySize (familyOf ipv6) * n ≤ length (now e)) × (out ≤ limit) × (limit ≤ length (now d)) × (rBit (numberAt 4 (now e) (from + 2 * familyOf ipv6 .width)) ≡ false) ⌝ }
+    requires { ⌜ (0 < n) × (from + entrySize (familyOf ipv6) * n ≤ length (now e)) × (out ≤ limit) × (limit ≤ length (now d)) × (rBit (numberAt 4 (now e) (groupAt (familyOf ipv6) from + 2 * familyOf ipv6 .width)) ≡ false) ⌝ }
     ensures taken { λ r. ⌜ MostWithin (familyOf ipv6) (allOf (familyOf ipv6) Aggregated) (now (e .entry)) from (runLength (familyOf ipv6) Aggregated (now (e .entry)) from n) (limit - out) (r .taken) ⌝ }
     ensures next { λ r. ⌜ r .next ≡ out + length (allOf (familyOf ipv6) Aggregated (asserts (familyOf ipv6) (now (e .entry)) from (r .taken))) ⌝ }
     ensures buffer { λ r. ⌜ now (d .exit) ≡ put (now (d .entry)) out (allOf (familyOf ipv6) Aggregated (asserts (familyOf ipv6) (now (e .entry)) from (r .taken))) ⌝ }
@@ -170,7 +174,7 @@ fn put_groups_within(
             };
         }
         taken += group.taken;
-        at += (2 * width(ipv6) + 8) * group.taken;
+        at += assert_size(ipv6) * group.taken;
         out = group.next;
         number += group.number;
     }
@@ -192,7 +196,7 @@ fn put_rp_within(
     out: usize,
     limit: usize,
 ) -> Fitted
-    requires { ⌜ (0 < n) × (from + entrySize (familyOf ipv6) * n ≤ length (now e)) × (out ≤ limit) × (limit ≤ length (now d)) × (rBit (numberAt 4 (now e) (from + 2 * familyOf ipv6 .width)) ≡ true) ⌝ }
+    requires { ⌜ (0 < n) × (from + entrySize (familyOf ipv6) * n ≤ length (now e)) × (out ≤ limit) × (limit ≤ length (now d)) × (rBit (numberAt 4 (now e) (groupAt (familyOf ipv6) from + 2 * familyOf ipv6 .width)) ≡ true) ⌝ }
     ensures taken { λ r. ⌜ MostWithin (familyOf ipv6) (allOf (familyOf ipv6) Aggregated) (now (e .entry)) from (runLength (familyOf ipv6) Aggregated (now (e .entry)) from n) (limit - out) (r .taken) ⌝ }
     ensures next { λ r. ⌜ r .next ≡ out + length (allOf (familyOf ipv6) Aggregated (asserts (familyOf ipv6) (now (e .entry)) from (r .taken))) ⌝ }
     ensures buffer { λ r. ⌜ now (d .exit) ≡ put (now (d .entry)) out (allOf (familyOf ipv6) Aggregated (asserts (familyOf ipv6) (now (e .entry)) from (r .taken))) ⌝ }
@@ -212,7 +216,7 @@ fn put_rp_within(
     if groups.taken == 0 {
         return none;
     }
-    put_metric(e, from + 2 * w, d, out);
+    put_metric(e, from + front_size(ipv6) + 2 * w, d, out);
     put_number(d, out + 8, groups.number);
     Fitted {
         taken: groups.taken,
@@ -235,7 +239,7 @@ fn put_aggregated_within(
     ensures next { λ r. ⌜ r .next ≡ out + length (allOf (familyOf ipv6) Aggregated (asserts (familyOf ipv6) (now (e .entry)) from (r .taken))) ⌝ }
     ensures buffer { λ r. ⌜ now (d .exit) ≡ put (now (d .entry)) out (allOf (familyOf ipv6) Aggregated (asserts (familyOf ipv6) (now (e .entry)) from (r .taken))) ⌝ }
 {
-    if r_bit(word(e, from + 2 * width(ipv6))) {
+    if r_bit(word(e, from + front_size(ipv6) + 2 * width(ipv6))) {
         return put_rp_within(ipv6, e, from, n, d, out, limit);
     }
     put_source_within(ipv6, e, from, n, d, out, limit)
@@ -265,7 +269,7 @@ pub(crate) fn put_within(
             return Fitted { taken, next: out };
         }
         taken += record.taken;
-        at += (2 * width(ipv6) + 8) * record.taken;
+        at += assert_size(ipv6) * record.taken;
         out = record.next;
     }
     Fitted { taken, next: out }

@@ -1,6 +1,6 @@
--- `entries::begins` meets its contract: a group and a source by their first octets.
+-- `entries::begins` meets its contract: the front, and a group and a source by their first octets.
 -- Assumes nothing.
-use Prim.Native.Nat.{_+_, _≤_}
+use Prim.Native.Nat.{_+_, _*_, _≤_}
 use native.Mathlib.Omega.{arith}
 use mathlib.Core.Path.{_≡_, refl, sym, ap, _∙_}
 use mathlib.Core.Bool.{true}
@@ -10,6 +10,7 @@ use borrow.Author.Tests.{not-false}
 use borrow.Author.Needs.{needs}
 use Rattle.octets.specs.Octets.{Octets}
 use Rattle.format.specs.Family.{familyOf}
+use Rattle.format.specs.Entry.{frontSize}
 use Rattle.addresses.specs.Addresses.{sourceFirst}
 use Rattle.addresses.proofs.Laws.{width-range, group-at, source-at, may-some}
 use Rattle.entries.specs.Kinds.{zeroBy}
@@ -17,43 +18,44 @@ use Rattle.entries.proofs.ByKind.{entry-by}
 use Rattle.entries.proofs.begins.Statement.{statement}
 use Rattle.entries.proofs.begins.Tie as tie
 
+-- group and source are there
+there : (c : tie.After-front-size) → c .before .before .before .before .args .at + c .front-size .result + 2 * familyOf (c .before .before .before .before .args .ipv6) .width ≤ length (now (c .before .before .before .before .args .e))
+there c = omega (arith, c .before .before .before .before .pre, c .front-size .ensures)
+
 shared-slice-read-is-multicast : tie.Need-shared-slice-read-is-multicast
-shared-slice-read-is-multicast c = omega (arith, c .before .before .pre, width-range (c .before .before .args .ipv6))
+shared-slice-read-is-multicast c = omega (arith, there (c .before), width-range (c .before .before .before .before .before .args .ipv6))
 
 shared-slice-read-begins-source : tie.Need-shared-slice-read-begins-source
-shared-slice-read-begins-source c =
-    let w = c .before in
-    omega (arith, w .before .before .before .before .before .pre, w .width .ensures)
+shared-slice-read-begins-source c = omega (arith, there (c .before .before .before .before .before), c .before .width .ensures)
 
-returns : tie.Need-returns
-returns c asserts stop t = cc
-
-returns-2 : tie.Need-returns-2
-returns-2 c asserts stop t =
-    let w = c .before .before in
-    let m = w .before .before in
-    let s = m .before .before .before in
-    let a = s .args in
+returns-3 : tie.Need-returns-3
+returns-3 c asserts stop t =
+    let a = c .before .before .before .before .before .before .before .before .before .before .args in
     let f = familyOf (a .ipv6) in
-    let octet : Octets (now (a .e)) = λ i. m .before .shared-slice-known2 .given i .fits in
-    let wide = w .width .ensures .0 in
-    let group-there : a .at + f .width ≤ length (now (a .e)) = omega (arith, s .pre) in
-    let source-there : a .at + f .width + f .width ≤ length (now (a .e)) = omega (arith, s .pre) in
-    let first : sourceFirst (a .ipv6) (getD (now (a .e)) (a .at + f .width) 0) ≡ true =
-    ap (λ x. sourceFirst (a .ipv6) (getD (now (a .e)) (a .at + x) 0)) (sym wide) ∙ sym (c .begins-source .ensures) ∙ t in
-    sym (entry-by f asserts stop (now (a .e)) (a .at)
-    (group-at (a .ipv6) (now (a .e)) (a .at) octet group-there ∙ sym (m .is-multicast .ensures)) (not-false (m .is-multicast .result) (w .before .if1 .left))
-    refl refl (may-some f (zeroBy f asserts stop (now (a .e)) (a .at)) _ (source-at (a .ipv6) (now (a .e)) (a .at + f .width) octet source-there first)))
+    let s = c .before .before .before .before .before .before in
+    let group = a .at + s .front-size .result in
+    let octet : Octets (now (a .e)) = λ i. c .before .before .before .before .before .before .before .before .before .shared-slice-known .given i .fits in
+    let group-there : group + f .width ≤ length (now (a .e)) = omega (arith, there s) in
+    let source-there : group + f .width + f .width ≤ length (now (a .e)) = omega (arith, there s) in
+    let first : sourceFirst (a .ipv6) (getD (now (a .e)) (group + f .width) 0) ≡ true =
+    ap (λ x. sourceFirst (a .ipv6) (getD (now (a .e)) (group + x) 0)) (sym (c .before .before .width .ensures .0)) ∙ sym (c .begins-source .ensures) ∙ t in
+    sym (entry-by f asserts stop (now (a .e)) (a .at) (c .before .before .before .before .before .before .before .before .has-front .ensures) (not-false (c .before .before .before .before .before .before .before .before .has-front .result) (c .before .before .before .before .before .before .before .if1 .left)) (ap (λ x. a .at + x) (s .front-size .ensures .0))
+    (group-at (a .ipv6) (now (a .e)) group octet group-there ∙ sym (c .before .before .before .before .is-multicast .ensures)) (not-false (c .before .before .before .before .is-multicast .result) (c .before .before .before .if2 .left))
+    refl refl (may-some f (zeroBy f asserts stop (now (a .e)) group) _ (source-at (a .ipv6) (now (a .e)) (group + f .width) octet source-there first)))
 
 pub begins-spec : {M : Type 1} → statement M
 begins-spec =
     tie.close
     (tie.spec
+    (λ c κs. omega (arith, c .before .pre))
+    (λ c asserts stop t. cc)
+    (λ c κs. search needs)
+    (λ c. omega (arith, there c))
     shared-slice-read-is-multicast
     (λ c κs. search needs)
-    returns
+    (λ c asserts stop t. cc)
     (λ c κs. search needs)
     (λ c. search needs)
     shared-slice-read-begins-source
     (λ c κs. search needs)
-    returns-2)
+    returns-3)

@@ -9,15 +9,16 @@ use lib.ListN.{length}
 use borrow.Author.Tests.{not-false}
 use borrow.Author.Needs.{needs}
 use Rattle.format.specs.Family.{familyOf}
+use Rattle.format.specs.Entry.{frontSize}
 use Rattle.entries.specs.Kinds.{entriesBy}
 use Rattle.entries.proofs.ByKind.{by-size}
 use Rattle.entries.proofs.Lists.{four-allowed}
 use Rattle.entries.proofs.four_begin.Statement.{statement}
 use Rattle.entries.proofs.four_begin.Tie as tie
 
--- four entries are there, each with a group and a source
+-- four entries are there, each with its front, a group and a source
 there : (c : tie.After-size-by)
-    → (c .before .before .args .at + 3 * c .size-by .result + 2 * familyOf (c .before .before .args .ipv6) .width ≤ length (now (c .before .before .args .e)))
+    → (c .before .before .args .at + 3 * c .size-by .result + (frontSize (familyOf (c .before .before .args .ipv6)) + 2 * familyOf (c .before .before .args .ipv6) .width) ≤ length (now (c .before .before .args .e)))
 there c =
     let s = c .before .before in
     let a = s .args in

@@ -13,7 +13,7 @@ use Rattle.entries.proofs.zero_allowed.Statement.{statement}
 use Rattle.entries.proofs.zero_allowed.Tie as tie
 
 -- an assert's word is there
-there : (c : tie.After-width) → c .before .before .before .args .at + 2 * c .width .result + 4 ≤ length (now (c .before .before .before .args .e))
+there : (c : tie.After-width) → c .before .before .before .args .group + 2 * c .width .result + 4 ≤ length (now (c .before .before .before .args .e))
 there c =
     let s = c .before .before .before in
     let long = rw (c .before .if1 .taken) at (s .pre) in
@@ -23,14 +23,14 @@ returns : tie.Need-returns
 returns c =
     let w = c .before .before .before in
     let a = w .before .before .before .args in
-    let word = a .at + 2 * w .width .result in
+    let word = a .group + 2 * w .width .result in
     rw (c .r-bit .ensures, c .before .number32 .ensures ∙ number-cut 4 (now (a .e)) word (word + 4) refl (there w), w .width .ensures .0)
-    (sym (zero-long (familyOf (a .ipv6)) (now (a .e)) (a .at) (a .asserts) (a .stop) (w .before .if1 .taken)))
+    (sym (zero-long (familyOf (a .ipv6)) (now (a .e)) (a .group) (a .asserts) (a .stop) (w .before .if1 .taken)))
 
 returns-2 : tie.Need-returns-2
 returns-2 c =
     let a = c .before .before .args in
-    sym (zero-short (familyOf (a .ipv6)) (now (a .e)) (a .at) (a .asserts) (a .stop) (c .if1 .left))
+    sym (zero-short (familyOf (a .ipv6)) (now (a .e)) (a .group) (a .asserts) (a .stop) (c .if1 .left))
 
 pub zero-allowed-spec : {M : Type 1} → statement M
 zero-allowed-spec =

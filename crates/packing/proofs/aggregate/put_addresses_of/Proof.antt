@@ -4,7 +4,7 @@ use native.Mathlib.Omega.{arith}
 use mathlib.Core.Path.{refl, ap}
 use denote.Ref.{now}
 use borrow.Author.Needs.{needs}
-use Prim.Native.Nat.{_+_, _-_, _*_, _≤_}
+use Prim.Native.Nat.{_+_, _-_, _≤_}
 use lib.ListN.{length}
 use Rattle.format.specs.Family.{familyOf}
 use Rattle.format.specs.Entry.{assertEntries}
@@ -16,11 +16,11 @@ use Rattle.packing.proofs.aggregate.put_addresses_of.Statement.{stateme
 use Rattle.packing.proofs.aggregate.put_addresses_of.Tie as tie
 
 abbrev Inv-loop : tie.InvT-loop
-Inv-loop ipv6 source e from n d₀ start w size i₀ at₀ out₀ d i at out =
+Inv-loop ipv6 source e from n d₀ start entry size i₀ at₀ out₀ d i at out =
     Rows (assertEntries (familyOf ipv6)) (addressOctets (familyOf ipv6) source) (addressSize (familyOf ipv6) source) e from n d₀ start d i at out
 
 abbrev μ-loop : tie.MeasureT-loop
-μ-loop ipv6 source e from n d₀ start w size i₀ at₀ out₀ d i at out = n - i
+μ-loop ipv6 source e from n d₀ start entry size i₀ at₀ out₀ d i at out = n - i
 
 there : (c : tie.In-loop Inv-loop μ-loop)
     → (c .before .loop .at + entrySize (familyOf (c .before .before .before .before .before .before .args .ipv6)) ≤ length (now (c .before .before .before .before .before .before .args .e))) × (c .before .loop .out + addressSize (familyOf (c .before .before .before .before .before .before .args .ipv6)) (c .before .before .before .before .before .before .args .source) ≤ length (c .before .loop .d))
@@ -38,7 +38,7 @@ put-address-requires c κs = there (c .before)
 loop-again : tie.Need-loop-again Inv-loop μ-loop
 loop-again c =
     rows-next (c .before .before .before .before .before .loop .inv) (address-sized (familyOf (c .before .before .before .before .before .before .before .before .before .before .args .ipv6)) (c .before .before .before .before .before .before .before .before .before .before .args .source)) (c .before .before .before .before .loop-test .taken) _ _ _ _ (c .before .before .put-address .ensures) refl
-    (ap (λ w. c .before .before .before .before .before .loop .at + (2 * w + 8)) (c .before .before .before .before .before .before .before .width .ensures .0)) (ap (λ x. c .before .before .before .before .before .loop .out + x) (c .before .before .before .before .before .before .address-size .ensures))
+    (ap (λ x. c .before .before .before .before .before .loop .at + x) (c .before .before .before .before .before .before .before .assert-size .ensures .0)) (ap (λ x. c .before .before .before .before .before .loop .out + x) (c .before .before .before .before .before .before .address-size .ensures))
 
 same-length : tie.Need-same-length Inv-loop μ-loop
 same-length c = c .before .loop .inv .same
@@ -56,9 +56,7 @@ put-addresses-of-spec =
     (λ c κs. search needs)
     loop-holds
     put-address-requires
-    (λ c. search needs)
-    (λ c. search needs)
-    (λ c. omega (arith, there (c .before .before .before .before), c .before .before .before .before .before .before .before .width .ensures))
+    (λ c. omega (arith, there (c .before .before .before .before), c .before .before .before .before .before .before .before .assert-size .ensures))
     (λ c. omega (arith, there (c .before .before .before .before), c .before .before .before .before .before .before .address-size .ensures, c .before .before .before .before .before .loop .inv .same))
     (λ c. search needs)
     (λ c. search needs)

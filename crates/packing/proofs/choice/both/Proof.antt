@@ -3,7 +3,7 @@
 use Prim.Native.Nat.{ℕ, min}
 use native.Mathlib.Omega.{arith}
 use mathlib.Core.Path.{_≡_, refl, sym, ap, ap₂, _∙_}
-use mathlib.Core.Bool.{true, false}
+use mathlib.Core.Bool.{Bool, true, false}
 use mathlib.Core.List.{List}
 use lib.ListN.{length, drop}
 use denote.Ref.{now}
@@ -12,7 +12,7 @@ use Rattle.records.specs.Records.{AssertRecord}
 use Rattle.format.specs.Outcome.{gives}
 use Rattle.format.specs.Family.{familyOf}
 use Rattle.format.specs.Entry.{assertEntries, entriesOf}
-use Rattle.format.specs.Packing.{simple, aggregated, asked, pack, prefersAggregated, chosen, bothWritten, choice}
+use Rattle.format.specs.Packing.{simple, aggregated, asked, Packed, pack, prefersAggregated, chosen, bothWritten, choice}
 use Rattle.format.specs.declared.Kind.the-variants.{Simple, Aggregated}
 use Rattle.format.proofs.Calls.{Asked}
 use Rattle.packing.specs.Answers.{chosenBy}
@@ -30,23 +30,29 @@ asks : (c : tie.After-known-told2)
     → Asked (assertEntries (familyOf (c .before .before .before .before .before .before .before .before .args .ipv6))) (now (c .before .before .before .before .before .before .before .before .args .e)) (c .before .before .before .before .before .before .before .before .args .start) (c .before .before .before .before .before .before .before .before .args .limit) (min (length (now (c .before .before .before .before .before .before .before .before .args .simple))) (length (now (c .before .before .before .before .before .before .before .before .args .aggregated)))) (limit c)
 asks c =
     let a = c .before .before .before .before .before .before .before .before .args in
-    limit-asked (assertEntries (familyOf (a .ipv6))) (now (a .e)) (a .start) (a .limit) (min (length (now (a .simple))) (length (now (a .aggregated)))) (c .before .x2 .given .1)
+    limit-asked (assertEntries (familyOf (c .before .before .before .before .before .before .before .before .args .ipv6))) (now (a .e)) (a .start) (a .limit) (min (length (now (a .simple))) (length (now (a .aggregated)))) (c .before .x2 .given .1)
     (rw (c .before .before .before .before .smaller .ensures) at (c .before .before .before .asked .ensures))
 
 -- the entries from the start on
-abbrev left : tie.Start → List AssertRecord
-left c = drop (c .args .start) (entriesOf (assertEntries (familyOf (c .args .ipv6))) (now (c .args .e)))
+abbrev left : (six : Bool) → tie.Start → List AssertRecord
+left six c = drop (c .args .start) (entriesOf (assertEntries (familyOf six)) (now (c .args .e)))
+
+-- both messages
+abbrev simple-one : tie.After-known-told2 → Packed
+simple-one c = pack (simple (familyOf (c .before .before .before .before .before .before .before .before .args .ipv6))) (c .before .before .before .before .before .before .before .before .args .path) (limit c) (left (c .before .before .before .before .before .before .before .before .args .ipv6) (c .before .before .before .before .before .before .before .before))
+
+abbrev aggregated-one : tie.After-known-told2 → Packed
+aggregated-one c = pack (aggregated (familyOf (c .before .before .before .before .before .before .before .before .args .ipv6))) (c .before .before .before .before .before .before .before .before .args .path) (limit c) (left (c .before .before .before .before .before .before .before .before .args .ipv6) (c .before .before .before .before .before .before .before .before))
 
 -- both were packed, and the test is that of the definition
 call : (c : tie.After-prefers-aggregated)
-    → choice (familyOf (c .before .before .before .before .before .before .before .before .before .before .before .before .before .before .before .before .before .args .ipv6)) (now (c .before .before .before .before .before .before .before .before .before .before .before .before .before .before .before .before .before .args .e)) (c .before .before .before .before .before .before .before .before .before .before .before .before .before .before .before .before .before .args .start) (c .before .before .before .before .before .before .before .before .before .before .before .before .before .before .before .before .before .args .limit) (now (c .before .before .before .before .before .before .before .before .before .before .before .before .before .before .before .before .before .args .simple)) (now (c .before .before .before .before .before .before .before .before .before .before .before .before .before .before .before .before .before .args .aggregated))
-    ≡ bothWritten (now (c .before .before .before .before .before .before .before .before .before .before .before .before .before .before .before .before .before .args .simple)) (now (c .before .before .before .before .before .before .before .before .before .before .before .before .before .before .before .before .before .args .aggregated)) (pack (simple (familyOf (c .before .before .before .before .before .before .before .before .before .before .before .before .before .before .before .before .before .args .ipv6))) (limit (c .before .before .before .before .before .before .before .before .before)) (left (c .before .before .before .before .before .before .before .before .before .before .before .before .before .before .before .before .before))) (pack (aggregated (familyOf (c .before .before .before .before .before .before .before .before .before .before .before .before .before .before .before .before .before .args .ipv6))) (limit (c .before .before .before .before .before .before .before .before .before)) (left (c .before .before .before .before .before .before .before .before .before .before .before .before .before .before .before .before .before)))
+    → choice (familyOf (c .before .before .before .before .before .before .before .before .before .before .before .before .before .before .before .before .before .args .ipv6)) (c .before .before .before .before .before .before .before .before .before .before .before .before .before .before .before .before .before .args .path) (now (c .before .before .before .before .before .before .before .before .before .before .before .before .before .before .before .before .before .args .e)) (c .before .before .before .before .before .before .before .before .before .before .before .before .before .before .before .before .before .args .start) (c .before .before .before .before .before .before .before .before .before .before .before .before .before .before .before .before .before .args .limit) (now (c .before .before .before .before .before .before .before .before .before .before .before .before .before .before .before .before .before .args .simple)) (now (c .before .before .before .before .before .before .before .before .before .before .before .before .before .before .before .before .before .args .aggregated))
+    ≡ bothWritten (now (c .before .before .before .before .before .before .before .before .before .before .before .before .before .before .before .before .before .args .simple)) (now (c .before .before .before .before .before .before .before .before .before .before .before .before .before .before .before .before .before .args .aggregated)) (simple-one (c .before .before .before .before .before .before .before .before .before)) (aggregated-one (c .before .before .before .before .before .before .before .before .before))
 call c =
     let a = c .before .before .before .before .before .before .before .before .before .before .before .before .before .before .before .before .before .args in
-    choice-packs (familyOf (a .ipv6)) (now (a .e)) (a .start) (a .limit) (now (a .simple)) (now (a .aggregated)) (limit (c .before .before .before .before .before .before .before .before .before)) (asks (c .before .before .before .before .before .before .before .before .before))
+    choice-packs (familyOf (c .before .before .before .before .before .before .before .before .before .before .before .before .before .before .before .before .before .args .ipv6)) (a .path) (now (a .e)) (a .start) (a .limit) (now (a .simple)) (now (a .aggregated)) (limit (c .before .before .before .before .before .before .before .before .before)) (asks (c .before .before .before .before .before .before .before .before .before))
 
-prefers : (c : tie.After-prefers-aggregated)
-    → c .prefers-aggregated .result ≡ prefersAggregated (pack (simple (familyOf (c .before .before .before .before .before .before .before .before .before .before .before .before .before .before .before .before .before .args .ipv6))) (limit (c .before .before .before .before .before .before .before .before .before)) (left (c .before .before .before .before .before .before .before .before .before .before .before .before .before .before .before .before .before))) (pack (aggregated (familyOf (c .before .before .before .before .before .before .before .before .before .before .before .before .before .before .before .before .before .args .ipv6))) (limit (c .before .before .before .before .before .before .before .before .before)) (left (c .before .before .before .before .before .before .before .before .before .before .before .before .before .before .before .before .before)))
+prefers : (c : tie.After-prefers-aggregated) → c .prefers-aggregated .result ≡ prefersAggregated (simple-one (c .before .before .before .before .before .before .before .before .before)) (aggregated-one (c .before .before .before .before .before .before .before .before .before))
 prefers c =
     let s = c .before .before .before .before .before .before .before .write-most .ensures .0 in
     let a = c .before .before .before .write-most2 .ensures .0 in
@@ -56,13 +62,15 @@ write-most-requires : tie.Need-write-most-requires
 write-most-requires c κs =
     let a = c .before .before .before .before .before .before .before .before .before .args in
     let h = asks (c .before) in
-    (packed-is (a .ipv6) Simple refl, h .inside, asked-limit (a .ipv6) Simple (now (a .e)) (a .start) (a .limit) _ _ h, omega (arith, h .enough))
+    let limit = asked-limit (c .before .before .before .before .before .before .before .before .before .args .ipv6) Simple (now (a .e)) (a .start) (a .limit) _ _ h in
+    (packed-is (c .before .before .before .before .before .before .before .before .before .args .ipv6) Simple refl, h .inside, limit .0, limit .1, omega (arith, h .enough))
 
 write-most-requires-2 : tie.Need-write-most-requires-2
 write-most-requires-2 c κs =
     let a = c .before .before .before .before .before .before .before .before .before .before .before .before .before .args in
     let h = asks (c .before .before .before .before .before) in
-    (packed-is (a .ipv6) Aggregated refl, h .inside, asked-limit (a .ipv6) Simple (now (a .e)) (a .start) (a .limit) _ _ h, omega (arith, h .enough))
+    let limit = asked-limit (c .before .before .before .before .before .before .before .before .before .before .before .before .before .args .ipv6) Simple (now (a .e)) (a .start) (a .limit) _ _ h in
+    (packed-is (c .before .before .before .before .before .before .before .before .before .before .before .before .before .args .ipv6) Aggregated refl, h .inside, limit .0, limit .1, omega (arith, h .enough))
 
 returns : tie.Need-returns
 unfolding chosenBy
@@ -76,10 +84,11 @@ returns-2 : tie.Need-returns-2
 unfolding chosenBy
 returns-2 c =
     let a = c .before .before .before .before .before .before .before .before .args in
+    let six = c .before .before .before .before .before .before .before .before .args .ipv6 in
     let refusal = c .before .x .given .0 .0 in
-    let asks = asked (assertEntries (familyOf (a .ipv6))) (now (a .e)) (a .start) (a .limit) (min (length (now (a .simple))) (length (now (a .aggregated)))) in
+    let asks = asked (assertEntries (familyOf six)) (now (a .e)) (a .start) (a .limit) (min (length (now (a .simple))) (length (now (a .aggregated)))) in
     let refused = limit-refused asks (c .before .x .given .1) (rw (c .before .before .before .before .smaller .ensures) at (c .before .before .before .asked .ensures)) in
-    let call = choice-refused (familyOf (a .ipv6)) (now (a .e)) (a .start) (a .limit) (now (a .simple)) (now (a .aggregated)) (refusal .number) (refusal .place) refused in
+    let call = choice-refused (familyOf six) (a .path) (now (a .e)) (a .start) (a .limit) (now (a .simple)) (now (a .aggregated)) (refusal .number) (refusal .place) refused in
     (sym (ap (λ x. x .answer) call), (sym (ap (λ x. x .simpleBuffer) call), sym (ap (λ x. x .aggregatedBuffer) call)))
 
 returns-3 : tie.Need-returns-3

@@ -15,7 +15,7 @@ use Rattle.entries.specs.Kinds.{entriesFor}
 use Rattle.packing.specs.Kinds.{formFor, isAggregated, recordsFor, headSize, fitting}
 use Rattle.packing.specs.Aggregates.{octetsOf, recordsOf, allOf}
 use Rattle.packing.proofs.ByKind.{head-range, limit-head, aggregated-is, each-record}
-use Rattle.packing.proofs.Fitting.{records-long, length-is, taken-fixed}
+use Rattle.packing.proofs.Fitting.{records-long, size-is, taken-fixed}
 use Rattle.packing.proofs.Taken.{taken-within, taken-some, most-inside, most-fits}
 use Rattle.packing.proofs.most.put_most.Statement.{statement}
 use Rattle.packing.proofs.most.put_most.Tie as tie
@@ -63,7 +63,7 @@ put-records-requires c κs =
     let few = mul-le-mul-left (entriesFor (a .ipv6) (a .kind) .size) (most-inside (a .ipv6) (a .kind) (now (a .e)) (a .from) (a .n) (a .limit) t e) in
     let fit = most-fits (a .ipv6) (a .kind) (now (a .e)) (a .from) (a .n) (a .limit) t e some in
     let es = entriesAt (entriesFor (a .ipv6) (a .kind)) (now (a .e)) (a .from) t in
-    (omega (arith, few, c .before .before .before .before .before .before .pre .2), omega (arith, fit, length-is (a .ipv6) (a .kind) (c .before .before .before .before .before .before .pre .0) es, records-long (a .ipv6) (a .kind) (fixed (c .before .before)) (now (a .e)) (a .from) t, c .before .before .before .before .before .before .pre .4, c .before .before .before .before .before .before .pre .5))
+    (omega (arith, few, c .before .before .before .before .before .before .pre .2), omega (arith, fit, size-is (a .ipv6) (a .kind) (c .before .before .before .before .before .before .pre .0) es, records-long (a .ipv6) (a .kind) (fixed (c .before .before)) (now (a .e)) (a .from) t, c .before .before .before .before .before .before .pre .4, c .before .before .before .before .before .before .pre .5))
 
 returns-2 : tie.Need-returns-2
 returns-2 c =

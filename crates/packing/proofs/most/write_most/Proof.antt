@@ -42,13 +42,13 @@ returns : tie.Need-returns
 unfolding octetsOf tookOf
 returns c =
     let a = c .before .before .before .before .args in
-    rw (left-are (c .before), most-none (a .ipv6) (a .kind) (now (a .e)) (c .before .entry-size .result * a .start) (length (now (a .e)) / c .before .entry-size .result - a .start) (a .limit) _ refl (c .if1 .taken)) ((refl, refl), sym (put-nil (now (a .d)) 0))
+    rw (left-are (c .before), most-none (a .ipv6) (a .kind) (now (a .e)) (c .before .entry-size .result * a .start) (length (now (a .e)) / c .before .entry-size .result - a .start) (a .limit) _ refl (a .path) (c .if1 .taken)) ((refl, refl), sym (put-nil (now (a .d)) 0))
 
 mul-write-message : tie.Need-mul-write-message
 mul-write-message c = omega (arith, there (c .before))
 
 write-message-requires : tie.Need-write-message-requires
-write-message-requires c κs = (c .before .before .before .before .before .pre .0, omega (arith, c .before .if1 .left), there (c .before .before), c .before .before .before .before .before .pre .2, c .before .before .before .before .before .pre .3)
+write-message-requires c κs = (c .before .before .before .before .before .pre .0, omega (arith, c .before .if1 .left), there (c .before .before), c .before .before .before .before .before .pre .2, c .before .before .before .before .before .pre .3, c .before .before .before .before .before .pre .4)
 
 returns-2 : tie.Need-returns-2
 unfolding octetsOf tookOf
@@ -58,7 +58,7 @@ returns-2 c =
     let n = length (now (a .e)) / c .before .before .before .before .before .entry-size .result - a .start in
     let wrote = c .before .before .write-message .ensures in
     let some : 0 < c .before .before .write-message .result .taken = rw (wrote .0) (taken-some (a .ipv6) (a .kind) (c .before .before .before .before .before .before .before .before .pre .0) (a .limit) (c .before .before .before .before .before .before .before .before .pre .2) (now (a .e)) at n (omega (arith, c .before .before .before .before .if1 .left))) in
-    rw (left-are (c .before .before .before .before .before), most-some (a .ipv6) (a .kind) (now (a .e)) at n (a .limit) (c .before .before .write-message .result .taken) (wrote .0) some) ((wrote .1 .0, refl), wrote .1 .1)
+    rw (left-are (c .before .before .before .before .before), most-some (a .ipv6) (a .kind) (now (a .e)) at n (a .limit) (c .before .before .write-message .result .taken) (wrote .0) (a .path) some) ((wrote .1 .0, refl), wrote .1 .1)
 
 pub write-most-spec : {M : Type 1} → statement M
 write-most-spec =

@@ -11,7 +11,7 @@ use Rattle.octets.specs.Octets.{numberAt, be}
 use Rattle.octets.proofs.Laws.{put-next, put-before, put-nil}
 use Rattle.format.specs.Family.{familyOf}
 use Rattle.format.specs.Record.{reserved2}
-use Rattle.packing.specs.Joins.{asserts, entrySize, runLength, Aggregated, Group}
+use Rattle.packing.specs.Joins.{asserts, groupAt, entrySize, runLength, Aggregated, Group}
 use Rattle.packing.proofs.Joins.{entry-there, run-range, all-none}
 use Rattle.packing.specs.Aggregates.{allOf, numberOf, MostWithin}
 use Rattle.packing.proofs.Aggregating.{number-long, metric-long, rp-is, rp-long}
@@ -73,30 +73,30 @@ there : (c : tie.After-width) → c .before .before .before .args .from + entryS
 there c = entry-there (familyOf (c .before .before .before .args .ipv6)) (now (c .before .before .before .args .e)) (c .before .before .before .args .from) (c .before .before .before .args .n) (c .before .before .before .pre .0) (c .before .before .before .pre .1)
 
 put-metric-requires : tie.Need-put-metric-requires
-put-metric-requires c κs = (omega (arith, there (c .before .before .before .before .before .before .before .before .before .before .before), c .before .before .before .before .before .before .before .before .before .before .before .width .ensures), omega (arith, c .before .before .before .before .before .before .before .before .before .before .before .before .before .before .pre, c .before .before .before .before .before .before .before .before .before .before .if1 .left, c .before .before .before .before .before .put-groups-within .kept))
+put-metric-requires c κs = (omega (arith, there (c .before .before .before .before .before .before .before .before .before .before .before .before), c .before .before .before .before .before .before .before .before .before .before .before .before .width .ensures, c .before .front-size .ensures), omega (arith, c .before .before .before .before .before .before .before .before .before .before .before .before .before .before .before .pre, c .before .before .before .before .before .before .before .before .before .before .before .if1 .left, c .before .before .before .before .before .before .put-groups-within .kept))
 
 returns-3 : tie.Need-returns-3
 returns-3 c =
-    let a = c .before .before .before .before .before .before .before .before .before .before .before .before .before .before .before .before .before .before .before .before .before .args in
+    let a = c .before .before .before .before .before .before .before .before .before .before .before .before .before .before .before .before .before .before .before .before .before .before .args in
     let f = familyOf (a .ipv6) in
     let o = now (a .e) in
-    let r = c .before .before .before .before .before .before .before .before .before .before .before .before .before .before .before .before .before .before .before .before .before .pre .4 in
-    let v = numberAt 4 o (a .from + 2 * f .width) in
-    let m = numberAt 4 o (a .from + 2 * f .width + 4) in
-    let k = c .before .before .before .before .before .before .before .before .before .before .before .before .put-groups-within .result .taken in
-    let any : 0 < c .before .before .before .before .before .before .before .before .before .before .before .before .put-groups-within .result .taken = omega (arith, c .before .before .before .before .before .before .before .before .if2 .left) in
-    let wrote = c .before .before .before .before .before .before .before .before .before .before .before .before .put-groups-within .ensures in
+    let r = c .before .before .before .before .before .before .before .before .before .before .before .before .before .before .before .before .before .before .before .before .before .before .pre .4 in
+    let v = numberAt 4 o (groupAt f (a .from) + 2 * f .width) in
+    let m = numberAt 4 o (groupAt f (a .from) + 2 * f .width + 4) in
+    let k = c .before .before .before .before .before .before .before .before .before .before .before .before .before .put-groups-within .result .taken in
+    let any : 0 < c .before .before .before .before .before .before .before .before .before .before .before .before .before .put-groups-within .result .taken = omega (arith, c .before .before .before .before .before .before .before .before .before .if2 .left) in
+    let wrote = c .before .before .before .before .before .before .before .before .before .before .before .before .before .put-groups-within .ensures in
     let number = be 2 (numberOf f Group (asserts f o (a .from) k)) ++ reserved2 in
     let head : length ((be 4 v ++ be 4 m) ++ number) ≡ 12 = length-append (be 4 v ++ be 4 m) number ∙ omega (arith, metric-long v m, number-long (numberOf f Group (asserts f o (a .from) k))) in
-    let all = most (c .before .before .before .before .before .before .before .before .before .before .before .before) in
-    let one = one-all f Aggregated o (a .from) (a .n) k any (all .inside) (omega (arith, all .inside, run-range f Aggregated o (a .from) (a .n) (c .before .before .before .before .before .before .before .before .before .before .before .before .before .before .before .before .before .before .before .before .before .pre .0) .1)) in (
+    let all = most (c .before .before .before .before .before .before .before .before .before .before .before .before .before) in
+    let one = one-all f Aggregated o (a .from) (a .n) k any (all .inside) (omega (arith, all .inside, run-range f Aggregated o (a .from) (a .n) (c .before .before .before .before .before .before .before .before .before .before .before .before .before .before .before .before .before .before .before .before .before .before .pre .0) .1)) in (
       all,
       (
         wrote .1 .0 ∙ omega (arith, ap length one, rp-long f o (a .from) k any r),
         rw (one, rp-is f o (a .from) k any r)
             (put-before (now (a .d)) (a .out) ((be 4 v ++ be 4 m) ++ number) (allOf f Group (asserts f o (a .from) k)) (wrote .1 .1 .1)
-            (put-next _ (a .out) (be 4 v ++ be 4 m) number (rw (c .before .before .before .before .before .before .before .before .before .before .before .before .before .before .before .before .before .before .width .ensures .0) at (c .before .before .before .before .before .before .put-metric .ensures)) (rw (wrote .1 .1 .0) at (c .before .before .put-number .ensures)) (omega (arith, metric-long v m)))
-            (omega (arith, head)) (omega (arith, c .before .before .before .before .before .before .before .before .before .before .before .before .before .before .before .before .before .before .before .before .before .pre, c .before .before .before .before .before .before .before .before .before .before .before .before .before .before .before .before .before .if1 .left))),
+            (put-next _ (a .out) (be 4 v ++ be 4 m) number (rw (c .before .before .before .before .before .before .before .before .before .before .before .before .before .before .before .before .before .before .before .width .ensures .0, c .before .before .before .before .before .before .before .before .front-size .ensures .0) at (c .before .before .before .before .before .before .put-metric .ensures)) (rw (wrote .1 .1 .0) at (c .before .before .put-number .ensures)) (omega (arith, metric-long v m)))
+            (omega (arith, head)) (omega (arith, c .before .before .before .before .before .before .before .before .before .before .before .before .before .before .before .before .before .before .before .before .before .before .pre, c .before .before .before .before .before .before .before .before .before .before .before .before .before .before .before .before .before .before .if1 .left))),
       ),
     )
 
@@ -116,10 +116,12 @@ put-rp-within-spec =
     put-groups-within-requires
     (λ c. search needs)
     returns-2
+    (λ c κs. search needs)
+    (λ c. omega (arith, there (c .before .before .before .before .before .before .before .before .before .before .before), c .front-size .ensures))
     (λ c. search needs)
-    (λ c. omega (arith, there (c .before .before .before .before .before .before .before .before .before .before), c .before .before .before .before .before .before .before .before .before .before .width .ensures))
+    (λ c. omega (arith, there (c .before .before .before .before .before .before .before .before .before .before .before), c .before .before .before .before .before .before .before .before .before .before .before .width .ensures, c .front-size .ensures))
     put-metric-requires
-    (λ c. omega (arith, c .before .before .before .before .before .before .before .before .before .before .before .before .before .before .if1 .left))
-    (λ c κs. omega (arith, c .before .before .before .before .before .before .before .before .before .before .before .before .before .before .before .before .before .before .pre, c .before .before .before .before .before .before .before .before .before .before .before .before .before .before .if1 .left, c .before .before .before .before .before .before .before .before .before .put-groups-within .kept, c .before .before .before .put-metric .kept))
+    (λ c. omega (arith, c .before .before .before .before .before .before .before .before .before .before .before .before .before .before .before .if1 .left))
+    (λ c κs. omega (arith, c .before .before .before .before .before .before .before .before .before .before .before .before .before .before .before .before .before .before .before .pre, c .before .before .before .before .before .before .before .before .before .before .before .before .before .before .before .if1 .left, c .before .before .before .before .before .before .before .before .before .before .put-groups-within .kept, c .before .before .before .put-metric .kept))
     (λ c. search needs)
     returns-3)

@@ -27,8 +27,8 @@ inside : (c : tie.Else1 Inv-loop μ-loop) → (c .before .before .before .before
 inside c = within-there (c .before .before .before .before .before .before .before .loop .inv) (c .before .before .before .before .before .before .loop-test .taken) _ (some c) (c .before .before .before .before .put-aggregated-within .ensures .0)
 
 -- their octets
-far : (c : tie.After-width Inv-loop μ-loop) → (2 * c .width .result + 8) * c .before .before .before .before .before .before .put-aggregated-within .result .taken ≡ entrySize (familyOf (c .before .before .before .before .before .before .before .before .before .before .before .before .args .ipv6)) * c .before .before .before .before .before .before .put-aggregated-within .result .taken
-far c = ap (λ w. (2 * w + 8) * c .before .before .before .before .before .before .put-aggregated-within .result .taken) (c .width .ensures .0)
+far : (c : tie.After-assert-size Inv-loop μ-loop) → c .assert-size .result * c .before .before .before .before .before .before .put-aggregated-within .result .taken ≡ entrySize (familyOf (c .before .before .before .before .before .before .before .before .before .before .before .before .args .ipv6)) * c .before .before .before .before .before .before .put-aggregated-within .result .taken
+far c = ap (λ x. x * c .before .before .before .before .before .before .put-aggregated-within .result .taken) (c .assert-size .ensures .0)
 
 loop-holds : tie.Need-loop-holds Inv-loop μ-loop
 loop-holds c =
@@ -72,8 +72,6 @@ put-within-spec =
     returns
     (λ c. omega (arith, inside (c .before)))
     (λ c κs. search needs)
-    (λ c. search needs)
-    (λ c. search needs)
     (λ c. omega (arith, inside (c .before .before .before), far (c .before)))
     (λ c. omega (arith, inside (c .before .before .before), far (c .before)))
     (λ c. omega (arith, inside (c .before .before .before), some (c .before .before .before)))
