@@ -18,7 +18,8 @@ use Rattle.format.specs.Outcome.{gives, refuses}
 use Rattle.format.specs.Family.{ipv4}
 use Rattle.format.specs.Entry.{Entries, count, whole, entriesOf, entriesAt, AllAllowed}
 use Rattle.format.specs.Packing.{Form, plain, simple, aggregated, nullRegister, registerStop, usualLimit, leastLimit, readLimit, pack, taken, wrote, packing}
-use Rattle.format.specs.Train.{takenBy, messageOf, calls, messagesOf}
+use Rattle.format.specs.Train.{Lent, takenBy, messageOf, calls, messagesOf}
+use Rattle.format.specs.declared.Path.{Path}
 use Rattle.format.proofs.Calls.{packing-gives, packing-short}
 use Rattle.cases.specs.Computed.{computed}
 use Rattle.cases.specs.Marked.{Allowed, usual, told, Nothing, Right, marked, flows, shared, ranked, unranked}
@@ -31,25 +32,25 @@ allowed-read limit l (told least greatest) = rw (ne-eqb limit 0 (λ z. omega ari
 -- of a kind of which a message of no entries takes none
 module _ {E : Entries} (F : Form E) (isWhole : whole E [] ≡ true) (noEntries : count E [] ≡ 0) (none : F .atMost 0 ≡ 0)
     (limit l : ℕ) (read : readLimit (E .family) limit ≡ gives l) where
-  enough : (d : List ℕ) → l ≤ length d → packing F [] 0 limit d ≡ record { answer = gives (wrote 0 0); buffer = d }
+  enough : (p : Path) (d : List ℕ) → l ≤ length d → packing F p [] 0 limit d ≡ record { answer = gives (wrote 0 0); buffer = d }
   unfolding entriesOf entriesAt AllAllowed pack taken most
-  enough d room =
-      packing-gives F [] 0 limit l d [] 0
+  enough p d room =
+      packing-gives F p [] 0 limit l d [] 0
       (record { limitRead = read; enough = room; wholeList = isWhole; inside = omega arith; allowed = rw noEntries tt })
       (rw (noEntries, none))
       ∙ ap (λ (b : List ℕ). record { answer = gives (wrote 0 0); buffer = b }) (put-nil d 0)
 
-  less : (d : List ℕ) → length d < l → packing F [] 0 limit d ≡ record { answer = refuses 8 0; buffer = d }
-  less d short = packing-short F [] 0 limit l d read short
+  less : (p : Path) (d : List ℕ) → length d < l → packing F p [] 0 limit d ≡ record { answer = refuses 8 0; buffer = d }
+  less p d short = packing-short F p [] 0 limit l d read short
 
-  no-message : (buffers : List (List ℕ)) → messagesOf (calls F [] limit 0 buffers) ≡ []
+  no-message : (buffers : List Lent) → messagesOf (calls F [] limit 0 buffers) ≡ []
   unfolding messagesOf messageOf takenBy calls
   no-message [] = refl
-  no-message (d ∷ ds) = go (decLe l (length d)) (no-message ds)
+  no-message (d ∷ ds) = go (decLe l (length (d .buffer))) (no-message ds)
     where
-      go : Dec (l ≤ length d) → messagesOf (calls F [] limit 0 ds) ≡ [] → messagesOf (calls F [] limit 0 (d ∷ ds)) ≡ []
-      go (yes room) rest = rw (enough d room) rest
-      go (no short) rest = rw (less d (omega arith)) rest
+      go : Dec (l ≤ length (d .buffer)) → messagesOf (calls F [] limit 0 ds) ≡ [] → messagesOf (calls F [] limit 0 (d ∷ ds)) ≡ []
+      go (yes room) rest = rw (enough (d .path) (d .buffer) room) rest
+      go (no short) rest = rw (less (d .path) (d .buffer) (omega arith)) rest
 
 comes-to-nothing : {E : Entries} (F : Form E) → whole E [] ≡ true → count E [] ≡ 0 → F .atMost 0 ≡ 0
     → ((limit l : ℕ) → Allowed limit l → readLimit (E .family) limit ≡ gives l) → (limit l : ℕ) → Allowed limit l → Nothing F limit l

@@ -11,6 +11,7 @@ use lib.ListN.{replicate, take, drop}
 use Rattle.octets.specs.Octets.{be}
 use Rattle.records.specs.Records.{AssertRecord, assert}
 use Rattle.format.specs.Outcome.{Outcome, gives, refuses}
+use Rattle.format.specs.Path.{nowhere}
 use Rattle.format.specs.Family.{ipv4}
 use Rattle.format.specs.Header.{body}
 use Rattle.format.specs.Entry.{assertEntries, entriesOctets}
@@ -30,10 +31,10 @@ pub data Row : Type 0 where
   bodies : List ℕ → List ℕ → Row
 
 unfoldable pub IsRight : Row → Type 0
-IsRight (packs F o start limit room a) = packing F o start limit (replicate room 0) .answer ≡ a
-IsRight (chooses o start limit simpleRoom aggregatedRoom a) = choice ipv4 o start limit (replicate simpleRoom 0) (replicate aggregatedRoom 0) .answer ≡ a
-IsRight (reads m room a) = readAsserts ipv4 m (replicate room 0) .answer ≡ a
-IsRight (bodies m b) = body m ≡ b
+IsRight (packs F o start limit room a) = packing F nowhere o start limit (replicate room 0) .answer ≡ a
+IsRight (chooses o start limit simpleRoom aggregatedRoom a) = choice ipv4 nowhere o start limit (replicate simpleRoom 0) (replicate aggregatedRoom 0) .answer ≡ a
+IsRight (reads m room a) = readAsserts ipv4 nowhere m (replicate room 0) .answer ≡ a
+IsRight (bodies m b) = body ipv4 nowhere m ≡ b
 
 unfoldable pub octetsOf : List AssertRecord → List ℕ
 octetsOf es = entriesOctets (assertEntries ipv4) es

@@ -12,6 +12,7 @@ use lib.ListN.{length, take}
 use lib.Dec.{eqb}
 use Rattle.octets.specs.Octets.{be}
 use Rattle.format.specs.Outcome.{Outcome, gives, refuses}
+use Rattle.format.specs.Path.{nowhere}
 use Rattle.format.specs.Family.{ipv4}
 use Rattle.format.specs.Header.{message}
 use Rattle.format.specs.Reader.{from}
@@ -53,13 +54,13 @@ unfoldable pub bothHold : {A : Type 0} → (List ℕ → Outcome A) → (List �
 bothHold read before o l m = holds read o 0 l && holds before o 0 m
 
 unfoldable pub ofAsserts : Kind → List ℕ → List Span → List Span → Bool
-ofAsserts k = bothHold (λ b. unpackAsserts ipv4 (message k b)) (λ b. unpackBy (assertsBodyBy byRecord ipv4) (message k b))
+ofAsserts k = bothHold (λ b. unpackAsserts ipv4 nowhere (message ipv4 nowhere k b)) (λ b. unpackBy (assertsBodyBy byRecord ipv4) ipv4 nowhere (message ipv4 nowhere k b))
 
 unfoldable pub ofPairs : Kind → List ℕ → List Span → List Span → Bool
-ofPairs k = bothHold (λ b. unpackPairs ipv4 (message k b)) (λ b. unpackBy (pairsBodyBy byRecord ipv4) (message k b))
+ofPairs k = bothHold (λ b. unpackPairs ipv4 nowhere (message ipv4 nowhere k b)) (λ b. unpackBy (pairsBodyBy byRecord ipv4) ipv4 nowhere (message ipv4 nowhere k b))
 
 unfoldable pub isCut : Cut → Bool
-isCut (cut Hello n o l m) = bothHold (λ b. readHello (message Hello b)) (λ b. readHelloBy byRecord (message Hello b)) (be n o) l m
+isCut (cut Hello n o l m) = bothHold (λ b. readHello ipv4 nowhere (message ipv4 nowhere Hello b)) (λ b. readHelloBy byRecord ipv4 nowhere (message ipv4 nowhere Hello b)) (be n o) l m
 isCut (cut Assert n o l m) = ofAsserts Assert (be n o) l m
 isCut (cut Simple n o l m) = ofAsserts Simple (be n o) l m
 isCut (cut Aggregated n o l m) = ofAsserts Aggregated (be n o) l m

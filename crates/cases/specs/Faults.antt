@@ -13,6 +13,7 @@ use Rattle.octets.specs.Octets.{be}
 use Rattle.records.specs.Records.{assert, pair}
 use Rattle.format.specs.Outcome.{Outcome, gives, refuses}
 use Rattle.format.specs.Reader.{Read, got, bad}
+use Rattle.format.specs.Path.{nowhere}
 use Rattle.format.specs.Family.{ipv4}
 use Rattle.format.specs.Record
 use Rattle.format.specs.Record.{anAssert, aPair, recordAt}
@@ -31,9 +32,9 @@ refusedWith n p (gives a) = false
 refusedWith n p (refuses m q) = eqb m n && eqb q p
 
 unfoldable pub isFault : Fault → Bool
-isFault (fault asserts k m n p) = refusedWith n p (unpackAsserts ipv4 (be k m))
-isFault (fault pairs k m n p) = refusedWith n p (unpackPairs ipv4 (be k m))
-isFault (helloFault k m n p) = refusedWith n p (readHello (be k m))
+isFault (fault asserts k m n p) = refusedWith n p (unpackAsserts ipv4 nowhere (be k m))
+isFault (fault pairs k m n p) = refusedWith n p (unpackPairs ipv4 nowhere (be k m))
+isFault (helloFault k m n p) = refusedWith n p (readHello ipv4 nowhere (be k m))
 
 unfoldable pub allFaults : List Fault → Bool
 allFaults [] = true

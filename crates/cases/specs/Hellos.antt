@@ -10,6 +10,8 @@ use mathlib.Core.Option.{Option, none, some}
 use lib.ListN.{replicate}
 use Rattle.octets.specs.Octets.{be, _&_}
 use Rattle.format.specs.Outcome.{gives, refuses}
+use Rattle.format.specs.Path.{nowhere}
+use Rattle.format.specs.Family.{ipv4}
 use Rattle.hello.specs.Hello.{hello, readHello, writeHello}
 
 pub data Row : Type 0 where
@@ -19,10 +21,10 @@ pub data Row : Type 0 where
 -- what stands past the message stays; with an octet less nothing is written
 unfoldable pub IsRight : Row → Type 0
 IsRight (says h p c n m) =
-    (readHello (be n m) ≡ gives (hello h p c))
-    × (writeHello (hello h p c) (replicate 30 170) ≡ record { answer = gives n; buffer = be n m & replicate (30 - n) 170 })
-    × (writeHello (hello h p c) (replicate n 170) ≡ record { answer = gives n; buffer = be n m })
-    × (writeHello (hello h p c) (replicate (n - 1) 170) ≡ record { answer = refuses 8 0; buffer = replicate (n - 1) 170 })
+    (readHello ipv4 nowhere (be n m) ≡ gives (hello h p c))
+    × (writeHello ipv4 nowhere (hello h p c) (replicate 30 170) ≡ record { answer = gives n; buffer = be n m & replicate (30 - n) 170 })
+    × (writeHello ipv4 nowhere (hello h p c) (replicate n 170) ≡ record { answer = gives n; buffer = be n m })
+    × (writeHello ipv4 nowhere (hello h p c) (replicate (n - 1) 170) ≡ record { answer = refuses 8 0; buffer = replicate (n - 1) 170 })
 
 unfoldable pub hellos : List Row
 hellos =

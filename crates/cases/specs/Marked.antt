@@ -12,11 +12,13 @@ use lib.ListN.{length, replicate}
 use Rattle.octets.specs.Octets.{be}
 use Rattle.records.specs.Records.{AssertRecord, assert}
 use Rattle.format.specs.Outcome.{Outcome, gives, refuses}
+use Rattle.format.specs.Path.{nowhere}
 use Rattle.format.specs.Family.{ipv4}
 use Rattle.format.specs.Entry.{Entries, assertEntries, entriesOctets}
 use Rattle.format.specs.Unpacking.{Unpacked, unpacked, unpackAsserts}
 use Rattle.format.specs.Packing.{Form, plain, simple, aggregated, nullRegister, registerStop, Wrote, wrote, packing}
-use Rattle.format.specs.Train.{calls, messagesOf, train}
+use Rattle.format.specs.Train.{Lent, Sent, calls, messagesOf, train}
+use Rattle.format.specs.declared.Path.{Path}
 use Rattle.format.specs.declared.Kind.the-variants.{Simple}
 use Rattle.neighbours.specs.Rows.{tableOf}
 use Rattle.neighbours.specs.Election.{electing}
@@ -35,11 +37,11 @@ pub data Allowed : ℕ → ℕ → Type 0 where
 -- calls for the empty list at a limit of l octets
 pub record Nothing {E : Entries} (F : Form E) (limit l : ℕ) : Type 0 where
   -- with a buffer of the limit's size or more: length 0, taken 0, and nothing is refused or written
-  pub enough : (d : List ℕ) → l ≤ length d → packing F [] 0 limit d ≡ record { answer = gives (wrote 0 0); buffer = d }
+  pub enough : (p : Path) (d : List ℕ) → l ≤ length d → packing F p [] 0 limit d ≡ record { answer = gives (wrote 0 0); buffer = d }
   -- with a smaller one: 8, and nothing is written
-  pub less : (d : List ℕ) → length d < l → packing F [] 0 limit d ≡ record { answer = refuses 8 0; buffer = d }
+  pub less : (p : Path) (d : List ℕ) → length d < l → packing F p [] 0 limit d ≡ record { answer = refuses 8 0; buffer = d }
   -- so no message, whatever buffers calls are lent
-  pub noMessage : (buffers : List (List ℕ)) → messagesOf (calls F [] limit 0 buffers) ≡ []
+  pub noMessage : (buffers : List Lent) → messagesOf (calls F [] limit 0 buffers) ≡ []
 
 pub data Row : Type 1 where
   -- these octets, read as asserts, unpack to this
@@ -56,11 +58,11 @@ pub data Row : Type 1 where
   nothing : {E : Entries} → Form E → Row
 
 unfoldable pub Right : Row → Type 0
-Right (reads o u) = unpackAsserts ipv4 o ≡ u
+Right (reads o u) = unpackAsserts ipv4 nowhere o ≡ u
 Right (packs F es start limit a) =
-    packing F (entriesOctets (assertEntries ipv4) es) start limit (replicate limit 0) .answer ≡ a
-Right (lengths F es limit ls) = map (λ (m : List ℕ). length m) (train F (entriesOctets (assertEntries ipv4) es) limit) ≡ ls
-Right (isMessage F es limit m) = train F (entriesOctets (assertEntries ipv4) es) limit ≡ m ∷ []
+    packing F nowhere (entriesOctets (assertEntries ipv4) es) start limit (replicate limit 0) .answer ≡ a
+Right (lengths F es limit ls) = map (λ (m : Sent). length (m .octets)) (train F nowhere (entriesOctets (assertEntries ipv4) es) limit) ≡ ls
+Right (isMessage F es limit m) = train F nowhere (entriesOctets (assertEntries ipv4) es) limit ≡ record { path = nowhere; octets = m } ∷ []
 Right (elects l ours priority a) = electing (tableOf l) ours priority ≡ gives a
 Right (nothing F) = (limit l : ℕ) → Allowed limit l → Nothing F limit l
 

@@ -12,6 +12,7 @@ use mathlib.Core.List.{List, [], _∷_}
 use lib.ListN.{replicate}
 use Rattle.octets.specs.Octets.{be, _&_}
 use Rattle.format.specs.Outcome.{gives}
+use Rattle.format.specs.Path.{nowhere}
 use Rattle.format.specs.Family.{ipv4}
 use Rattle.format.specs.Entry.{Entries, assertEntries, pairEntries}
 use Rattle.format.specs.Reading.{ReadingCall, found, readAsserts, readPairs}
@@ -42,16 +43,16 @@ IsRead E call n m k c es =
 -- a packing call from the first entry at limit 1,480; what stands past the message stays
 unfoldable pub IsWritten : {E : Entries} → Form E → ℕ → ℕ → ℕ → ℕ → Type 0
 IsWritten {E} F n m c es =
-    packing F (be (E .size * c) es) 0 1480 (replicate 1480 170)
+    packing F nowhere (be (E .size * c) es) 0 1480 (replicate 1480 170)
     ≡ record { answer = gives (wrote n c); buffer = be n m & replicate (1480 - n) 170 }
 
 unfoldable pub IsGood : Good → Type 0
-IsGood (goodAsserts F n m c es) = IsRead (assertEntries ipv4) (readAsserts ipv4) n m (F .kind) c es × IsWritten F n m c es
-IsGood (goodPairs z F n m c es) = IsRead (pairEntries ipv4 z) (readPairs ipv4) n m (F .kind) c es × IsWritten F n m c es
+IsGood (goodAsserts F n m c es) = IsRead (assertEntries ipv4) (readAsserts ipv4 nowhere) n m (F .kind) c es × IsWritten F n m c es
+IsGood (goodPairs z F n m c es) = IsRead (pairEntries ipv4 z) (readPairs ipv4 nowhere) n m (F .kind) c es × IsWritten F n m c es
 
 unfoldable pub IsAccepted : Accepted → Type 0
-IsAccepted (accept asserts n m k c es) = IsRead (assertEntries ipv4) (readAsserts ipv4) n m k c es
-IsAccepted (accept pairs n m k c es) = IsRead (pairEntries ipv4 false) (readPairs ipv4) n m k c es
+IsAccepted (accept asserts n m k c es) = IsRead (assertEntries ipv4) (readAsserts ipv4 nowhere) n m k c es
+IsAccepted (accept pairs n m k c es) = IsRead (pairEntries ipv4 false) (readPairs ipv4 nowhere) n m k c es
 
 unfoldable pub goodMessages : List Good
 goodMessages =

@@ -13,6 +13,7 @@ use lib.ListN.{replicate}
 use Rattle.octets.specs.Octets.{be, _&_}
 use Rattle.format.specs.Outcome.{Outcome}
 use Rattle.format.specs.Reader.{from}
+use Rattle.format.specs.Path.{nowhere}
 use Rattle.format.specs.Family.{Family, ipv4, ipv6, mayBeSource}
 use Rattle.format.specs.Header.{message}
 use Rattle.format.specs.Entry.{Entries}
@@ -60,9 +61,9 @@ unfoldable pub around : ℕ → ℕ → ℕ → ℕ → ℕ → List ℕ
 around i before j after s = be i before & be 4 s & be j after
 
 unfoldable pub isPlace : Place → Bool
-isPlace (inMessage k i x j y r o z) = three (λ s. judged (message k (around i x j y s))) r o z
+isPlace (inMessage k i x j y r o z) = three (λ s. judged (message ipv4 nowhere k (around i x j y s))) r o z
 isPlace (inRecord k i x j y r o z) = three (λ s. from 2 (recordAt ipv4 k) (around i x j y s)) r o z
-isPlace (inEntries F i x j y r o z) = three (λ s. packing F (around i x j y s) 0 0 (replicate 556 0) .answer) r o z
+isPlace (inEntries F i x j y r o z) = three (λ s. packing F nowhere (around i x j y s) 0 0 (replicate 556 0) .answer) r o z
 
 unfoldable pub allPlaces : List Place → Bool
 allPlaces [] = true

@@ -15,6 +15,7 @@ use reading::Reading;
 use reading::Single;
 ghost use mathlib.Core.Path.{_≡_};
 ghost use lib.ListN.{length};
+ghost use Rattle.format.specs.Path.{nowhere};
 ghost use Rattle.format.specs.Family.{ipv4};
 ghost use Rattle.format.specs.Header.{header, body};
 ghost use Rattle.format.specs.Reading.{readAsserts, readPairs};
@@ -71,7 +72,7 @@ fn header_answer(h: Headed) -> HeaderAnswer
 // The kind of a message.
 #[no_mangle]
 pub extern "C" fn pim_header(m: &[u8]) -> HeaderAnswer
-    ensures { λ r. ⌜ r ≡ headerAnswer (header (now (m .entry))) ⌝ }
+    ensures { λ r. ⌜ r ≡ headerAnswer (header ipv4 nowhere (now (m .entry))) ⌝ }
 {
     header_answer(reading::header(m))
 }
@@ -79,7 +80,7 @@ pub extern "C" fn pim_header(m: &[u8]) -> HeaderAnswer
 // How many octets the body has, which begins at octet 4.
 #[no_mangle]
 pub extern "C" fn pim_body(m: &[u8]) -> usize
-    ensures { λ r. ⌜ r ≡ length (body (now (m .entry))) ⌝ }
+    ensures { λ r. ⌜ r ≡ length (body ipv4 nowhere (now (m .entry))) ⌝ }
 {
     reading::body(m).len()
 }
@@ -129,8 +130,8 @@ fn read_answer(r: Reading) -> ReadAnswer
 // The entries of a message of the assert kinds.
 #[no_mangle]
 pub extern "C" fn pim_read_asserts(m: &[u8], entries: &mut [u8]) -> ReadAnswer
-    ensures answer { λ r. ⌜ r ≡ readAnswer (readAsserts ipv4 (now (m .entry)) (now (entries .entry)) .answer) ⌝ }
-    ensures entries { λ _. ⌜ now (entries .exit) ≡ readAsserts ipv4 (now (m .entry)) (now (entries .entry)) .lent ⌝ }
+    ensures answer { λ r. ⌜ r ≡ readAnswer (readAsserts ipv4 nowhere (now (m .entry)) (now (entries .entry)) .answer) ⌝ }
+    ensures entries { λ _. ⌜ now (entries .exit) ≡ readAsserts ipv4 nowhere (now (m .entry)) (now (entries .entry)) .lent ⌝ }
 {
     read_answer(reading::read_asserts(m, entries))
 }
@@ -138,8 +139,8 @@ pub extern "C" fn pim_read_asserts(m: &[u8], entries: &mut [u8]) -> ReadAnswer
 // The entries of a message of the pair kinds.
 #[no_mangle]
 pub extern "C" fn pim_read_pairs(m: &[u8], entries: &mut [u8]) -> ReadAnswer
-    ensures answer { λ r. ⌜ r ≡ readAnswer (readPairs ipv4 (now (m .entry)) (now (entries .entry)) .answer) ⌝ }
-    ensures entries { λ _. ⌜ now (entries .exit) ≡ readPairs ipv4 (now (m .entry)) (now (entries .entry)) .lent ⌝ }
+    ensures answer { λ r. ⌜ r ≡ readAnswer (readPairs ipv4 nowhere (now (m .entry)) (now (entries .entry)) .answer) ⌝ }
+    ensures entries { λ _. ⌜ now (entries .exit) ≡ readPairs ipv4 nowhere (now (m .entry)) (now (entries .entry)) .lent ⌝ }
 {
     read_answer(reading::read_pairs(m, entries))
 }
@@ -169,7 +170,7 @@ fn hello_answer(h: HelloRead) -> HelloAnswer
 // What a Hello says.
 #[no_mangle]
 pub extern "C" fn pim_read_hello(m: &[u8]) -> HelloAnswer
-    ensures { λ r. ⌜ r ≡ helloAnswer (readHello (now (m .entry))) ⌝ }
+    ensures { λ r. ⌜ r ≡ helloAnswer (readHello ipv4 nowhere (now (m .entry))) ⌝ }
 {
     hello_answer(hello::read_hello(m))
 }
@@ -177,8 +178,8 @@ pub extern "C" fn pim_read_hello(m: &[u8]) -> HelloAnswer
 // The Hello that says this.
 #[no_mangle]
 pub extern "C" fn pim_write_hello(said: Hello, d: &mut [u8]) -> LengthAnswer
-    ensures answer { λ r. ⌜ r ≡ lengthAnswer (writeHello (helloBy said) (now (d .entry)) .answer) ⌝ }
-    ensures buffer { λ _. ⌜ now (d .exit) ≡ writeHello (helloBy said) (now (d .entry)) .buffer ⌝ }
+    ensures answer { λ r. ⌜ r ≡ lengthAnswer (writeHello ipv4 nowhere (helloBy said) (now (d .entry)) .answer) ⌝ }
+    ensures buffer { λ _. ⌜ now (d .exit) ≡ writeHello ipv4 nowhere (helloBy said) (now (d .entry)) .buffer ⌝ }
 {
     length_answer(hello::write_hello(said, d))
 }

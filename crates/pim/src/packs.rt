@@ -4,6 +4,7 @@ use format::Refusal;
 use packing::Choice;
 use packing::Packing;
 ghost use mathlib.Core.Path.{_≡_};
+ghost use Rattle.format.specs.Path.{nowhere};
 ghost use Rattle.format.specs.Family.{ipv4};
 ghost use Rattle.format.specs.Packing.{plain, simple, aggregated, nullRegister, registerStop, packing, choice};
 ghost use Rattle.packing.specs.Answers.{packed, chosenBy};
@@ -44,8 +45,8 @@ fn pack_answer(p: Packing) -> PackAnswer
 // A plain assert: one entry.
 #[no_mangle]
 pub extern "C" fn pim_pack_assert(e: &[u8], start: usize, limit: usize, d: &mut [u8]) -> PackAnswer
-    ensures answer { λ r. ⌜ r ≡ packAnswer (packing (plain ipv4) (now (e .entry)) start limit (now (d .entry)) .answer) ⌝ }
-    ensures buffer { λ _. ⌜ now (d .exit) ≡ packing (plain ipv4) (now (e .entry)) start limit (now (d .entry)) .buffer ⌝ }
+    ensures answer { λ r. ⌜ r ≡ packAnswer (packing (plain ipv4) nowhere (now (e .entry)) start limit (now (d .entry)) .answer) ⌝ }
+    ensures buffer { λ _. ⌜ now (d .exit) ≡ packing (plain ipv4) nowhere (now (e .entry)) start limit (now (d .entry)) .buffer ⌝ }
 {
     pack_answer(packing::pack_assert(e, start, limit, d))
 }
@@ -53,8 +54,8 @@ pub extern "C" fn pim_pack_assert(e: &[u8], start: usize, limit: usize, d: &mut 
 // A packed simple assert.
 #[no_mangle]
 pub extern "C" fn pim_pack_simple(e: &[u8], start: usize, limit: usize, d: &mut [u8]) -> PackAnswer
-    ensures answer { λ r. ⌜ r ≡ packAnswer (packing (simple ipv4) (now (e .entry)) start limit (now (d .entry)) .answer) ⌝ }
-    ensures buffer { λ _. ⌜ now (d .exit) ≡ packing (simple ipv4) (now (e .entry)) start limit (now (d .entry)) .buffer ⌝ }
+    ensures answer { λ r. ⌜ r ≡ packAnswer (packing (simple ipv4) nowhere (now (e .entry)) start limit (now (d .entry)) .answer) ⌝ }
+    ensures buffer { λ _. ⌜ now (d .exit) ≡ packing (simple ipv4) nowhere (now (e .entry)) start limit (now (d .entry)) .buffer ⌝ }
 {
     pack_answer(packing::pack_simple(e, start, limit, d))
 }
@@ -67,8 +68,8 @@ pub extern "C" fn pim_pack_aggregated(
     limit: usize,
     d: &mut [u8],
 ) -> PackAnswer
-    ensures answer { λ r. ⌜ r ≡ packAnswer (packing (aggregated ipv4) (now (e .entry)) start limit (now (d .entry)) .answer) ⌝ }
-    ensures buffer { λ _. ⌜ now (d .exit) ≡ packing (aggregated ipv4) (now (e .entry)) start limit (now (d .entry)) .buffer ⌝ }
+    ensures answer { λ r. ⌜ r ≡ packAnswer (packing (aggregated ipv4) nowhere (now (e .entry)) start limit (now (d .entry)) .answer) ⌝ }
+    ensures buffer { λ _. ⌜ now (d .exit) ≡ packing (aggregated ipv4) nowhere (now (e .entry)) start limit (now (d .entry)) .buffer ⌝ }
 {
     pack_answer(packing::pack_aggregated(e, start, limit, d))
 }
@@ -81,8 +82,8 @@ pub extern "C" fn pim_pack_null_register(
     limit: usize,
     d: &mut [u8],
 ) -> PackAnswer
-    ensures answer { λ r. ⌜ r ≡ packAnswer (packing (nullRegister ipv4) (now (e .entry)) start limit (now (d .entry)) .answer) ⌝ }
-    ensures buffer { λ _. ⌜ now (d .exit) ≡ packing (nullRegister ipv4) (now (e .entry)) start limit (now (d .entry)) .buffer ⌝ }
+    ensures answer { λ r. ⌜ r ≡ packAnswer (packing (nullRegister ipv4) nowhere (now (e .entry)) start limit (now (d .entry)) .answer) ⌝ }
+    ensures buffer { λ _. ⌜ now (d .exit) ≡ packing (nullRegister ipv4) nowhere (now (e .entry)) start limit (now (d .entry)) .buffer ⌝ }
 {
     pack_answer(packing::pack_null_register(e, start, limit, d))
 }
@@ -95,8 +96,8 @@ pub extern "C" fn pim_pack_register_stop(
     limit: usize,
     d: &mut [u8],
 ) -> PackAnswer
-    ensures answer { λ r. ⌜ r ≡ packAnswer (packing (registerStop ipv4) (now (e .entry)) start limit (now (d .entry)) .answer) ⌝ }
-    ensures buffer { λ _. ⌜ now (d .exit) ≡ packing (registerStop ipv4) (now (e .entry)) start limit (now (d .entry)) .buffer ⌝ }
+    ensures answer { λ r. ⌜ r ≡ packAnswer (packing (registerStop ipv4) nowhere (now (e .entry)) start limit (now (d .entry)) .answer) ⌝ }
+    ensures buffer { λ _. ⌜ now (d .exit) ≡ packing (registerStop ipv4) nowhere (now (e .entry)) start limit (now (d .entry)) .buffer ⌝ }
 {
     pack_answer(packing::pack_register_stop(e, start, limit, d))
 }
@@ -133,9 +134,9 @@ pub extern "C" fn pim_pack_both(
     simple: &mut [u8],
     aggregated: &mut [u8],
 ) -> ChoiceAnswer
-    ensures answer { λ r. ⌜ r ≡ choiceAnswer (choice ipv4 (now (e .entry)) start limit (now (simple .entry)) (now (aggregated .entry)) .answer) ⌝ }
-    ensures simple { λ _. ⌜ now (simple .exit) ≡ choice ipv4 (now (e .entry)) start limit (now (simple .entry)) (now (aggregated .entry)) .simpleBuffer ⌝ }
-    ensures aggregated { λ _. ⌜ now (aggregated .exit) ≡ choice ipv4 (now (e .entry)) start limit (now (simple .entry)) (now (aggregated .entry)) .aggregatedBuffer ⌝ }
+    ensures answer { λ r. ⌜ r ≡ choiceAnswer (choice ipv4 nowhere (now (e .entry)) start limit (now (simple .entry)) (now (aggregated .entry)) .answer) ⌝ }
+    ensures simple { λ _. ⌜ now (simple .exit) ≡ choice ipv4 nowhere (now (e .entry)) start limit (now (simple .entry)) (now (aggregated .entry)) .simpleBuffer ⌝ }
+    ensures aggregated { λ _. ⌜ now (aggregated .exit) ≡ choice ipv4 nowhere (now (e .entry)) start limit (now (simple .entry)) (now (aggregated .entry)) .aggregatedBuffer ⌝ }
 {
     choice_answer(packing::pack_both(e, start, limit, simple, aggregated))
 }

@@ -19,6 +19,7 @@ use Rattle.format.specs.Unpacking.{unpacked, unpackAsserts, unpackPairs}
 use Rattle.format.specs.Reading.{ReadingCall, delivered, reading, readAsserts, readPairs}
 use Rattle.format.specs.Writing.{WritingCall, intoBuffer}
 use Rattle.format.specs.declared.Kind.{Kind}
+use Rattle.format.specs.declared.Path.{Path}
 use Rattle.format.specs.declared.Kind.the-variants.{Hello, Assert, Simple, Aggregated, NullRegister, RegisterStop}
 use Rattle.hello.specs.Options.{nothing}
 use Rattle.hello.specs.Hello.{helloOf, helloOptions, helloBody, readHello}
@@ -33,45 +34,45 @@ use Rattle.places.proofs.Bodies.{chooses-asserts, chooses-pairs, choose
 
 -- ---- calls that unpack records
 
-module _ (E : Entries) {bodies : Rule → Kind → Reader (List (E .Entry))} {body : Kind → Reader (List (E .Entry))} (o d : List ℕ)
+module _ (E : Entries) {bodies : Rule → Kind → Reader (List (E .Entry))} {body : Kind → Reader (List (E .Entry))} (f : Family) (path : Path) (o d : List ℕ)
     (chooses : (k : Kind) (at : ℕ) → Chooses o at (λ ρ. bodies ρ k) (body k)) where
   -- the call, of what the body of a kind was read as
   ofBody : Kind → Read (List (E .Entry)) → ReadingCall
   ofBody k x = reading E (outcome x >>= (λ es. gives (unpacked k es))) d
 
-  only-reading : OnlyPlaces o (λ ρ. reading E (unpackBy (bodies ρ) o) d .answer) (reading E (unpackBy body o) d .answer)
+  only-reading : OnlyPlaces o (λ ρ. reading E (unpackBy (bodies ρ) f path o) d .answer) (reading E (unpackBy body f path o) d .answer)
   unfolding unpackBy ofBody reading delivered from outcome _>>=_
-  only-reading = go (header o) refl
+  only-reading = go (header f path o) refl
     where
-      go : (h : Outcome Kind) → header o ≡ h
-          → OnlyPlaces o (λ ρ. reading E (unpackBy (bodies ρ) o) d .answer) (reading E (unpackBy body o) d .answer)
+      go : (h : Outcome Kind) → header f path o ≡ h
+          → OnlyPlaces o (λ ρ. reading E (unpackBy (bodies ρ) f path o) d .answer) (reading E (unpackBy body f path o) d .answer)
       go (gives k) e = rw e (only-places (λ x. ofBody k x .answer) (λ n p. refl) (chooses k 4 .chosen))
       go (refuses n p) e = rw e (only-plain (refuses n p))
 
-  same-reading : (ρ : Rule) → reading E (unpackBy (bodies ρ) o) d .lent ≡ reading E (unpackBy body o) d .lent
+  same-reading : (ρ : Rule) → reading E (unpackBy (bodies ρ) f path o) d .lent ≡ reading E (unpackBy body f path o) d .lent
   unfolding unpackBy ofBody reading delivered from outcome _>>=_
-  same-reading ρ = go (header o) refl
+  same-reading ρ = go (header f path o) refl
     where
-      go : (h : Outcome Kind) → header o ≡ h → reading E (unpackBy (bodies ρ) o) d .lent ≡ reading E (unpackBy body o) d .lent
+      go : (h : Outcome Kind) → header f path o ≡ h → reading E (unpackBy (bodies ρ) f path o) d .lent ≡ reading E (unpackBy body f path o) d .lent
       go (gives k) e = rw e (same-left (λ x. ofBody k x .lent) d (λ n p. refl) (chooses k 4 .chosen) ρ)
       go (refuses n p) e = rw e
 
-module _ (f : Family) (o d : List ℕ) where
-  only-asserts : OnlyPlaces o (λ ρ. readAssertsBy ρ f o d .answer) (readAsserts f o d .answer)
+module _ (f : Family) (path : Path) (o d : List ℕ) where
+  only-asserts : OnlyPlaces o (λ ρ. readAssertsBy ρ f path o d .answer) (readAsserts f path o d .answer)
   unfolding readAssertsBy readAsserts unpackBy unpackAsserts
-  only-asserts = only-reading (assertEntries f) o d (chooses-asserts f)
+  only-asserts = only-reading (assertEntries f) f path o d (chooses-asserts f)
 
-  same-asserts : (ρ : Rule) → readAssertsBy ρ f o d .lent ≡ readAsserts f o d .lent
+  same-asserts : (ρ : Rule) → readAssertsBy ρ f path o d .lent ≡ readAsserts f path o d .lent
   unfolding readAssertsBy readAsserts unpackBy unpackAsserts
-  same-asserts = same-reading (assertEntries f) o d (chooses-asserts f)
+  same-asserts = same-reading (assertEntries f) f path o d (chooses-asserts f)
 
-  only-pairs : OnlyPlaces o (λ ρ. readPairsBy ρ f o d .answer) (readPairs f o d .answer)
+  only-pairs : OnlyPlaces o (λ ρ. readPairsBy ρ f path o d .answer) (readPairs f path o d .answer)
   unfolding readPairsBy readPairs unpackBy unpackPairs
-  only-pairs = only-reading (pairEntries f false) o d (chooses-pairs f)
+  only-pairs = only-reading (pairEntries f false) f path o d (chooses-pairs f)
 
-  same-pairs : (ρ : Rule) → readPairsBy ρ f o d .lent ≡ readPairs f o d .lent
+  same-pairs : (ρ : Rule) → readPairsBy ρ f path o d .lent ≡ readPairs f path o d .lent
   unfolding readPairsBy readPairs unpackBy unpackPairs
-  same-pairs = same-reading (pairEntries f false) o d (chooses-pairs f)
+  same-pairs = same-reading (pairEntries f false) f path o d (chooses-pairs f)
 
 -- ---- the others
 
@@ -79,9 +80,9 @@ only-records : (f : Family) (k : Kind) (o : List ℕ) (at : ℕ) → OnlyPlaces 
 unfolding outcome
 only-records f k o at = only-places outcome (λ n p. refl) (chooses-record f k at .chosen)
 
-only-hello : (o : List ℕ) → OnlyPlaces o (λ ρ. readHelloBy ρ o) (readHello o)
+only-hello : (f : Family) (path : Path) (o : List ℕ) → OnlyPlaces o (λ ρ. readHelloBy ρ f path o) (readHello f path o)
 unfolding readHelloBy readHello helloBodyBy helloBody helloOptions from outcome _>>=_
-only-hello o = go (header o)
+only-hello f path o = go (header f path o)
   where
     go : (h : Outcome Kind) → OnlyPlaces o (λ ρ. h >>= (λ k. helloBodyBy ρ k o)) (h >>= (λ k. helloBody k o))
     go (gives Hello) = only-places (λ x. outcome x >>= (λ s. gives (helloOf s))) (λ n p. refl) (chooses-options (length o) nothing 4 .chosen)
@@ -122,7 +123,7 @@ e3 = record {
   hellos = only-hello;
   attributes = only-attributes;
   merges = only-merging;
-  assertsLent = λ ρ f o d. same-asserts f o d ρ;
-  pairsLent = λ ρ f o d. same-pairs f o d ρ;
+  assertsLent = λ ρ f path o d. same-asserts f path o d ρ;
+  pairsLent = λ ρ f path o d. same-pairs f path o d ρ;
   mergesLent = λ ρ own e o d. same-merging own e o d ρ;
 }

@@ -20,6 +20,7 @@ use Rattle.format.specs.Unpacking.{Unpacked, unpacked}
 use Rattle.format.specs.Reading.{ReadingCall, reading, readAsserts, readPairs}
 use Rattle.format.specs.Writing.{WritingCall, intoBuffer}
 use Rattle.format.specs.declared.Kind.{Kind}
+use Rattle.format.specs.declared.Path.{Path}
 use Rattle.format.specs.declared.Kind.the-variants.{Hello, Assert, Simple, Aggregated, NullRegister, RegisterStop}
 use Rattle.hello.specs.Options.{nothing}
 use Rattle.hello.specs.Hello.{Hello as HelloSaid, helloOf, readHello}
@@ -30,17 +31,17 @@ use Rattle.places.specs.Rules.{Rule, byField, placed, assertsBodyBy, pai
 
 -- ---- the calls, by a rule
 
-unfoldable pub unpackBy : {A : Type 0} → (Kind → Reader (List A)) → List ℕ → Outcome (Unpacked A)
-unpackBy body o = do
-  k ← header o
+unfoldable pub unpackBy : {A : Type 0} → (Kind → Reader (List A)) → Family → Path → List ℕ → Outcome (Unpacked A)
+unpackBy body f path o = do
+  k ← header f path o
   es ← from 4 (body k) o
   gives (unpacked k es)
 
-unfoldable pub readAssertsBy : Rule → Family → List ℕ → List ℕ → ReadingCall
-readAssertsBy ρ f o d = reading (assertEntries f) (unpackBy (assertsBodyBy ρ f) o) d
+unfoldable pub readAssertsBy : Rule → Family → Path → List ℕ → List ℕ → ReadingCall
+readAssertsBy ρ f path o d = reading (assertEntries f) (unpackBy (assertsBodyBy ρ f) f path o) d
 
-unfoldable pub readPairsBy : Rule → Family → List ℕ → List ℕ → ReadingCall
-readPairsBy ρ f o d = reading (pairEntries f false) (unpackBy (pairsBodyBy ρ f) o) d
+unfoldable pub readPairsBy : Rule → Family → Path → List ℕ → List ℕ → ReadingCall
+readPairsBy ρ f path o d = reading (pairEntries f false) (unpackBy (pairsBodyBy ρ f) f path o) d
 
 unfoldable pub helloBodyBy : Rule → Kind → List ℕ → Outcome HelloSaid
 helloBodyBy ρ Hello o = do
@@ -52,9 +53,9 @@ helloBodyBy ρ Aggregated o = refuses 4 0
 helloBodyBy ρ NullRegister o = refuses 4 0
 helloBodyBy ρ RegisterStop o = refuses 4 0
 
-unfoldable pub readHelloBy : Rule → List ℕ → Outcome HelloSaid
-readHelloBy ρ o = do
-  k ← header o
+unfoldable pub readHelloBy : Rule → Family → Path → List ℕ → Outcome HelloSaid
+readHelloBy ρ f path o = do
+  k ← header f path o
   helloBodyBy ρ k o
 
 unfoldable pub mergingBy : Rule → Own → Bool → List ℕ → List ℕ → WritingCall
@@ -88,13 +89,13 @@ pub record OnlyPlaces {A : Type 0} (o : List ℕ) (call : Rule → Outcome A) (n
   pub stands : call byField ≡ now
 
 pub record E3 : Type 0 where
-  pub asserts : (f : Family) (o d : List ℕ) → OnlyPlaces o (λ ρ. readAssertsBy ρ f o d .answer) (readAsserts f o d .answer)
-  pub pairs : (f : Family) (o d : List ℕ) → OnlyPlaces o (λ ρ. readPairsBy ρ f o d .answer) (readPairs f o d .answer)
+  pub asserts : (f : Family) (path : Path) (o d : List ℕ) → OnlyPlaces o (λ ρ. readAssertsBy ρ f path o d .answer) (readAsserts f path o d .answer)
+  pub pairs : (f : Family) (path : Path) (o d : List ℕ) → OnlyPlaces o (λ ρ. readPairsBy ρ f path o d .answer) (readPairs f path o d .answer)
   pub records : (f : Family) (k : Kind) (o : List ℕ) (at : ℕ) → OnlyPlaces o (λ ρ. outcome (recordAtBy ρ f k o at)) (outcome (recordAt f k o at))
-  pub hellos : (o : List ℕ) → OnlyPlaces o (λ ρ. readHelloBy ρ o) (readHello o)
+  pub hellos : (f : Family) (path : Path) (o : List ℕ) → OnlyPlaces o (λ ρ. readHelloBy ρ f path o) (readHello f path o)
   pub attributes : (o : List ℕ) (at : ℕ) → OnlyPlaces o (λ ρ. outcome (placed ρ attribute o at)) (outcome (attribute o at))
   pub merges : (own : Own) (e : Bool) (o d : List ℕ) → OnlyPlaces o (λ ρ. mergingBy ρ own e o d .answer) (merging own e o d .answer)
   -- the lent memory
-  pub assertsLent : (ρ : Rule) (f : Family) (o d : List ℕ) → readAssertsBy ρ f o d .lent ≡ readAsserts f o d .lent
-  pub pairsLent : (ρ : Rule) (f : Family) (o d : List ℕ) → readPairsBy ρ f o d .lent ≡ readPairs f o d .lent
+  pub assertsLent : (ρ : Rule) (f : Family) (path : Path) (o d : List ℕ) → readAssertsBy ρ f path o d .lent ≡ readAsserts f path o d .lent
+  pub pairsLent : (ρ : Rule) (f : Family) (path : Path) (o d : List ℕ) → readPairsBy ρ f path o d .lent ≡ readPairs f path o d .lent
   pub mergesLent : (ρ : Rule) (own : Own) (e : Bool) (o d : List ℕ) → mergingBy ρ own e o d .buffer ≡ merging own e o d .buffer

@@ -19,6 +19,7 @@ use Rattle.octets.specs.Octets.{Octets}
 use Rattle.records.specs.Every.{Every}
 use Rattle.format.specs.Outcome.{Outcome, gives, refuses, refuseIf, _>>=_, _>>_}
 use Rattle.format.specs.Family.{ipv4}
+use Rattle.format.specs.Path.{nowhere}
 use Rattle.format.specs.Header.{header}
 use Rattle.format.specs.Record.{each}
 use Rattle.format.specs.Entry.{Entries, assertEntries, pairEntries}
@@ -58,15 +59,15 @@ enough E m call (gives (unpacked k es)) is e = record {
 }
 enough E m call (refuses n p) is e = record { room = 0; same = λ d h. ap (λ (c : ReadingCall). c .answer) (is d) ∙ e }
 
-asserts-call : (m : List ℕ) → unpackAsserts ipv4 m >>= entriesIn ≡ judged m → Enough (readAsserts ipv4 m) m
+asserts-call : (m : List ℕ) → unpackAsserts ipv4 nowhere m >>= entriesIn ≡ judged m → Enough (readAsserts ipv4 nowhere m) m
 unfolding readAsserts
-asserts-call m e = enough (assertEntries ipv4) m (readAsserts ipv4 m) (unpackAsserts ipv4 m) (λ d. refl) e
+asserts-call m e = enough (assertEntries ipv4) m (readAsserts ipv4 nowhere m) (unpackAsserts ipv4 nowhere m) (λ d. refl) e
 
-pairs-call : (m : List ℕ) → unpackPairs ipv4 m >>= entriesIn ≡ judged m → Enough (readPairs ipv4 m) m
+pairs-call : (m : List ℕ) → unpackPairs ipv4 nowhere m >>= entriesIn ≡ judged m → Enough (readPairs ipv4 nowhere m) m
 unfolding readPairs
-pairs-call m e = enough (pairEntries ipv4 false) m (readPairs ipv4 m) (unpackPairs ipv4 m) (λ d. refl) e
+pairs-call m e = enough (pairEntries ipv4 false) m (readPairs ipv4 nowhere m) (unpackPairs ipv4 nowhere m) (λ d. refl) e
 
-by-call : (m : List ℕ) (k : Kind) → header m ≡ gives k → ByItsCall m k
+by-call : (m : List ℕ) (k : Kind) → header ipv4 nowhere m ≡ gives k → ByItsCall m k
 unfolding judgedAs heardOf
 by-call m Hello h = sym (judged-kind m Hello h)
 by-call m Assert h = asserts-call m (sym (judged-kind m Assert h))

@@ -14,6 +14,7 @@ use lib.ListN.{length}
 use Rattle.format.specs.Outcome.{Outcome, gives, refuses, _>>=_, _>>_}
 use Rattle.format.specs.Reader.{Read, Reader, got, bad, from, outcome}
 use Rattle.format.specs.Family.{ipv4}
+use Rattle.format.specs.Path.{nowhere}
 use Rattle.format.specs.Header.{header}
 use Rattle.format.specs.Body.{assertsBody, pairsBody}
 use Rattle.format.specs.Unpacking.{unpacked, unpackAsserts, unpackPairs}
@@ -32,15 +33,15 @@ unfolding countOf tallied outcome _>>=_ entriesIn
 by-entries k (got es next) = refl
 by-entries k (bad n p) = refl
 
-pub by-asserts : (k : Kind) (m : List ℕ) {c : Read ℕ} → header m ≡ gives k → c ≡ tallied length (assertsBody ipv4 k m 4) → countOf k c ≡ unpackAsserts ipv4 m >>= entriesIn
+pub by-asserts : (k : Kind) (m : List ℕ) {c : Read ℕ} → header ipv4 nowhere m ≡ gives k → c ≡ tallied length (assertsBody ipv4 k m 4) → countOf k c ≡ unpackAsserts ipv4 nowhere m >>= entriesIn
 unfolding unpackAsserts _>>=_ from
 by-asserts k m h e = rw (e, h) (by-entries k (assertsBody ipv4 k m 4))
 
-pub by-pairs : (k : Kind) (m : List ℕ) {c : Read ℕ} → header m ≡ gives k → c ≡ tallied length (pairsBody ipv4 k m 4) → countOf k c ≡ unpackPairs ipv4 m >>= entriesIn
+pub by-pairs : (k : Kind) (m : List ℕ) {c : Read ℕ} → header ipv4 nowhere m ≡ gives k → c ≡ tallied length (pairsBody ipv4 k m 4) → countOf k c ≡ unpackPairs ipv4 nowhere m >>= entriesIn
 unfolding unpackPairs _>>=_ from
 by-pairs k m h e = rw (e, h) (by-entries k (pairsBody ipv4 k m 4))
 
-pub by-said : (m : List ℕ) → header m ≡ gives Hello → heardOf (helloOptions m) ≡ judgedAs Hello m
+pub by-said : (m : List ℕ) → header ipv4 nowhere m ≡ gives Hello → heardOf (helloOptions m) ≡ judgedAs Hello m
 unfolding heardOf judgedAs readHello _>>=_ helloBody
 by-said m h = rw h refl
 
@@ -49,15 +50,15 @@ unfolding heardOf _>>_
 heard-fine (gives h) = refl
 heard-fine (refuses n p) = refl
 
-pub by-checked : (m : List ℕ) → header m ≡ gives Hello → heardOf (optionsFine m) ≡ judgedAs Hello m
+pub by-checked : (m : List ℕ) → header ipv4 nowhere m ≡ gives Hello → heardOf (optionsFine m) ≡ judgedAs Hello m
 unfolding optionsFine
 by-checked m h = heard-fine (helloOptions m) ∙ by-said m h
 
-pub judged-kind : (m : List ℕ) (k : Kind) → header m ≡ gives k → judged m ≡ judgedAs k m
+pub judged-kind : (m : List ℕ) (k : Kind) → header ipv4 nowhere m ≡ gives k → judged m ≡ judgedAs k m
 unfolding judged _>>=_
 judged-kind m k h = rw h refl
 
-pub judged-none : (m : List ℕ) (n p : ℕ) → header m ≡ refuses n p → judged m ≡ refuses n p
+pub judged-none : (m : List ℕ) (n p : ℕ) → header ipv4 nowhere m ≡ refuses n p → judged m ≡ refuses n p
 unfolding judged _>>=_
 judged-none m n p h = rw h refl
 
@@ -77,17 +78,17 @@ unfolding heardOf _>>_
 few-heard most (gives a) = omega arith
 few-heard most (refuses n p) = tt
 
-module _ (m : List ℕ) (k : Kind) (h : header m ≡ gives k) where
+module _ (m : List ℕ) (k : Kind) (h : header ipv4 nowhere m ≡ gives k) where
   room : 4 ≤ length m
-  room = header-room m k h .0
+  room = header-room ipv4 nowhere m k h .0
 
-  asserts-few : FewIn (length m) (unpackAsserts ipv4 m >>= entriesIn)
+  asserts-few : FewIn (length m) (unpackAsserts ipv4 nowhere m >>= entriesIn)
   asserts-few = subst (FewIn (length m)) (by-asserts k m h refl) (few-counted k (length m) _ (few-asserts ipv4 m room k))
 
-  pairs-few : FewIn (length m) (unpackPairs ipv4 m >>= entriesIn)
+  pairs-few : FewIn (length m) (unpackPairs ipv4 nowhere m >>= entriesIn)
   pairs-few = subst (FewIn (length m)) (by-pairs k m h refl) (few-counted k (length m) _ (few-pairs ipv4 m room k))
 
-few-as : (m : List ℕ) (k : Kind) → header m ≡ gives k → FewIn (length m) (judgedAs k m)
+few-as : (m : List ℕ) (k : Kind) → header ipv4 nowhere m ≡ gives k → FewIn (length m) (judgedAs k m)
 unfolding judgedAs
 few-as m Hello h = subst (FewIn (length m)) (by-said m h) (few-heard (length m) (helloOptions m))
 few-as m Assert h = asserts-few m Assert h
@@ -97,8 +98,8 @@ few-as m NullRegister h = pairs-few m NullRegister h
 few-as m RegisterStop h = pairs-few m RegisterStop h
 
 pub records-few : (m : List ℕ) → FewIn (length m) (judged m)
-records-few m = go (header m) refl
+records-few m = go (header ipv4 nowhere m) refl
   where
-    go : (x : Outcome Kind) → header m ≡ x → FewIn (length m) (judged m)
+    go : (x : Outcome Kind) → header ipv4 nowhere m ≡ x → FewIn (length m) (judged m)
     go (gives k) e = subst (FewIn (length m)) (sym (judged-kind m k e)) (few-as m k e)
     go (refuses n p) e = subst (FewIn (length m)) (sym (judged-none m n p e)) tt

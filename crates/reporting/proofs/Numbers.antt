@@ -13,14 +13,14 @@ use Rattle.format.specs.Outcome.{Outcome, gives, refuses, refuseIf, _>>=_ as _a
 use Rattle.format.specs.Reader.{Read, got, bad, Reader, continue, _>>=_, _>>_, give, here, octets, number, must, refuse, times, toEnd, records, nothingMore, outcome, from}
 use Rattle.format.specs.Family.{Family, ipv4}
 use Rattle.format.specs.Address.{groupField, sourceField}
-use Rattle.format.specs.Header.{header, kindOf, registerKind, shortest, longest}
+use Rattle.format.specs.Path.{nowhere}
+use Rattle.format.specs.Header.{sums, header, kindOf, registerKind, shortest, longest}
 use Rattle.format.specs.Record.{assertRecord, pairRecord, positive, groupRecord, sourceAggregated, rpAggregated, aggregatedRecord}
 use Rattle.format.specs.Body.{zeroReserved, assertsBody, pairsBody}
 use Rattle.format.specs.Unpacking.{Unpacked, unpacked, unpackAsserts, unpackPairs}
 use Rattle.format.specs.Reading.{Found, found}
 use Rattle.format.specs.declared.Kind.{Kind}
 use Rattle.format.specs.declared.Kind.the-variants.{Hello, Assert, Simple, Aggregated, NullRegister, RegisterStop}
-use Rattle.checksum.specs.Sum.{holds}
 use Rattle.hello.specs.Options.{Said, nothing, optionValue, option, options}
 use Rattle.hello.specs.Hello.{Hello as HelloSaid, helloOptions, helloBody, readHello}
 use Rattle.reporting.specs.Judging.{entriesIn, judgedAs, judged}
@@ -248,12 +248,12 @@ ruled-kind : (t x : ℕ) → Ruled (kindOf t x)
 unfolding kindOf registerKind ofMessage
 ruled-kind t x = ruled-cond (eqb t 0) accepted (ruled-cond (eqb t 5) accepted (ruled-cond (eqb t 13) (ruled-cond (eqb (x / 16) 0) accepted (ruled-cond (eqb (x / 16) 1) accepted (refused refl))) (refused refl)))
 
-ruled-header : (m : List ℕ) → Ruled (header m)
+ruled-header : (m : List ℕ) → Ruled (header ipv4 nowhere m)
 unfolding header ofMessage
 ruled-header m =
     ruled-then _ _ (ruled-unless (ltb (length m) shortest || ltb longest (length m)) 1 0 refl) (
     ruled-then _ _ (ruled-unless _ 2 0 refl) (
-    ruled-then _ _ (ruled-unless (not (holds m)) 3 0 refl) (
+    ruled-then _ _ (ruled-unless (not (sums ipv4 nowhere m)) 3 0 refl) (
     ruled-kind _ _)))
 
 ruled-entries : {A : Type 0} (u : Unpacked A) → Ruled (entriesIn u)
@@ -261,12 +261,12 @@ unfolding entriesIn
 ruled-entries (unpacked k es) = accepted
 
 module _ (m : List ℕ) where
-  ruled-asserts : Ruled (unpackAsserts ipv4 m andThen entriesIn)
+  ruled-asserts : Ruled (unpackAsserts ipv4 nowhere m andThen entriesIn)
   unfolding unpackAsserts from
   ruled-asserts =
       ruled-bind _ _ (ruled-bind _ _ (ruled-header m) (λ k. ruled-bind _ _ (ruled-from _ (numbers-asserts ipv4 k .all m 4)) (λ es. accepted))) ruled-entries
 
-  ruled-pairs : Ruled (unpackPairs ipv4 m andThen entriesIn)
+  ruled-pairs : Ruled (unpackPairs ipv4 nowhere m andThen entriesIn)
   unfolding unpackPairs from
   ruled-pairs =
       ruled-bind _ _ (ruled-bind _ _ (ruled-header m) (λ k. ruled-bind _ _ (ruled-from _ (numbers-pairs ipv4 k .all m 4)) (λ es. accepted))) ruled-entries

@@ -18,6 +18,7 @@ use Rattle.octets.specs.Octets.{Octets}
 use Rattle.records.specs.Every.{Every}
 use Rattle.format.specs.Outcome.{gives, refuses}
 use Rattle.format.specs.Family.{ipv4}
+use Rattle.format.specs.Path.{nowhere}
 use Rattle.format.specs.Header.{header}
 use Rattle.format.specs.Record.{each}
 use Rattle.format.specs.Reading.{ReadingCall, readAsserts, readPairs}
@@ -50,12 +51,12 @@ pub record Enough (call : List ℕ → ReadingCall) (m : List ℕ) : Type 0 wher
 
 -- the reading call of each kind; that of a Hello takes no room, and a Hello has no records
 abbrev pub ByItsCall : List ℕ → Kind → Type 0
-ByItsCall m Hello = heardOf (readHello m) ≡ judged m
-ByItsCall m Assert = Enough (readAsserts ipv4 m) m
-ByItsCall m Simple = Enough (readAsserts ipv4 m) m
-ByItsCall m Aggregated = Enough (readAsserts ipv4 m) m
-ByItsCall m NullRegister = Enough (readPairs ipv4 m) m
-ByItsCall m RegisterStop = Enough (readPairs ipv4 m) m
+ByItsCall m Hello = heardOf (readHello ipv4 nowhere m) ≡ judged m
+ByItsCall m Assert = Enough (readAsserts ipv4 nowhere m) m
+ByItsCall m Simple = Enough (readAsserts ipv4 nowhere m) m
+ByItsCall m Aggregated = Enough (readAsserts ipv4 nowhere m) m
+ByItsCall m NullRegister = Enough (readPairs ipv4 nowhere m) m
+ByItsCall m RegisterStop = Enough (readPairs ipv4 nowhere m) m
 
 -- ---- sums
 
@@ -115,8 +116,8 @@ pub record Mean (r : Report) : Type 0 where
 
 pub record E4 : Type 0 where
   -- a message that the header refuses, and one of a kind
-  pub byHeader : (m : List ℕ) (n p : ℕ) → header m ≡ refuses n p → judged m ≡ refuses n p
-  pub byCall : (m : List ℕ) (k : Kind) → header m ≡ gives k → ByItsCall m k
+  pub byHeader : (m : List ℕ) (n p : ℕ) → header ipv4 nowhere m ≡ refuses n p → judged m ≡ refuses n p
+  pub byCall : (m : List ℕ) (k : Kind) → header ipv4 nowhere m ≡ gives k → ByItsCall m k
   -- "bad messages are counted under 01's numbers, never 8"
   pub numbered : (c : ReportCall) → Reports c → (n : ℕ) → ofMessage n ≡ false → getD (c .answer .tally .refused) n 0 ≡ 0
   -- "accepted plus refused equals the whole messages in the file"

@@ -8,6 +8,7 @@ use mathlib.Core.List.{List}
 use lib.ListN.{length}
 use Rattle.format.specs.Outcome.{Outcome, gives, _>>=_, _>>_}
 use Rattle.format.specs.Family.{ipv4}
+use Rattle.format.specs.Path.{nowhere}
 use Rattle.format.specs.Header.{header}
 use Rattle.format.specs.Unpacking.{Unpacked, unpacked, unpackAsserts, unpackPairs}
 use Rattle.format.specs.Reading.{Found, found}
@@ -22,15 +23,15 @@ entriesIn (unpacked k es) = gives (found k (length es))
 -- "a Hello's none"
 unfoldable pub judgedAs : Kind → List ℕ → Outcome Found
 judgedAs Hello m = do
-  readHello m
+  readHello ipv4 nowhere m
   gives (found Hello 0)
-judgedAs Assert m = unpackAsserts ipv4 m >>= entriesIn
-judgedAs Simple m = unpackAsserts ipv4 m >>= entriesIn
-judgedAs Aggregated m = unpackAsserts ipv4 m >>= entriesIn
-judgedAs NullRegister m = unpackPairs ipv4 m >>= entriesIn
-judgedAs RegisterStop m = unpackPairs ipv4 m >>= entriesIn
+judgedAs Assert m = unpackAsserts ipv4 nowhere m >>= entriesIn
+judgedAs Simple m = unpackAsserts ipv4 nowhere m >>= entriesIn
+judgedAs Aggregated m = unpackAsserts ipv4 nowhere m >>= entriesIn
+judgedAs NullRegister m = unpackPairs ipv4 nowhere m >>= entriesIn
+judgedAs RegisterStop m = unpackPairs ipv4 nowhere m >>= entriesIn
 
 unfoldable pub judged : List ℕ → Outcome Found
 judged m = do
-  k ← header m
+  k ← header ipv4 nowhere m
   judgedAs k m

@@ -5,12 +5,15 @@ use counting::count_asserts;
 use counting::count_pairs;
 use format::Kind;
 use format::Refusal;
+use format::nowhere;
 use headers::Headed;
 use headers::header;
 use hello::OptionsChecked;
 use hello::check_options;
 ghost use mathlib.Core.Path.{_≡_};
 ghost use Rattle.format.specs.Outcome.{gives};
+ghost use Rattle.format.specs.Path.{nowhere};
+ghost use Rattle.format.specs.Family.{ipv4};
 ghost use Rattle.format.specs.Header.{header as headerOf};
 ghost use Rattle.hello.specs.Answers.{checked};
 ghost use Rattle.counting.specs.Counts.{counted};
@@ -50,7 +53,7 @@ fn by_options(h: OptionsChecked) -> Verdict
 
 // A message of the kind that its header names.
 fn judged_as(kind: Kind, m: &[u8]) -> Verdict
-    ensures { λ r. ⌜ (headerOf (now (m .entry)) ≡ gives kind → judgedBy r ≡ judgedAs kind (now (m .entry))) ⌝ }
+    ensures { λ r. ⌜ (headerOf ipv4 nowhere (now (m .entry)) ≡ gives kind → judgedBy r ≡ judgedAs kind (now (m .entry))) ⌝ }
 {
     match kind {
         Kind::Hello => by_options(check_options(m)),
@@ -65,7 +68,7 @@ fn judged_as(kind: Kind, m: &[u8]) -> Verdict
 pub(crate) fn judged(m: &[u8]) -> Verdict
     ensures { λ r. ⌜ judgedBy r ≡ judged (now (m .entry)) ⌝ }
 {
-    let h = header(m);
+    let h = header(false, nowhere(), m);
     match h {
         Headed::Refused(refusal) => Verdict::Refused(refusal),
         Headed::Is(kind) => judged_as(kind, m),

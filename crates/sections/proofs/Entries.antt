@@ -7,14 +7,14 @@ use mathlib.Core.Path.{_≡_, refl, sym, ap, _∙_}
 use mathlib.Core.Bool.{Bool, true, false, not, cond}
 use mathlib.Core.List.{List}
 use Prim.Native.Nat.{ℕ, zero, suc, _+_, _-_, _*_, _≤_, _<_}
-use native.Mathlib.Nat.{mul-suc, mul-zero, mul-le-mul-left, mul-div-cancel-left}
+use native.Mathlib.Nat.{add-assoc, mul-suc, mul-zero, mul-le-mul-left, mul-div-cancel-left}
 use native.Mathlib.Omega.{arith}
 use lib.ListN.{length, take, drop, length-drop}
 use lib.Seq.{length-take-le}
 use Rattle.octets.proofs.Laws.{number-part}
 use Rattle.format.specs.Outcome.{Outcome, gives, refuses, refuseIf, _>>_}
 use Rattle.format.specs.Family.{Family, familyOf}
-use Rattle.format.specs.Entry.{Entries, assertAt, pairAt, count, allowedAssert, allowedPair}
+use Rattle.format.specs.Entry.{Entries, frontSize, hasFront, assertAt, pairAt, count}
 use Rattle.format.specs.Packing.{firstBadAt, firstBad}
 use Rattle.format.specs.declared.Kind.{Kind}
 use Rattle.format.proofs.Outcomes.{no-refusal}
@@ -27,6 +27,10 @@ use Rattle.sections.specs.Checking.{fault, checkEntries}
 -- ---- a part
 
 module _ (o : List ℕ) (from n : ℕ) (there : from + n ≤ length o) where
+  front-part : (f : Family) (at : ℕ) → at + frontSize f ≤ n → hasFront f (take n (drop from o)) at ≡ hasFront f o (from + at)
+  unfolding hasFront
+  front-part f at h = rw (number-part o from n there (frontSize f) at (from + at) refl (omega arith))
+
   assert-part : (f : Family) (at : ℕ) → at + (2 * f .width + 8) ≤ n → assertAt f (take n (drop from o)) at ≡ assertAt f o (from + at)
   unfolding assertAt
   assert-part f at h =
@@ -47,8 +51,10 @@ module _ (o : List ℕ) (from n : ℕ) (there : from + n ≤ length o) where
 
   pub allowed-part : (f : Family) (asserts stop : Bool) (at : ℕ) → at + entriesBy f asserts stop .size ≤ n
       → entriesBy f asserts stop .allowedAt (take n (drop from o)) at ≡ entriesBy f asserts stop .allowedAt o (from + at)
-  allowed-part f true stop at h = ap (allowedAssert _) (assert-part f at h)
-  allowed-part f false stop at h = ap (allowedPair _ _) (pair-part f at h)
+  allowed-part f true stop at h =
+      rw (front-part f at (omega arith), assert-part f (at + frontSize f) (omega arith), add-assoc from at (frontSize f))
+  allowed-part f false stop at h =
+      rw (front-part f at (omega arith), pair-part f (at + frontSize f) (omega arith), add-assoc from at (frontSize f))
 
 -- ---- the first bad entry
 

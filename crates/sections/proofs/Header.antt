@@ -52,7 +52,7 @@ unfolding countsIn
 counts-are L o ex ey ez = rw (ex, ey, ez) refl
 
 -- no product of a size and a count is past 64 bits
-pub few : (size n : ℕ) → size ≤ 40 → n ≤ 8192 → size * n ≤ 327680
+pub few : (size n : ℕ) → size ≤ 44 → n ≤ 8192 → size * n ≤ 360448
 few size n h g = omega (arith, mul-le-mul-left size g)
 
 -- ---- the places of the sections

@@ -19,7 +19,7 @@ use Rattle.octets.specs.Octets.{Octets, numberAt, value, be, put}
 use Rattle.octets.proofs.Laws.{number-split}
 use Rattle.format.specs.Outcome.{Outcome, gives, refuses, refuseIf, _>>=_, _>>_}
 use Rattle.format.specs.Family.{Family, ipv4, mayBeSource}
-use Rattle.format.specs.Entry.{assertAt, pairAt, allowedAssert, allowedPair}
+use Rattle.format.specs.Entry.{hasFront, assertAt, pairAt, allowedAssert, allowedPair}
 use Rattle.format.proofs.Outcomes.{no-refusal, bind-gives, then-gives}
 use Rattle.format.proofs.Lengths.{number}
 use Rattle.neighbours.specs.Rows.{allowed, has}
@@ -181,7 +181,7 @@ pub old-octets : Octets old-sheet
 old-octets = number 48 _ .below
 
 pub old-checks : checkBefore old-sheet ≡ gives old-counts
-unfolding checkBefore headerBefore countsBefore allowedBefore offsetsBefore checkEntries checkRows rowFits rowForm rowAt flagsAt assertAt pairAt allowedAssert allowedPair mayBeSource allowed has fault numberAt value be refuseIf _>>=_ _>>_
+unfolding checkBefore headerBefore countsBefore allowedBefore offsetsBefore checkEntries checkRows rowFits rowForm rowAt flagsAt hasFront assertAt pairAt allowedAssert allowedPair mayBeSource allowed has fault numberAt value be refuseIf _>>=_ _>>_
 old-checks = refl
 
 pub old-reads : (da dp : List ℕ) → 16 ≤ length da → 8 ≤ length dp → readBefore old-sheet da dp .answer ≡ gives old-counts

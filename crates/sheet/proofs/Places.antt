@@ -9,7 +9,8 @@ use Prim.Native.Nat.{ℕ, zero, suc, _+_, _*_, _^_, _≤_, _<_}
 use native.Mathlib.Nat.{mul-suc}
 use native.Mathlib.Omega.{arith}
 use mathlib.Core.Path.{_≡_, refl, sym, ap, _∙_}
-use mathlib.Core.Bool.{true, not}
+use mathlib.Core.Bool.{true, not, _&&_}
+use lib.Dec.{eqb}
 use mathlib.Core.List.{List, _++_}
 use borrow.Author.Tests.{not-false}
 use lib.ListN.{length, take, drop, length-drop, take-append-drop}
@@ -18,7 +19,7 @@ use Rattle.octets.specs.Octets.{Octets, numberAt, value, be}
 use Rattle.octets.proofs.Laws.{length-be, value-be, be-value, octets-take, octets-drop}
 use Rattle.format.specs.Outcome.{gives, refuseIf, _>>_}
 use Rattle.format.specs.Family.{Family}
-use Rattle.format.specs.Entry.{Entries, assertAt, pairAt, allowedAssert, allowedPair, AllAllowed}
+use Rattle.format.specs.Entry.{Entries, frontSize, hasFront, assertAt, pairAt, allowedAssert, allowedPair, AllAllowed}
 use Rattle.format.proofs.Outcomes.{unless-gives}
 use Rattle.format.proofs.Readers.{At, at-right}
 use Rattle.records.specs.Records.{assert, pair}
@@ -57,25 +58,29 @@ pub record Local (E : Entries) : Type 0 where
       → E .allowedAt o p ≡ E .allowedAt e j
 
 pub pairs-local : (f : Family) → Local (pairsIn f)
-unfolding pairAt
+unfolding hasFront pairAt
 pairs-local f = record {
   same = λ {o} {at} e h j {p} q fits.
       let w : ℕ = f .width in
-      let a : numberAt w o p ≡ numberAt w e j = number-inside e h j w q (omega arith) in
-      let b : numberAt w o (p + w) ≡ numberAt w e (j + w) = number-inside e h (j + w) w (omega arith) (omega arith) in
-      λ i. allowedPair f true (pair (a i) (b i));
+      let n : ℕ = frontSize f in
+      let z : numberAt n o p ≡ numberAt n e j = number-inside e h j n q (omega arith) in
+      let a : numberAt w o (p + n) ≡ numberAt w e (j + n) = number-inside e h (j + n) w (omega arith) (omega arith) in
+      let b : numberAt w o (p + n + w) ≡ numberAt w e (j + n + w) = number-inside e h (j + n + w) w (omega arith) (omega arith) in
+      λ i. eqb (z i) (value (f .front)) && allowedPair f true (pair (a i) (b i));
 }
 
 pub asserts-local : (f : Family) → Local (assertsIn f)
-unfolding assertAt
+unfolding hasFront assertAt
 asserts-local f = record {
   same = λ {o} {at} e h j {p} q fits.
       let w : ℕ = f .width in
-      let a : numberAt w o p ≡ numberAt w e j = number-inside e h j w q (omega arith) in
-      let b : numberAt w o (p + w) ≡ numberAt w e (j + w) = number-inside e h (j + w) w (omega arith) (omega arith) in
-      let c : numberAt 4 o (p + 2 * w) ≡ numberAt 4 e (j + 2 * w) = number-inside e h (j + 2 * w) 4 (omega arith) (omega arith) in
-      let d : numberAt 4 o (p + 2 * w + 4) ≡ numberAt 4 e (j + 2 * w + 4) = number-inside e h (j + 2 * w + 4) 4 (omega arith) (omega arith) in
-      λ i. allowedAssert f (assert (a i) (b i) (c i) (d i));
+      let n : ℕ = frontSize f in
+      let z : numberAt n o p ≡ numberAt n e j = number-inside e h j n q (omega arith) in
+      let a : numberAt w o (p + n) ≡ numberAt w e (j + n) = number-inside e h (j + n) w (omega arith) (omega arith) in
+      let b : numberAt w o (p + n + w) ≡ numberAt w e (j + n + w) = number-inside e h (j + n + w) w (omega arith) (omega arith) in
+      let c : numberAt 4 o (p + n + 2 * w) ≡ numberAt 4 e (j + n + 2 * w) = number-inside e h (j + n + 2 * w) 4 (omega arith) (omega arith) in
+      let d : numberAt 4 o (p + n + 2 * w + 4) ≡ numberAt 4 e (j + n + 2 * w + 4) = number-inside e h (j + n + 2 * w + 4) 4 (omega arith) (omega arith) in
+      λ i. eqb (z i) (value (f .front)) && allowedAssert f (assert (a i) (b i) (c i) (d i));
 }
 
 module _ (E : Entries) (loc : Local E) {o : List ℕ} {at : ℕ} (e : List ℕ) (h : At o at e) where

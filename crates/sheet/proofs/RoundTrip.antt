@@ -24,7 +24,7 @@ use Rattle.records.specs.Every.{Every}
 use Rattle.format.specs.Outcome
 use Rattle.format.specs.Outcome.{Outcome, gives, refuses, refuseIf, _>>=_, _>>_}
 use Rattle.format.specs.Family.{Family, ipv4, mayBeSource}
-use Rattle.format.specs.Entry.{count, whole, assertAt, pairAt, allowedAssert, allowedPair}
+use Rattle.format.specs.Entry.{count, whole, hasFront, assertAt, pairAt, allowedAssert, allowedPair}
 use Rattle.format.specs.Packing.{firstBadAt, firstBad}
 use Rattle.format.specs.Record.{each}
 use Rattle.format.specs.Writing.{WritingCall, intoBuffer}
@@ -262,7 +262,7 @@ some-sheet =
 
 -- buffers of 64 octets or more
 pub some-written : (d : List ℕ) → 64 ≤ length d → some-writing d .answer ≡ gives 64
-unfolding writing intoBuffer asked whole count countsAllowed countsOf contentsOf sheetOctets headerOctets pairsFrom rowsFrom rowOctets each be valid sheetRows allowed has allZero isZero noRow tableOf firstBadAt firstBad assertAt pairAt numberAt value allowedAssert allowedPair mayBeSource atZero refuseIf Outcome._>>_
+unfolding writing intoBuffer asked whole count countsAllowed countsOf contentsOf sheetOctets headerOctets pairsFrom rowsFrom rowOctets each be valid sheetRows allowed has allZero isZero noRow tableOf firstBadAt firstBad hasFront assertAt pairAt numberAt value allowedAssert allowedPair mayBeSource atZero refuseIf Outcome._>>_
 some-written d room = rw (le-ltb (length d) 64 room)
 
 module _ (d : List ℕ) (room : 64 ≤ length d) where

@@ -19,17 +19,17 @@ allowed : (c : tie.Else1) → countsAllowed (layoutOf (c .before .before .args .
 allowed c = sym (c .before .counts-allowed .ensures) ∙ not-false _ (c .if1 .left)
 
 -- the octets of the asserts, of the pairs and of the rows
-first : (c : tie.After-struct-known) → c .before .entry-size .result * c .before .before .before .before .before .args .c .asserts ≤ 327680
+first : (c : tie.After-struct-known) → c .before .entry-size .result * c .before .before .before .before .before .args .c .asserts ≤ 360448
 first c =
     let a = c .before .before .before .before .before .args in
     few _ _ (omega (arith, c .before .entry-size .ensures, size-range (a .ipv6) Simple)) (few-entries (a .form) (a .c) (allowed (c .before .before .before)) .0)
 
-second : (c : tie.After-struct-known2) → c .before .entry-size2 .result * c .before .before .before .before .before .before .before .args .c .pairs ≤ 327680
+second : (c : tie.After-struct-known2) → c .before .entry-size2 .result * c .before .before .before .before .before .before .before .args .c .pairs ≤ 360448
 second c =
     let a = c .before .before .before .before .before .before .before .args in
     few _ _ (omega (arith, c .before .entry-size2 .ensures, size-range (a .ipv6) RegisterStop)) (few-entries (a .form) (a .c) (allowed (c .before .before .before .before .before)) .1)
 
-third : (c : tie.After-struct-known3) → c .before .row-size .result * c .before .before .before .before .before .before .before .before .before .args .c .neighbours ≤ 327680
+third : (c : tie.After-struct-known3) → c .before .row-size .result * c .before .before .before .before .before .before .before .before .before .args .c .neighbours ≤ 360448
 third c =
     let a = c .before .before .before .before .before .before .before .before .before .args in
     few _ _ (omega (arith, c .before .row-size .ensures)) (omega (arith, few-entries (a .form) (a .c) (allowed (c .before .before .before .before .before .before .before)) .2))
