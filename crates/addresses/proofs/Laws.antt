@@ -10,7 +10,7 @@
 --     group-at, source-at, inner-at                whether it is a group or a source, by the octet at that place
 --     pseudo-summed, before-six, before-four       the pseudo-header summed in five parts, and what is summed before a message
 -- Assumes nothing.
-use Prim.Native.Nat.{ℕ, _+_, _*_, _/_, _^_, _<_, _≤_}
+use Prim.Native.Nat.{ℕ, _+_, _*_, _/_, _%_, _^_, _<_, _≤_}
 use native.Mathlib.Omega.{arith}
 use native.Mathlib.Nat.{add-zero, zero-div, ne-of-lt}
 use mathlib.Core.Path.{_≡_, refl, sym, ap, _∙_}
@@ -244,10 +244,20 @@ pseudo-summed p n ss ds pa pb pc pd pr =
     rw (address-before 0 sh sl (be 16 (halves dh dl) ++ (be 4 n ++ (0 ∷ 0 ∷ 0 ∷ 103 ∷ []))) ss, ← pa, ← pb)
     (rw (address-before _ dh dl (be 4 n ++ (0 ∷ 0 ∷ 0 ∷ 103 ∷ [])) ds, ← pc, ← pd, ← last-eight) pr)
 
+-- of a length the lowest four octets
+four-octets : (n : ℕ) → be 4 (n % 4294967296) ≡ be 4 n
+unfolding be
+four-octets n =
+    let a : n % 4294967296 / 16777216 % 256 ≡ n / 16777216 % 256 = omega arith in
+    let b : n % 4294967296 / 65536 % 256 ≡ n / 65536 % 256 = omega arith in
+    let c : n % 4294967296 / 256 % 256 ≡ n / 256 % 256 = omega arith in
+    let d : n % 4294967296 / 1 % 256 ≡ n / 1 % 256 = omega arith in
+    rw (a, b, c, d)
+
 -- an IPv6 message is summed after it, an IPv4 message after nothing
-pub before-six : (ipv6 : Bool) (p : Path) (n : ℕ) → ipv6 ≡ true → sum (pseudoHeader p n) ≡ before (familyOf ipv6) p n
-unfolding before
-before-six true p n e = refl
+pub before-six : (ipv6 : Bool) (p : Path) (n : ℕ) → ipv6 ≡ true → sum (pseudoHeader p (n % 4294967296)) ≡ before (familyOf ipv6) p n
+unfolding before pseudoHeader
+before-six true p n e = rw (four-octets n)
 before-six false p n e = cc
 
 pub before-four : (ipv6 : Bool) (p : Path) (n : ℕ) → ipv6 ≡ false → 0 ≡ before (familyOf ipv6) p n

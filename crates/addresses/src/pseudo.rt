@@ -3,10 +3,9 @@ use checksum::sum_number64;
 use format::Path;
 ghost use mathlib.Core.Path.{_≡_};
 ghost use Rattle.checksum.specs.Sum.{sum};
-ghost use Prim.Native.Nat.{_≤_};
 ghost use Rattle.format.specs.Family.{familyOf};
 ghost use Rattle.format.specs.Path.{pseudoHeader};
-ghost use Rattle.format.specs.Header.{longest, before};
+ghost use Rattle.format.specs.Header.{before};
 
 // The length of the message and the next header, 103, are the last eight octets.
 fn pseudo_sum(path: Path, n: u32) -> u16
@@ -19,13 +18,12 @@ fn pseudo_sum(path: Path, n: u32) -> u16
     sum_number64(d, (n as u64) * 4294967296 + 103)
 }
 
-// What is summed before a message of n octets, as long as one may be.
+// What is summed before a message of n octets. The length has four octets there.
 pub fn sum_before(ipv6: bool, path: Path, n: usize) -> u16
-    requires { ⌜ n ≤ longest ⌝ }
     ensures { λ r. ⌜ r ≡ before (familyOf ipv6) path n ⌝ }
 {
     if ipv6 {
-        return pseudo_sum(path, n as u32);
+        return pseudo_sum(path, (n % 4294967296) as u32);
     }
     0
 }

@@ -4,7 +4,7 @@
 --     body                        "The body past the header is handed back as a part of the message lent"
 --     before, sums                what is summed before a message, and whether its checksum holds
 --     message                     a message of a kind and a body, with its checksum
--- Both go by the family and by the addresses of the datagram, which in IPv6 are summed too.
+-- All but the table of kinds go by the family and by the addresses of the datagram, which in IPv6 are summed too.
 -- Assumes nothing: these are definitions.
 use Prim.Native.Nat.{ℕ, _+_, _/_, _%_}
 use mathlib.Core.Bool.{Bool, not, _||_, cond}

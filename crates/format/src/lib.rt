@@ -1,6 +1,6 @@
 // The vocabulary that the crates above share: the kinds of message with their numbers, limits, a refusal, what writing
-// octets did, the families of addresses, an address and a path of two, the two records and the R bit. What each means in octets is in specs/, and so are the theorems'
-// statements; there is hardly any code.
+// octets did, the families of addresses, an address and a path of two, the two records and the R bit. What each means in
+// octets is in specs/, and so are the theorems' statements; there is hardly any code.
 ghost use mathlib.Core.Path.{_≡_};
 ghost use Rattle.records.specs.Records.{rBit};
 ghost use Rattle.format.specs.Family.{isIpv6};

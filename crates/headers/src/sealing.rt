@@ -6,9 +6,7 @@ use format::Kind;
 use format::Path;
 use octets::write16;
 ghost use mathlib.Core.Path.{_≡_};
-ghost use Prim.Native.Nat.{_≤_};
 ghost use Rattle.format.specs.Family.{familyOf};
-ghost use Rattle.format.specs.Header.{longest};
 ghost use Rattle.headers.specs.Sealing.{firstWord, startSum, withHeader, sealed};
 
 // The first word of a message: version 2 and the type; then P and A of an assert, or the
@@ -28,7 +26,6 @@ fn first_word(kind: Kind) -> u16
 
 // The sum of a message of n octets before its body: what is summed before it, and its first word.
 pub fn start_sum(ipv6: bool, path: Path, kind: Kind, n: usize) -> u16
-    requires { ⌜ n ≤ longest ⌝ }
     ensures { λ r. ⌜ r ≡ startSum (familyOf ipv6) path kind n ⌝ }
 {
     checksum::add(sum_before(ipv6, path, n), first_word(kind))

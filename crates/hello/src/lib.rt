@@ -150,7 +150,7 @@ fn read_of(ipv6: bool, path: Path, m: &[u8]) -> HelloRead
     }
 }
 
-// A Hello.
+// The same in IPv4.
 pub fn read_hello(m: &[u8]) -> HelloRead
     ensures says { λ r. ⌜ told r ≡ readHello ipv4 nowhere (now (m .entry)) ⌝ }
     ensures zero { λ r. ⌜ unannounced r ⌝ }

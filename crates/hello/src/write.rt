@@ -155,7 +155,7 @@ fn write_of(ipv6: bool, path: Path, said: Hello, d: &mut [u8]) -> Writing
     Writing::Wrote(n)
 }
 
-// A Hello.
+// The same in IPv4.
 pub fn write_hello(said: Hello, d: &mut [u8]) -> Writing
     ensures answer { λ r. ⌜ lengthBy r ≡ writeHello ipv4 nowhere (helloBy said) (now (d .entry)) .answer ⌝ }
     ensures buffer { λ _. ⌜ now (d .exit) ≡ writeHello ipv4 nowhere (helloBy said) (now (d .entry)) .buffer ⌝ }

@@ -17,7 +17,7 @@ use Rattle.headers.specs.Sealing.{startSum, withHeader}
 use Rattle.hello.specs.Options.{optionsOctets}
 use Rattle.hello.specs.Hello.{saidIn}
 use Rattle.hello.specs.Answers.{helloBy}
-use Rattle.hello.proofs.Written.{hello-long, hello-small, hello-refused, hello-written, hello-headed}
+use Rattle.hello.proofs.Written.{hello-long, hello-refused, hello-written, hello-headed}
 use Rattle.hello.proofs.write.write_of.Statement.{statement}
 use Rattle.hello.proofs.write.write_of.Tie as tie
 
@@ -35,9 +35,6 @@ returns c =
     let a = c .before .before .before .before .before .before .before .args in
     let e = hello-refused (familyOf (a .ipv6)) (a .path) (helloBy (a .said)) (now (a .d)) (omega (arith, extent (c .before .before .before), c .if1 .taken, c .before .before .before .pass .kept)) in
     (rw e, rw e (c .before .before .before .pass .ensures .1))
-
-start-sum-requires : tie.Need-start-sum-requires
-start-sum-requires c κs = omega (arith, extent (c .before .before .before), hello-small (saidIn (helloBy (c .before .before .before .before .before .before .before .args .said))))
 
 pass-requires-2 : tie.Need-pass-requires-2
 pass-requires-2 c κs = λ e. omega (arith, c .before .before .before .before .before .pass .ensures .0 .0, c .before .before .if1 .left)
@@ -67,7 +64,7 @@ write-of-spec =
     pass-requires
     (λ c. search needs)
     returns
-    start-sum-requires
+    (λ c κs. search needs)
     pass-requires-2
     (λ c κs. search needs)
     (λ c. search needs)
