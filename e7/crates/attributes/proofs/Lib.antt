@@ -1,0 +1,4 @@
+pub mod Speeds
+pub mod Readings
+pub mod Lengths
+pub mod RoundTrip

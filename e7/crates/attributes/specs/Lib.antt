@@ -1,0 +1,5 @@
+pub mod Speed
+pub mod Options
+pub mod Attribute
+pub mod Answers
+pub mod Written

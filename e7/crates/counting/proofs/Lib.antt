@@ -1,0 +1,5 @@
+pub mod Bodies
+pub mod Few
+pub mod Fits
+pub mod Formed
+pub mod Tallied

@@ -1,0 +1,4 @@
+pub mod Asserts
+pub mod Fields
+pub mod Plain
+pub mod Skipped

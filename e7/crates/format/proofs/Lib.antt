@@ -1,0 +1,15 @@
+pub mod Outcomes
+pub mod Readers
+pub mod Lengths
+pub mod Records
+pub mod Messages
+pub mod Joined
+pub mod Taken
+pub mod Entries
+pub mod Faithful
+pub mod Calls
+pub mod RoundTrip
+pub mod Reading
+pub mod Trains
+pub mod MostThatFit
+pub mod Families

@@ -1,0 +1,16 @@
+pub mod Outcome
+pub mod Reader
+pub mod Path
+pub mod Family
+pub mod Address
+pub mod Record
+pub mod Values
+pub mod Writing
+pub mod Header
+pub mod Body
+pub mod Unpacking
+pub mod Entry
+pub mod Reading
+pub mod Packing
+pub mod Train
+pub mod RoundTrip

@@ -1,0 +1,5 @@
+pub mod Laws
+pub mod SoFar
+pub mod Hellos
+pub mod Written
+pub mod RoundTrip

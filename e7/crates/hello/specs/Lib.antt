@@ -1,0 +1,4 @@
+pub mod Options
+pub mod Hello
+pub mod Answers
+pub mod RoundTrip

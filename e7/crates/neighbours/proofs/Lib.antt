@@ -1,0 +1,14 @@
+pub mod Rows
+pub mod Tables
+pub mod Slots
+pub mod Ranks
+pub mod Highest
+pub mod Among
+pub mod Called
+pub mod Gaps
+pub mod Changes
+pub mod Bits
+pub mod Entering
+pub mod Kept
+pub mod Examples
+pub mod Holding

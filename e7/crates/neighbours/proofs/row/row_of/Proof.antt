@@ -1,0 +1,16 @@
+-- `neighbours::row::row_of` meets its contract, field by field.
+-- Assumes nothing.
+use Rattle.neighbours.specs.Hearing.{rowOf}
+use Rattle.neighbours.proofs.row.row_of.Statement.{statement}
+use Rattle.neighbours.proofs.row.row_of.Tie as tie
+
+returns : tie.Need-returns
+unfolding rowOf
+returns c = rw (c .if1 .taken)
+
+returns-2 : tie.Need-returns-2
+unfolding rowOf
+returns-2 c = rw (c .if1 .left)
+
+pub row-of-spec : {M : Type 1} → statement M
+row-of-spec = tie.close (tie.spec returns returns-2)

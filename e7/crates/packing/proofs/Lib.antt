@@ -1,0 +1,10 @@
+pub mod Writing
+pub mod ByKind
+pub mod Fitting
+pub mod Joins
+pub mod Aggregating
+pub mod Taken
+pub mod Limits
+pub mod Asks
+pub mod Packs
+pub mod Choices

@@ -1,0 +1,4 @@
+pub mod Kinds
+pub mod Joins
+pub mod Aggregates
+pub mod Answers

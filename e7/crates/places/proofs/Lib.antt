@@ -1,0 +1,4 @@
+pub mod Inside
+pub mod Chosen
+pub mod Bodies
+pub mod Places

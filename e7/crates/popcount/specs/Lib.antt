@@ -1,0 +1,4 @@
+pub mod Rules
+pub mod Merging
+pub mod Alike
+pub mod Tally

@@ -1,0 +1,4 @@
+pub mod Aggregates
+pub mod Copying
+pub mod Delivered
+pub mod Readings

@@ -1,0 +1,1 @@
+// Records without their octets: definitions and theorems, in specs/ and proofs/. There is no code here.

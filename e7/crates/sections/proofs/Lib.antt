@@ -1,0 +1,4 @@
+pub mod Header
+pub mod Entries
+pub mod Rows
+pub mod Checks

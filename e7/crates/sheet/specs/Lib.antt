@@ -1,0 +1,4 @@
+pub mod Calls
+pub mod Valid
+pub mod RoundTrip
+pub mod Older

@@ -1,0 +1,12 @@
+// Runs messages that other people's routers sent or that other programs read, each by its listing. What is expected of
+// them, in the file stdout, stands in the notes of who read them; a message that tshark reads no pair of 01 refuses.
+//
+// vectors_hello.rt      Hellos
+// vectors_assert.rt     plain Asserts, and packed Null-Registers and Register-Stops
+mod vectors_assert;
+mod vectors_hello;
+
+fn main() {
+    vectors_hello::run();
+    vectors_assert::run();
+}
