@@ -6,6 +6,10 @@
 --     may-some, may-other, may-zero, may-group     whether a source field may hold it
 --     halves-below, halves-above, halves-same      two numbers in halves, compared
 --     halves-some, halves-low                      and against 0; last-none, last-low against 255.255.255.255
+--     halves-one, halves-other, halves-equal       two numbers in halves are one exactly if both halves are
+--     halves-octet                                 the last octet is that of the low half
+--     in-six, in-four, not-in-four                 whether a number in halves is an address of a family
+--     four-words                                   a number of sixteen octets in four parts
 --     address-there, address-none                  the address at a place, by whether it is there
 --     group-at, source-at, inner-at                whether it is a group or a source, by the octet at that place
 --     pseudo-summed, before-six, before-four       the pseudo-header summed in five parts, and what is summed before a message
@@ -16,23 +20,30 @@ use native.Mathlib.Nat.{add-zero, zero-div, ne-of-lt}
 use mathlib.Core.Path.{_≡_, refl, sym, ap, _∙_}
 use mathlib.Core.Bool.{Bool, true, false, not, _&&_, _||_}
 use mathlib.Core.List.{List, [], _∷_, _++_, append-assoc}
+use lib.Arith.{digits-lt}
 use lib.Dec.{ltb, leb, eqb, lit≤}
 use lib.ListN.{length, getD, take, drop, length-drop}
 use lib.Seq.{length-take-le, getD-take, getD-drop}
-use borrow.Author.Tests.{lt-ltb, le-ltb, eq-eqb, ne-eqb, ltb-true, ltb-false, le-leb, lt-leb, leb-true, eqb-true, eqb-false}
+use borrow.Author.Tests.{lt-ltb, le-ltb, eq-eqb, ne-eqb, ltb-true, ltb-false, le-leb, lt-leb, leb-true, leb-false, eqb-true, eqb-false}
 use Rattle.octets.specs.Octets.{Octets, value, numberAt, be}
-use Rattle.octets.proofs.Laws.{value-first, octets-take, octets-drop, length-be, be-two}
+use Rattle.octets.proofs.Laws.{value-first, octets-take, octets-drop, length-be, be-two, number-split}
 use Rattle.checksum.specs.Sum.{words, sumFrom, sum}
 use Rattle.checksum.proofs.Laws.{sum-after}
 use Rattle.format.specs.Family.{Family, familyOf, mayBeSource}
+use Rattle.format.specs.Entry.{frontSize}
 use Rattle.format.specs.Path.{pseudoHeader}
 use Rattle.format.specs.Header.{before}
 use Rattle.format.specs.declared.Path.{Path}
-use Rattle.addresses.specs.Addresses.{addressAt, groupFirst, sourceFirst}
+use Rattle.addresses.specs.Addresses.{addressAt, inFamily, groupFirst, sourceFirst}
 
 pub width-range : (ipv6 : Bool) → (4 ≤ familyOf ipv6 .width) × (familyOf ipv6 .width ≤ 16)
 width-range false = (lit≤ tt, lit≤ tt)
 width-range true = (lit≤ tt, lit≤ tt)
+
+-- family and three zero octets
+pub front-four : (ipv6 : Bool) → frontSize (familyOf ipv6) ≡ 4
+front-four false = refl
+front-four true = refl
 
 -- ---- groups
 
@@ -181,7 +192,51 @@ last-low h l e =
     let same : l ≡ halves h l = omega arith in
     ap (λ x. not (eqb x 0xffff_ffff)) same
 
+-- one number, so the same halves
+pub halves-one : (ah al bh bl : ℕ) → al < 18446744073709551616 → bl < 18446744073709551616 → halves ah al ≡ halves bh bl → (ah ≡ bh) × (al ≡ bl)
+halves-one ah al bh bl s t e = (omega arith, omega arith)
+
+pub halves-other : (ah al bh bl : ℕ) → al < 18446744073709551616 → bl < 18446744073709551616 → (al ≡ bl → ⊥) → false ≡ eqb (halves ah al) (halves bh bl)
+halves-other ah al bh bl s t n = sym (ne-eqb (halves ah al) (halves bh bl) (λ e. n (halves-one ah al bh bl s t e .1)))
+
+pub halves-equal : (ah al bh bl : ℕ) → al ≡ bl → eqb ah bh ≡ eqb (halves ah al) (halves bh bl)
+halves-equal ah al bh bl e = go (eqb ah bh) refl
+  where
+    go : (b : Bool) → eqb ah bh ≡ b → b ≡ eqb (halves ah al) (halves bh bl)
+    go true t = let h : ah ≡ bh = eqb-true ah bh t in sym (eq-eqb (halves ah al) (halves bh bl) (omega arith))
+    go false t = sym (ne-eqb (halves ah al) (halves bh bl) (λ h. eqb-false ah bh t (omega arith)))
+
+pub halves-octet : (h l : ℕ) → halves h l % 256 ≡ l % 256
+halves-octet h l = omega arith
+
+pub in-six : (h l : ℕ) → h < 18446744073709551616 → l < 18446744073709551616 → true ≡ inFamily (familyOf true) (halves h l)
+unfolding inFamily
+in-six h l s t = sym (lt-ltb (halves h l) (18446744073709551616 * 18446744073709551616) (digits-lt s t))
+
+pub in-four : (h l : ℕ) → h ≡ 0 → leb l 0xffff_ffff ≡ inFamily (familyOf false) (halves h l)
+unfolding inFamily
+in-four h l e = go (leb l 0xffff_ffff) refl
+  where
+    go : (b : Bool) → leb l 0xffff_ffff ≡ b → b ≡ ltb (halves h l) 4294967296
+    go true t = let k : l ≤ 0xffff_ffff = leb-true l 0xffff_ffff t in sym (lt-ltb (halves h l) 4294967296 (omega arith))
+    go false t = let k : 0xffff_ffff < l = leb-false l 0xffff_ffff t in sym (le-ltb (halves h l) 4294967296 (omega arith))
+
+pub not-in-four : (h l : ℕ) → (h ≡ 0 → ⊥) → false ≡ inFamily (familyOf false) (halves h l)
+unfolding inFamily
+not-in-four h l n = sym (le-ltb (halves h l) 4294967296 (omega arith))
+
 -- ---- an address at a place
+
+-- a number of sixteen octets in four parts
+pub four-words : (o : List ℕ) (at : ℕ) → at + 16 ≤ length o
+    → numberAt 16 o at ≡ numberAt 4 o at * 79228162514264337593543950336 + (numberAt 4 o (at + 4) * 18446744073709551616 + (numberAt 4 o (at + 8) * 4294967296 + numberAt 4 o (at + 12)))
+four-words o at h =
+    let a = number-split 4 12 o at h in
+    let b = number-split 4 8 o (at + 4) (omega arith) in
+    let c = number-split 4 4 o (at + 8) (omega arith) in
+    let p : at + 4 + 4 ≡ at + 8 = omega arith in
+    let q : at + 8 + 4 ≡ at + 12 = omega arith in
+    omega (arith, a, b ∙ ap (λ x. numberAt 4 o (at + 4) * 256 ^ 8 + numberAt 8 o x) p, c ∙ ap (λ x. numberAt 4 o (at + 8) * 256 ^ 4 + numberAt 4 o x) q)
 
 pub address-there : (f : Family) (o : List ℕ) (at : ℕ) → at + f .width ≤ length o → addressAt f o at ≡ numberAt (f .width) o at
 unfolding addressAt

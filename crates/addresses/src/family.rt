@@ -31,10 +31,7 @@ pub fn family_number(ipv6: bool) -> u8
 pub fn front_size(ipv6: bool) -> usize
     ensures { λ r. ⌜ (r ≡ frontSize (familyOf ipv6)) × (r ≤ 4) ⌝ }
 {
-    if ipv6 {
-        return 4;
-    }
-    0
+    4
 }
 
 // A group's mask covers the whole address.

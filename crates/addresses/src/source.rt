@@ -1,11 +1,11 @@
 // Which addresses a source may have. Messages, entries and sheets all ask `may_be_source`; where it is enough that most sources are passed,
 // `begins_source`.
-use crate::address::address_at;
-use crate::address::is_zero;
+use crate::address::is_zero_at;
 use crate::family::is_multicast;
 use crate::family::width;
+use octets::number32;
 ghost use mathlib.Core.Path.{_≡_};
-ghost use mathlib.Core.Bool.{false};
+ghost use mathlib.Core.Bool.{true, false};
 ghost use Prim.Native.Nat.{_+_, _≤_};
 ghost use lib.ListN.{length};
 ghost use Rattle.format.specs.Family.{familyOf, mayBeSource};
@@ -24,26 +24,31 @@ pub fn begins_source(ipv6: bool, first: u8) -> bool
     first < 224
 }
 
-// Whether a source field may hold an address that is no group: not 255.255.255.255, and 0 where it is allowed.
-fn whole_source(ipv6: bool, s: &[u8], at: usize, zero_allowed: bool) -> bool
-    requires { ⌜ familyOf ipv6 .isGroup (addressAt (familyOf ipv6) (now s) at) ≡ false ⌝ }
-    ensures { λ r. ⌜ r ≡ mayBeSource (familyOf ipv6) «zero_allowed» (addressAt (familyOf ipv6) (now (s .entry)) at) ⌝ }
+// Whether a source field may hold an IPv6 address that is no group: 0 where it is allowed.
+fn sixteen_source(s: &[u8], at: usize, zero_allowed: bool) -> bool
+    requires { ⌜ familyOf true .isGroup (addressAt (familyOf true) (now s) at) ≡ false ⌝ }
+    ensures { λ r. ⌜ r ≡ mayBeSource (familyOf true) «zero_allowed» (addressAt (familyOf true) (now (s .entry)) at) ⌝ }
 {
-    let a = address_at(ipv6, s, at);
-    if is_zero(a) {
+    if is_zero_at(s, at) {
         return zero_allowed;
     }
-    if ipv6 {
-        return true;
-    }
-    if a.high != 0 {
-        return true;
-    }
-    a.low != 0xffff_ffff
+    true
 }
 
-// Whether it may hold any address that is there. The first octet decides, unless it is 0 or 255. These two are tested apart: joined in one test,
-// sources from 240.0.0.0 on took longer to pass.
+// Whether it may hold an IPv4 address that is no group: not 255.255.255.255, and 0 where it is allowed.
+fn four_source(s: &[u8], at: usize, zero_allowed: bool) -> bool
+    requires { ⌜ (at + 4 ≤ length (now s)) × (familyOf false .isGroup (addressAt (familyOf false) (now s) at) ≡ false) ⌝ }
+    ensures { λ r. ⌜ r ≡ mayBeSource (familyOf false) «zero_allowed» (addressAt (familyOf false) (now (s .entry)) at) ⌝ }
+{
+    let a = number32(&s[at..at + 4], 0);
+    if a == 0 {
+        return zero_allowed;
+    }
+    a != 0xffff_ffff
+}
+
+// Whether it may hold any address that is there. In IPv4 the first octet decides, unless it is 0 or 255. These two are tested apart: joined in one
+// test, or with every address read whole, sources from 240.0.0.0 on took longer to pass.
 fn seldom_source(ipv6: bool, s: &[u8], at: usize, zero_allowed: bool) -> bool
     requires { ⌜ at + familyOf ipv6 .width ≤ length (now s) ⌝ }
     ensures { λ r. ⌜ r ≡ mayBeSource (familyOf ipv6) «zero_allowed» (addressAt (familyOf ipv6) (now (s .entry)) at) ⌝ }
@@ -51,11 +56,14 @@ fn seldom_source(ipv6: bool, s: &[u8], at: usize, zero_allowed: bool) -> bool
     if is_multicast(ipv6, s[at]) {
         return false;
     }
+    if ipv6 {
+        return sixteen_source(s, at, zero_allowed);
+    }
     if s[at] == 0 {
-        return whole_source(ipv6, s, at, zero_allowed);
+        return four_source(s, at, zero_allowed);
     }
     if s[at] == 255 {
-        return whole_source(ipv6, s, at, zero_allowed);
+        return four_source(s, at, zero_allowed);
     }
     true
 }

@@ -50,7 +50,7 @@ lawful false = record {
   zeroIsNone = refl;
   coveredOctets = λ p n. no-octets .below;
   coveredWords = λ p n. (0, refl);
-  frontOctets = no-octets .below;
+  frontOctets = octet (lit< tt) (zero-octet (zero-octet (zero-octet no-octets))) .below;
 }
 lawful true = record {
   wide = lit< tt;

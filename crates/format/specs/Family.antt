@@ -3,13 +3,14 @@
 --     multicast4, 6     the multicast addresses of both
 --     ipv4, ipv6        address families 1 and 2 of RFC 7761, 4.9.1
 --     familyOf          the family that code names by a bool
+--     withFront         a family with its front, or without: entries of older sheets have none
 --     isIpv6, familyNamed     the family that a caller names
 --     mayBeSource       an address that a source field may hold
 --     Lawful            what the theorems ask of a family
 -- Assumes nothing: these are definitions.
 use Prim.Native.Nat.{ℕ, _*_, _/_, _^_, _<_, _≤_}
 use mathlib.Core.Path.{_≡_}
-use mathlib.Core.Bool.{Bool, true, false, not, _&&_, _||_}
+use mathlib.Core.Bool.{Bool, true, false, not, _&&_, _||_, cond}
 use mathlib.Core.List.{List, [], _∷_}
 use lib.ListN.{length}
 use lib.Dec.{leb, ltb, eqb}
@@ -53,7 +54,7 @@ ipv4 = record {
   isGroup = multicast4;
   isSource = λ a. not (eqb a 0 || multicast4 a || eqb a 0xffff_ffff);
   covered = λ p n. [];
-  front = [];
+  front = 1 ∷ 0 ∷ 0 ∷ 0 ∷ [];
 }
 
 -- "family 2, addresses of 16 octets, mask 128, groups in ff00::/8, and the checksum with the IPv6 pseudo-header", "E5's multicast rule applies
@@ -72,6 +73,17 @@ ipv6 = record {
 abbrev pub familyOf : Bool → Family
 familyOf false = ipv4
 familyOf true = ipv6
+
+-- all but the front is that of the family, either way
+abbrev pub withFront : Bool → Family → Family
+withFront b f = record {
+  width = f .width;
+  family = f .family;
+  isGroup = f .isGroup;
+  isSource = f .isSource;
+  covered = f .covered;
+  front = cond b (f .front) [];
+}
 
 abbrev pub isIpv6 : AddressFamily → Bool
 isIpv6 Ipv4 = false

@@ -10,6 +10,7 @@ use mathlib.Core.List.{List, [], _∷_}
 use mathlib.Core.Option.{Option, none, some}
 use lib.Dec.{eqb}
 use Rattle.records.specs.Records.{AssertRecord, assert, PairRecord, pair}
+use Rattle.format.specs.Path.{numberOf}
 use Rattle.format.specs.Record.{Single, anAssert, aPair}
 use Rattle.format.specs.declared.Kind.{Kind}
 use Rattle.format.specs.declared.Kind.the-variants.{Hello, Assert as AssertKind, Simple, Aggregated, NullRegister, RegisterStop}
@@ -48,10 +49,10 @@ namedBy Nothing = none
 -- ---- records
 
 unfoldable pub assertOf : AssertFields → AssertRecord
-assertOf e = assert (e .group) (e .source) (e .«r_preference») (e .metric)
+assertOf e = assert (numberOf (e .group)) (numberOf (e .source)) (e .«r_preference») (e .metric)
 
 unfoldable pub pairOf : PairFields → PairRecord
-pairOf e = pair (e .group) (e .source)
+pairOf e = pair (numberOf (e .group)) (numberOf (e .source))
 
 unfoldable pub recordOf : Record → Single
 recordOf (Assert e) = anAssert (assertOf e)

@@ -127,16 +127,16 @@ pub fn r_bit(word: u32) -> bool
 
 // An assert record: group, source, the R bit with the 31-bit metric preference, metric.
 pub struct AssertFields {
-    pub group: u32,
-    pub source: u32,
+    pub group: Address,
+    pub source: Address,
     pub r_preference: u32,
     pub metric: u32,
 }
 
 // A pair of a packed Null-Register or Register-Stop message.
 pub struct PairFields {
-    pub group: u32,
-    pub source: u32,
+    pub group: Address,
+    pub source: Address,
 }
 
 // A record read singly: "one of two cases, an assert with its four fields or a pair with its two".

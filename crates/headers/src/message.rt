@@ -6,7 +6,7 @@ use format::Path;
 use format::Refusal;
 ghost use mathlib.Core.Path.{_≡_};
 ghost use Rattle.format.specs.Family.{familyOf};
-ghost use Rattle.format.specs.Header.{assertKind, registerKind, kindOf, header as headerOf, body as bodyOf};
+ghost use Rattle.format.specs.Header.{assertKind, registerKind, kindOf, sums, header as headerOf, body as bodyOf};
 ghost use Rattle.headers.specs.Answers.{headed};
 
 // What a header says.
@@ -62,6 +62,17 @@ fn kind_of(t: u8, x: u8) -> Headed
     refused(4)
 }
 
+// Whether the checksum of a message holds: in IPv6 with what is summed before it. Each family has its own loop, so that the compiler puts that of IPv4,
+// without the rest, into callers that name IPv4.
+fn holds(ipv6: bool, path: Path, m: &[u8]) -> bool
+    ensures { λ r. ⌜ r ≡ sums (familyOf ipv6) path (now (m .entry)) ⌝ }
+{
+    if ipv6 {
+        return checksum::holds_after(sum_before(true, path, m.len()), m);
+    }
+    checksum::holds(m)
+}
+
 // The kind of a message, or the first of 1, 2, 3 and 4 that applies. No message is longer than the greatest limit.
 pub fn header(ipv6: bool, path: Path, m: &[u8]) -> Headed
     ensures { λ r. ⌜ headed r ≡ headerOf (familyOf ipv6) path (now (m .entry)) ⌝ }
@@ -75,7 +86,7 @@ pub fn header(ipv6: bool, path: Path, m: &[u8]) -> Headed
     if m[0] / 16 != 2 {
         return refused(2);
     }
-    if !checksum::holds_after(sum_before(ipv6, path, m.len()), m) {
+    if !holds(ipv6, path, m) {
         return refused(3);
     }
     kind_of(m[0] % 16, m[1])

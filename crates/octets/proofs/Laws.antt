@@ -10,6 +10,7 @@
 --     part-put, field-put                                   what was written is read back: octets, and a field
 --     stores-put, lows-be, taken-be, put-number             stores one by one are a write; the octets as code takes them are those of the number
 --     number-is, number-short                               a number by its octets, and where fewer are there
+--     whole-there, whole-none, whole-cut                    a number of which all octets are there, or not, and where the part is that number
 --     number-part, number-cut                               a number in a part, by its place in the whole; and where the part is that number
 --     number-split, be-two, value-first                     a number in two parts, as octets and back, and by its first octet
 --     part-octets, put-copied                               the octets of a number as they stand, and stored so
@@ -37,7 +38,7 @@ use lib.ListN.{length, getD, set, take, drop, length-append, length-take, length
 use lib.Seq.{sets, sets-eq, take-add, take-all, take-at, take-take, take-append-le, drop-at, drop-cons, drop-drop, getD-drop, length-take-le}
 use borrow.Author.Tests.{le-leb, lt-leb, leb-true}
 use borrow.Rule.Slice.PartMut.{putMid}
-use Rattle.octets.specs.Octets.{Octets, value, numberAt, be, put, copied}
+use Rattle.octets.specs.Octets.{Octets, value, numberAt, wholeAt, be, put, copied}
 use Rattle.octets.specs.Reader.{Read, got, bad, continue, _>>=_, _>>_, give, octets, number}
 use Rattle.octets.specs.Field.{fieldOf, placeOf, ignored, writtenOf, written, fitted}
 use Rattle.octets.specs.declared.Field.{Field}
@@ -301,6 +302,21 @@ number-part o from n there k at p e h =
 -- the part from a place to an end, as code cuts it
 pub number-cut : (k : ℕ) (o : List ℕ) (at end : ℕ) → end ≡ at + k → end ≤ length o → numberAt k (take (end - at) (drop at o)) 0 ≡ numberAt k o at
 number-cut k o at end e there = number-part o at (end - at) (omega arith) k 0 at (omega arith) (omega arith)
+
+-- ---- a number of which all octets are there
+
+pub whole-there : (k : ℕ) (o : List ℕ) (at : ℕ) → k ≤ length o - at → wholeAt k o at ≡ numberAt k o at
+unfolding wholeAt
+whole-there k o at h = rw (le-leb k (length o - at) h)
+
+pub whole-none : (k : ℕ) (o : List ℕ) (at : ℕ) → length o - at < k → wholeAt k o at ≡ 0
+unfolding wholeAt
+whole-none k o at h = rw (lt-leb k (length o - at) h)
+
+pub whole-cut : (k : ℕ) (o : List ℕ) (at end : ℕ) → end ≡ at + k → end ≤ length o → wholeAt k (take (end - at) (drop at o)) 0 ≡ numberAt k o at
+whole-cut k o at end e there =
+    let far : length (take (end - at) (drop at o)) ≡ end - at = length-take-le (end - at) (drop at o) (simp length-drop (omega arith)) in
+    whole-there k (take (end - at) (drop at o)) 0 (rw far (omega arith)) ∙ number-cut k o at end e there
 
 -- a number in two parts
 pub number-split : (j k : ℕ) (o : List ℕ) (at : ℕ) → at + (j + k) ≤ length o → numberAt (j + k) o at ≡ numberAt j o at * 256 ^ k + numberAt k o (at + j)

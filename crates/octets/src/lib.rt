@@ -1,10 +1,10 @@
 // Field readers and writers at any place of a slice: numbers of 8, 16 and 32 bits, big-endian, and octets that
 // are skipped. Each is total: a place from which the field does not fit is answered, and never reached.
-// `number16`, `number32`, `number64`, `copy4`, `copy8` and `copy16` are for callers who know that the octets are there.
+// `number16`, `number32`, `whole32`, `whole64`, `copy4`, `copy8` and `copy16` are for callers who know that the octets are there.
 ghost use mathlib.Core.Path.{_≡_};
 ghost use Prim.Native.Nat.{_-_, _<_};
 ghost use lib.ListN.{length};
-ghost use Rattle.octets.specs.Octets.{numberAt, be, copied};
+ghost use Rattle.octets.specs.Octets.{numberAt, wholeAt, be, copied};
 ghost use Rattle.octets.specs.Reader.{number};
 ghost use Rattle.octets.specs.Field.{fieldOf, placeOf, ignored, writtenOf, written, fitted};
 
@@ -158,34 +158,29 @@ pub fn number32(s: &[u8], at: usize) -> u32
     ((wide(s[at]) * 256 + wide(s[at + 1])) * 256 + wide(s[at + 2])) * 256 + wide(s[at + 3])
 }
 
-// The number in the octets at a place, of which there are fewer than eight.
-fn short_number64(s: &[u8], at: usize, n: usize) -> u64
-    requires { ⌜ (n ≡ length (now s) - at) × (n < 8) ⌝ }
-    ensures { λ r. ⌜ r ≡ numberAt n (now (s .entry)) at ⌝ }
+// The number in the four octets at a place, or 0 where they are not whole. It is small, so that the compiler puts it into the loops that read addresses;
+// `number32` is not, since it reads what is there.
+pub fn whole32(s: &[u8], at: usize) -> u32
+    ensures { λ r. ⌜ r ≡ wholeAt 4 (now (s .entry)) at ⌝ }
 {
-    let first = number32(s, at) as u64;
-    if n <= 4 {
-        return first;
+    if left(s.len(), at) < 4 {
+        return 0;
     }
-    let rest = short_number(s, at + 4, n - 4) as u64;
-    if n == 5 {
-        return first * 256 + rest;
-    }
-    if n == 6 {
-        return first * 65536 + rest;
-    }
-    first * 16777216 + rest
+    ((wide(s[at]) * 256 + wide(s[at + 1])) * 256 + wide(s[at + 2])) * 256 + wide(s[at + 3])
 }
 
-// The number in the eight octets at a place, or in those that are there.
-pub fn number64(s: &[u8], at: usize) -> u64
-    ensures { λ r. ⌜ r ≡ numberAt 8 (now (s .entry)) at ⌝ }
+// The same of eight octets.
+pub fn whole64(s: &[u8], at: usize) -> u64
+    ensures { λ r. ⌜ r ≡ wholeAt 8 (now (s .entry)) at ⌝ }
 {
-    let n = left(s.len(), at);
-    if n < 8 {
-        return short_number64(s, at, n);
+    if left(s.len(), at) < 8 {
+        return 0;
     }
-    (number32(s, at) as u64) * 4294967296 + (number32(s, at + 4) as u64)
+    let high = ((wide(s[at]) * 256 + wide(s[at + 1])) * 256 + wide(s[at + 2])) * 256
+        + wide(s[at + 3]);
+    let low = ((wide(s[at + 4]) * 256 + wide(s[at + 5])) * 256 + wide(s[at + 6])) * 256
+        + wide(s[at + 7]);
+    (high as u64) * 4294967296 + (low as u64)
 }
 
 // The first four octets of one slice, stored over those of another. They are read before the first is stored: the
@@ -237,7 +232,7 @@ pub fn copy8(s: &[u8], d: &mut [u8])
     d[7] = i;
 }
 
-// The same with sixteen octets.
+// The same with sixteen octets: one load and one store too. As two copies of eight, or four of four, the compiler makes so many of each.
 pub fn copy16(s: &[u8], d: &mut [u8])
     ensures { λ _. ⌜ now (d .exit) ≡ copied 16 (now (s .entry)) (now (d .entry)) ⌝ }
 {
@@ -247,10 +242,38 @@ pub fn copy16(s: &[u8], d: &mut [u8])
     if d.len() < 16 {
         return;
     }
-    copy4(&s[0..4], &mut d[0..4]);
-    copy4(&s[4..8], &mut d[4..8]);
-    copy4(&s[8..12], &mut d[8..12]);
-    copy4(&s[12..16], &mut d[12..16]);
+    let a = s[0];
+    let b = s[1];
+    let c = s[2];
+    let e = s[3];
+    let f = s[4];
+    let g = s[5];
+    let h = s[6];
+    let i = s[7];
+    let j = s[8];
+    let k = s[9];
+    let l = s[10];
+    let m = s[11];
+    let n = s[12];
+    let o = s[13];
+    let p = s[14];
+    let q = s[15];
+    d[0] = a;
+    d[1] = b;
+    d[2] = c;
+    d[3] = e;
+    d[4] = f;
+    d[5] = g;
+    d[6] = h;
+    d[7] = i;
+    d[8] = j;
+    d[9] = k;
+    d[10] = l;
+    d[11] = m;
+    d[12] = n;
+    d[13] = o;
+    d[14] = p;
+    d[15] = q;
 }
 
 pub fn write8(d: &mut [u8], at: usize, n: u8) -> Written

@@ -1,28 +1,15 @@
--- `octets::copy16` meets its contract: four copies of four octets, one after another.
+-- `octets::copy16` meets its contract: sixteen octets are read, then stored.
 -- Assumes nothing.
-use Prim.Native.Nat.{ℕ, _+_, _-_, _≤_}
+use Prim.Native.Nat.{_≤_}
 use native.Mathlib.Omega.{arith}
+use mathlib.Core.Path.{_≡_, ap, _∙_}
 use denote.Ref.{now}
-use native.Mathlib.Nat.{zero-add}
-use mathlib.Core.Path.{_≡_, refl, sym, ap, _∙_}
-use mathlib.Core.List.{List}
-use lib.ListN.{length, take, drop}
-use lib.Seq.{take-add, length-take-le}
-use borrow.Rule.Slice.PartMut.{putMid}
-use Rattle.octets.specs.Octets.{put, copied}
-use Rattle.octets.proofs.Laws.{put-nil, put-next, length-put, copied-few, copied-none, copied-part, copied-all}
+use lib.ListN.{length, take, length-set}
+use lib.Seq.{length-take-le}
+use Rattle.octets.proofs.Laws.{length-put, copied-few, copied-none, copied-stores, copied-all}
 use borrow.Author.Needs.{needs}
 use Rattle.octets.proofs.copy16.Statement.{statement}
 use Rattle.octets.proofs.copy16.Tie as tie
-
--- up to a place, and four octets further
-step : (s d : List ℕ) (at end : ℕ) {m x : List ℕ} → end ≡ at + 4 → end ≤ length s → end ≤ length d → m ≡ put d 0 (take at s)
-    → x ≡ copied 4 (take (end - at) (drop at s)) (take (end - at) (drop at m)) → putMid at (end - at) m x ≡ put d 0 (take end s)
-step s d at end {m} {x} e there room before copy =
-    let far : length (take at s) ≡ at = length-take-le at s (omega arith) in
-    let long : length m ≡ length d = ap length before ∙ length-put d 0 (take at s) (rw far (omega arith)) in
-    let next : putMid at (end - at) m x ≡ put m at (take 4 (drop at s)) = ap (putMid at (end - at) m) copy ∙ copied-part 4 s m at end at end e e there (rw long room) in
-    put-next d 0 (take at s) (take 4 (drop at s)) before next (rw (far, zero-add) refl) ∙ ap (put d 0) (sym (ap (λ n. take n s) e ∙ take-add at 4 s))
 
 returns : tie.Need-returns
 returns c = copied-few 16 _ _ (c .if1 .taken)
@@ -32,19 +19,17 @@ returns-2 c = copied-none 16 _ _ (c .if2 .taken)
 
 returns-3 : tie.Need-returns-3
 returns-3 c =
-    let c4 = c .before .before in
-    let c3 = c4 .before .before .before .before .before in
-    let c2 = c3 .before .before .before .before .before in
-    let c1 = c2 .before .before .before .before .before in
-    let e2 = c1 .before .before .before in
-    let a = e2 .before .before .before .before .args in
-    let there : 16 ≤ length (now (a .s)) = omega arith in
-    let room : 16 ≤ length (now (a .d)) = omega arith in
-    let one = step (now (a .s)) (now (a .d)) 0 4 refl (omega arith) (omega arith) (sym (put-nil (now (a .d)) 0)) (c1 .copy4 .ensures) in
-    let two = step (now (a .s)) (now (a .d)) 4 8 refl (omega arith) (omega arith) one (c2 .copy42 .ensures) in
-    let three = step (now (a .s)) (now (a .d)) 8 12 refl (omega arith) (omega arith) two (c3 .copy43 .ensures) in
-    let four = step (now (a .s)) (now (a .d)) 12 16 refl (omega arith) (omega arith) three (c4 .copy44 .ensures) in
-    four ∙ sym (copied-all 16 (now (a .s)) (now (a .d)) there room)
+    let a = c .before .before .before .before .before .before .before .before .before .before .before .before .before .before .before .before .before .before .args in
+    copied-stores 16 (now (a .s)) (now (a .d)) (omega (arith, c .before .before .before .before .before .before .before .before .before .before .before .before .before .before .before .before .before .if1 .left)) (omega (arith, c .before .before .before .before .before .before .before .before .before .before .before .before .before .before .before .before .if2 .left))
+
+-- as many octets as before
+same-length : tie.Need-same-length
+same-length c =
+    let a = c .before .before .before .before .before .before .before .before .before .before .before .before .before .before .before .before .before .before .args in
+    let there : 16 ≤ length (now (a .s)) = omega (arith, c .before .before .before .before .before .before .before .before .before .before .before .before .before .before .before .before .before .if1 .left) in
+    let room : 16 ≤ length (now (a .d)) = omega (arith, c .before .before .before .before .before .before .before .before .before .before .before .before .before .before .before .before .if2 .left) in
+    let long : length (take 16 (now (a .s))) ≡ 16 = length-take-le 16 (now (a .s)) there in
+    ap length (returns-3 c ∙ copied-all 16 (now (a .s)) (now (a .d)) there room) ∙ length-put (now (a .d)) 0 (take 16 (now (a .s))) (rw long room)
 
 pub copy16-spec : {M : Type 1} → statement M
 copy16-spec =
@@ -58,27 +43,31 @@ copy16-spec =
     (λ c. search needs)
     (λ c. search needs)
     (λ c. search needs)
-    (λ c κs. search needs)
     (λ c. search needs)
     (λ c. search needs)
     (λ c. search needs)
     (λ c. search needs)
     (λ c. search needs)
     (λ c. search needs)
-    (λ c κs. search needs)
     (λ c. search needs)
     (λ c. search needs)
     (λ c. search needs)
     (λ c. search needs)
     (λ c. search needs)
-    (λ c. search needs)
-    (λ c κs. search needs)
-    (λ c. search needs)
-    (λ c. search needs)
-    (λ c. search needs)
-    (λ c. search needs)
-    (λ c. search needs)
-    (λ c. search needs)
-    (λ c κs. search needs)
-    (λ c. search needs)
+    (λ c. simp length-set (omega arith))
+    (λ c. simp length-set (omega arith))
+    (λ c. simp length-set (omega arith))
+    (λ c. simp length-set (omega arith))
+    (λ c. simp length-set (omega arith))
+    (λ c. simp length-set (omega arith))
+    (λ c. simp length-set (omega arith))
+    (λ c. simp length-set (omega arith))
+    (λ c. simp length-set (omega arith))
+    (λ c. simp length-set (omega arith))
+    (λ c. simp length-set (omega arith))
+    (λ c. simp length-set (omega arith))
+    (λ c. simp length-set (omega arith))
+    (λ c. simp length-set (omega arith))
+    (λ c. simp length-set (omega arith))
+    same-length
     returns-3)

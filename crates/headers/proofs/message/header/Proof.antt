@@ -1,12 +1,9 @@
 -- `headers::message::header` meets its contract: the tests are those of the definition, in its order.
 -- Assumes nothing.
-use mathlib.Core.Path.{ap, _∙_}
-use denote.Ref.{now}
 use borrow.Author.Tests.{eq-eqb, ne-eqb, lt-ltb, le-ltb}
 use borrow.Author.Needs.{needs}
-use Rattle.checksum.specs.Sum.{holdsFrom}
 use Rattle.format.specs.Outcome.{refuseIf, _>>_}
-use Rattle.format.specs.Header.{sums, header}
+use Rattle.format.specs.Header.{header}
 use Rattle.headers.specs.Answers.{headed}
 use Rattle.headers.proofs.message.header.Statement.{statement}
 use Rattle.headers.proofs.message.header.Tie as tie
@@ -24,16 +21,12 @@ unfolding header refuseIf _>>_ headed
 returns-3 c = rw (c .refused3 .ensures, le-ltb _ _ (c .before .before .before .before .if1 .left), le-ltb _ _ (c .before .before .before .if2 .left), ne-eqb _ _ (c .before .if3 .taken))
 
 returns-4 : tie.Need-returns-4
-unfolding header sums refuseIf _>>_ headed
-returns-4 c =
-    let holds = c .before .before .holds-after .ensures ∙ ap (λ b. holdsFrom b (now (c .before .before .before .before .before .before .before .before .before .args .m))) (c .before .before .before .sum-before .ensures) in
-    rw (c .refused4 .ensures, le-ltb _ _ (c .before .before .before .before .before .before .before .if1 .left), le-ltb _ _ (c .before .before .before .before .before .before .if2 .left), eq-eqb _ _ (c .before .before .before .before .if3 .left), ← holds, c .before .if4 .taken)
+unfolding header refuseIf _>>_ headed
+returns-4 c = rw (c .refused4 .ensures, le-ltb _ _ (c .before .before .before .before .before .before .if1 .left), le-ltb _ _ (c .before .before .before .before .before .if2 .left), eq-eqb _ _ (c .before .before .before .if3 .left), ← c .before .before .holds .ensures, c .before .if4 .taken)
 
 returns-5 : tie.Need-returns-5
-unfolding header sums refuseIf _>>_
-returns-5 c =
-    let holds = c .before .before .before .before .holds-after .ensures ∙ ap (λ b. holdsFrom b (now (c .before .before .before .before .before .before .before .before .before .before .before .args .m))) (c .before .before .before .before .before .sum-before .ensures) in
-    rw (c .kind-of .ensures, le-ltb _ _ (c .before .before .before .before .before .before .before .before .before .if1 .left), le-ltb _ _ (c .before .before .before .before .before .before .before .before .if2 .left), eq-eqb _ _ (c .before .before .before .before .before .before .if3 .left), ← holds, c .before .before .before .if4 .left)
+unfolding header refuseIf _>>_
+returns-5 c = rw (c .kind-of .ensures, le-ltb _ _ (c .before .before .before .before .before .before .before .before .if1 .left), le-ltb _ _ (c .before .before .before .before .before .before .before .if2 .left), eq-eqb _ _ (c .before .before .before .before .before .if3 .left), ← c .before .before .before .before .holds .ensures, c .before .before .before .if4 .left)
 
 pub header-spec : {M : Type 1} → statement M
 header-spec =
@@ -46,7 +39,6 @@ header-spec =
     (λ c. search needs)
     (λ c κs. search needs)
     returns-3
-    (λ c κs. search needs)
     (λ c κs. search needs)
     (λ c κs. search needs)
     returns-4
