@@ -114,7 +114,7 @@ pub(crate) fn with_count(entries: usize, c: Checked) -> Counted
 }
 
 // One entry for each source; p=0 is one entry.
-fn group_record(ipv6: bool, m: &[u8], at: usize) -> Counted
+fn group_record_of(ipv6: bool, m: &[u8], at: usize) -> Counted
     ensures { λ r. ⌜ counted r ≡ tallied groupCount (groupRecord (familyOf ipv6) (now (m .entry)) at) ⌝ }
 {
     let g = group_check(ipv6, m, at);
@@ -135,6 +135,16 @@ fn group_record(ipv6: bool, m: &[u8], at: usize) -> Counted
         return with_count(1, s);
     }
     with_count(p, s)
+}
+
+// The same with the family as a literal.
+fn group_record(ipv6: bool, m: &[u8], at: usize) -> Counted
+    ensures { λ r. ⌜ counted r ≡ tallied groupCount (groupRecord (familyOf ipv6) (now (m .entry)) at) ⌝ }
+{
+    if ipv6 {
+        return group_record_of(true, m, at);
+    }
+    group_record_of(false, m, at)
 }
 
 // n group records, one after another.

@@ -68,18 +68,18 @@ fn record_allowed(ipv6: bool, m: &[u8], at: usize, is_assert: bool, zero_allowed
     false
 }
 
-// How many records that are there whole stand before the first that is not allowed.
+// How many of the records that are there whole stand before the first that is not allowed.
 fn allowed_records_of(
     ipv6: bool,
     m: &[u8],
     from: usize,
+    whole: usize,
     is_assert: bool,
     zero_allowed: bool,
 ) -> usize
-    requires { ⌜ from ≤ length (now m) ⌝ }
-    ensures { λ r. ⌜ r ≡ allowedRecords (familyOf ipv6) «is_assert» «zero_allowed» (wholeIn (recordSize (familyOf ipv6) «is_assert») (now (m .entry)) from) (now (m .entry)) from ⌝ }
+    requires { ⌜ whole ≡ wholeIn (recordSize (familyOf ipv6) «is_assert») (now m) from ⌝ }
+    ensures { λ r. ⌜ r ≡ allowedRecords (familyOf ipv6) «is_assert» «zero_allowed» whole (now (m .entry)) from ⌝ }
 {
-    let whole = records_in(ipv6, is_assert, m.len() - from);
     let mut at = from;
     let mut i = 0;
     while i < whole {
@@ -104,8 +104,9 @@ pub(crate) fn allowed_records(
     requires { ⌜ from ≤ length (now m) ⌝ }
     ensures { λ r. ⌜ r ≡ allowedRecords (familyOf ipv6) «is_assert» «zero_allowed» (wholeIn (recordSize (familyOf ipv6) «is_assert») (now (m .entry)) from) (now (m .entry)) from ⌝ }
 {
+    let whole = records_in(ipv6, is_assert, m.len() - from);
     if ipv6 {
-        return allowed_records_of(true, m, from, is_assert, zero_allowed);
+        return allowed_records_of(true, m, from, whole, is_assert, zero_allowed);
     }
-    allowed_records_of(false, m, from, is_assert, zero_allowed)
+    allowed_records_of(false, m, from, whole, is_assert, zero_allowed)
 }

@@ -2,6 +2,7 @@
 --     pair-back         a pair
 --     assert-back       an assert record
 --     record-back       a record of any kind that has one of a fixed length
+--     pair-read, assert-read     what code reads of one that is there
 -- Assumes nothing.
 use Prim.Native.Nat.{ℕ, _+_, _*_, _≤_}
 use native.Mathlib.Omega.{arith}
@@ -10,13 +11,15 @@ use mathlib.Core.Bool.{Bool, true, false, not, _&&_}
 use mathlib.Core.List.{List}
 use lib.Dec.{eqb}
 use lib.ListN.{length}
-use Rattle.records.specs.Records.{AssertRecord, PairRecord, rBit}
+use Rattle.records.specs.Records.{AssertRecord, assert, PairRecord, pair, rBit}
 use Rattle.format.specs.Reader.{Read, got, continue, _>>=_, _>>_, give, here, number, refuse}
 use Rattle.records.specs.Sizes.{assertSize, pairSize}
 use Rattle.format.specs.Family.{Family}
 use Rattle.format.specs.Address.{groupField, sourceField}
 use Rattle.octets.specs.Octets.{numberAt}
 use Rattle.octets.proofs.Laws.{number-back}
+use Rattle.addresses.specs.Addresses.{addressAt}
+use Rattle.addresses.proofs.Laws.{address-there}
 use Rattle.format.specs.Record.{Single, anAssert, aPair, assertRecord, pairRecord, recordAt}
 use Rattle.format.specs.declared.Kind.{Kind}
 use Rattle.format.specs.declared.Kind.the-variants.{Hello, Assert, Simple, Aggregated, NullRegister, RegisterStop}
@@ -86,3 +89,21 @@ record-back f Simple o at h = single-back anAssert (assertRecord f o at) o (λ e
 record-back f Aggregated o at h = absurd (no-got h)
 record-back f NullRegister o at h = single-back aPair (pairRecord f false o at) o (λ e n p. pair-back f false o at p) h
 record-back f RegisterStop o at h = single-back aPair (pairRecord f true o at) o (λ e n p. pair-back f true o at p) h
+
+-- ---- as code reads them
+
+-- w is the width as code has it
+module _ (f : Family) (o : List ℕ) (at : ℕ) {w g s : ℕ} (wide : w ≡ f .width) (group : g ≡ addressAt f o (at + 4)) (source : s ≡ addressAt f o (at + (w + 6))) where
+  addresses-read : at + pairSize (f .width) ≤ length o → (g ≡ numberAt (f .width) o (at + 4)) × (s ≡ numberAt (f .width) o (at + (f .width + 6)))
+  addresses-read there = (
+    group ∙ address-there f o (at + 4) (omega arith),
+    source ∙ (ap (λ (x : ℕ). addressAt f o (at + (x + 6))) wide ∙ address-there f o (at + (f .width + 6)) (omega arith)),
+  )
+
+  pub pair-read : at + pairSize (f .width) ≤ length o → pair g s ≡ plainPair f o at
+  unfolding plainPair
+  pair-read there = let r = addresses-read there in rw (r .0, r .1)
+
+  pub assert-read : at + assertSize (f .width) ≤ length o → {v m : ℕ} → v ≡ numberAt 4 o (at + (2 * w + 6)) → m ≡ numberAt 4 o (at + (2 * w + 10)) → assert g s v m ≡ plainAssert f o at
+  unfolding plainAssert
+  assert-read there word metric = let r = addresses-read (omega arith) in rw (r .0, r .1, word, metric, wide)

@@ -1,5 +1,6 @@
 // Fields of either family: whether the octets of one are allowed. A check finds the place past a field that is there
 // whole and allowed, or the refusal, at the field's own place.
+use addresses::begins_source;
 use addresses::family_number;
 use addresses::is_multicast;
 use addresses::mask_length;
@@ -80,6 +81,10 @@ pub fn is_source(ipv6: bool, s: &[u8], zero_allowed: bool) -> bool
     }
     if !is_native(ipv6, s) {
         return false;
+    }
+    // Nearly all are passed by their first octet, so it is asked first.
+    if begins_source(ipv6, s[2]) {
+        return true;
     }
     may_be_source(ipv6, s, 2, zero_allowed)
 }

@@ -1,16 +1,19 @@
-// Assert records and pairs: checked field by field, in octet order, in either family; and read by plain indices, in IPv4.
+// Assert records and pairs of either family: checked field by field, in octet order, and read by plain indices.
 use crate::field::Checked;
 use crate::field::bad;
 use crate::field::group_check;
 use crate::field::octets_check;
 use crate::field::source_check;
 use addresses::address_at;
-use addresses::is_zero;
+use addresses::is_zero_at;
+use addresses::width;
+use format::AddressFamily;
 use format::AssertFields;
 use format::Kind;
 use format::PairFields;
 use format::Record;
 use format::Refusal;
+use format::is_ipv6;
 use format::r_bit;
 use octets::number32;
 ghost use mathlib.Core.Path.{_≡_};
@@ -18,9 +21,10 @@ ghost use Prim.Native.Nat.{_+_, _≤_};
 ghost use lib.Dec.{eqb};
 ghost use lib.ListN.{length};
 ghost use Rattle.octets.specs.Octets.{numberAt};
-ghost use Rattle.format.specs.Family.{ipv4, familyOf};
+ghost use Rattle.records.specs.Sizes.{assertSize, pairSize};
+ghost use Rattle.format.specs.Family.{familyOf, familyNamed};
 ghost use Rattle.format.specs.Record.{assertRecord, pairRecord, recordAt};
-ghost use Rattle.fields.specs.Answers.{checked, skipped, single, plainAssert, plainPair, plainRecord};
+ghost use Rattle.fields.specs.Answers.{checked, skipped, single, plainAssert, plainPair, plainRecord, plainSize};
 ghost use Rattle.format.specs.Values.{assertOf, pairOf, recordOf};
 
 // Whether the address at a place, which is there, is 0. Four octets are read as such: over `address_at` for both families
@@ -30,7 +34,7 @@ fn zero_at(ipv6: bool, s: &[u8], at: usize) -> bool
     ensures { λ r. ⌜ r ≡ eqb (numberAt (familyOf ipv6 .width) (now (s .entry)) at) 0 ⌝ }
 {
     if ipv6 {
-        return is_zero(address_at(true, s, at));
+        return is_zero_at(s, at);
     }
     number32(s, at) == 0
 }
@@ -86,54 +90,43 @@ fn record_check(ipv6: bool, kind: Kind, m: &[u8], at: usize) -> Checked
     }
 }
 
-// The numbers of an assert record that is there; of one that is cut, those of the octets that are there. Past the end
-// there is none, and `at + 18` could wrap.
-fn assert_at(m: &[u8], at: usize) -> AssertFields
-    ensures { λ r. ⌜ assertOf r ≡ plainAssert ipv4 (now (m .entry)) at ⌝ }
+// The numbers of an assert record that is there.
+fn assert_at(ipv6: bool, m: &[u8], at: usize) -> AssertFields
+    requires { ⌜ at + assertSize (familyOf ipv6 .width) ≤ length (now m) ⌝ }
+    ensures { λ r. ⌜ assertOf r ≡ plainAssert (familyOf ipv6) (now (m .entry)) at ⌝ }
 {
-    if m.len() < at {
-        return AssertFields {
-            group: 0,
-            source: 0,
-            r_preference: 0,
-            metric: 0,
-        };
-    }
+    let w = width(ipv6);
     AssertFields {
-        group: number32(m, at + 4),
-        source: number32(m, at + 10),
-        r_preference: number32(m, at + 14),
-        metric: number32(m, at + 18),
+        group: address_at(ipv6, m, at + 4),
+        source: address_at(ipv6, m, at + (w + 6)),
+        r_preference: number32(m, at + (2 * w + 6)),
+        metric: number32(m, at + (2 * w + 10)),
     }
 }
 
 // The same for a pair.
-fn pair_at(m: &[u8], at: usize) -> PairFields
-    ensures { λ r. ⌜ pairOf r ≡ plainPair ipv4 (now (m .entry)) at ⌝ }
+fn pair_at(ipv6: bool, m: &[u8], at: usize) -> PairFields
+    requires { ⌜ at + pairSize (familyOf ipv6 .width) ≤ length (now m) ⌝ }
+    ensures { λ r. ⌜ pairOf r ≡ plainPair (familyOf ipv6) (now (m .entry)) at ⌝ }
 {
-    if m.len() < at {
-        return PairFields {
-            group: 0,
-            source: 0,
-        };
-    }
     PairFields {
-        group: number32(m, at + 4),
-        source: number32(m, at + 10),
+        group: address_at(ipv6, m, at + 4),
+        source: address_at(ipv6, m, at + (width(ipv6) + 6)),
     }
 }
 
 // The same by the kind. A hello and an aggregated message have no record of one length, and are refused before.
-fn record_at(kind: Kind, m: &[u8], at: usize) -> Record
-    ensures { λ r. ⌜ recordOf r ≡ plainRecord ipv4 kind (now (m .entry)) at ⌝ }
+fn record_at(ipv6: bool, kind: Kind, m: &[u8], at: usize) -> Record
+    requires { ⌜ at + plainSize (familyOf ipv6) kind ≤ length (now m) ⌝ }
+    ensures { λ r. ⌜ recordOf r ≡ plainRecord (familyOf ipv6) kind (now (m .entry)) at ⌝ }
 {
     match kind {
-        Kind::Hello => Record::Assert(assert_at(m, at)),
-        Kind::Assert => Record::Assert(assert_at(m, at)),
-        Kind::Simple => Record::Assert(assert_at(m, at)),
-        Kind::Aggregated => Record::Assert(assert_at(m, at)),
-        Kind::NullRegister => Record::Pair(pair_at(m, at)),
-        Kind::RegisterStop => Record::Pair(pair_at(m, at)),
+        Kind::Hello => Record::Assert(assert_at(ipv6, m, at)),
+        Kind::Assert => Record::Assert(assert_at(ipv6, m, at)),
+        Kind::Simple => Record::Assert(assert_at(ipv6, m, at)),
+        Kind::Aggregated => Record::Assert(assert_at(ipv6, m, at)),
+        Kind::NullRegister => Record::Pair(pair_at(ipv6, m, at)),
+        Kind::RegisterStop => Record::Pair(pair_at(ipv6, m, at)),
     }
 }
 
@@ -144,14 +137,15 @@ pub enum Single {
 }
 
 // The record of a kind at a place, and the next place. What follows it is no fault here.
-pub fn read_record(kind: Kind, m: &[u8], at: usize) -> Single
-    ensures { λ r. ⌜ single r ≡ recordAt ipv4 kind (now (m .entry)) at ⌝ }
+pub fn read_record(family: AddressFamily, kind: Kind, m: &[u8], at: usize) -> Single
+    ensures { λ r. ⌜ single r ≡ recordAt (familyNamed family) kind (now (m .entry)) at ⌝ }
 {
-    let c = record_check(false, kind, m, at);
+    let ipv6 = is_ipv6(family);
+    let c = record_check(ipv6, kind, m, at);
     match c {
         Checked::Bad(r) => Single::Refused(r),
         Checked::Next(next) => Single::Got {
-            record: record_at(kind, m, at),
+            record: record_at(ipv6, kind, m, at),
             next,
         },
     }

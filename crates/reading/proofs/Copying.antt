@@ -1,6 +1,6 @@
 -- Entries written one after another into a lent buffer, from things that stand one after another in a message.
 --     copied-past, number-into          octets copied past those that were written; a number written into a part
---     past-front                        an entry, field by field
+--     two-words                         words that were copied at once
 --     put-one                           one entry, as a list of entries
 --     Left                              what is still to be written gives the whole: left-room, left-step, left-end
 --     Series, series-length             things from a place on, by the first of them: their entries and octets; of one entry each
@@ -8,31 +8,31 @@
 --                                       there and the entries fit (turn-there), and the next stands (turn-next); walk-end
 --     records-series, addresses-series, groups-series     the things of a message
 --     length-entry, length-addresses    the length of an entry; the number of addresses
---     addresses-none, first-fits, others-fit, others-copied     what the function for n addresses promises, by none, or by the first and the others
 --     entry-at, either-there, either-entry     the entry of a record by its numbers; of two addresses the one that is the group, and the one that is the source
 --     fit-inside, copied-inside         what a thing's function asks and promises, by that of what stands in it
 --     group-none, group-some, source-record-is, rp-record-is, size-least     a group record and an aggregated record, by what code tests
 --     ToEnd                             the loop over aggregated records: to-end-start, record-there, record-next, to-end-end
 -- Assumes nothing.
 use Prim.Native.Nat.{ℕ, zero, suc, _+_, _-_, _*_, _≤_, _<_}
-use native.Mathlib.Nat.{add-zero, mul-add, mul-suc, mul-zero, zero-add}
+use native.Mathlib.Nat.{mul-add, mul-suc, mul-zero, zero-add}
 use native.Mathlib.Omega.{arith}
 use mathlib.Core.Path.{_≡_, refl, sym, ap, _∙_}
 use mathlib.Core.Bool.{Bool, true, false, cond}
-use mathlib.Core.List.{List, [], _∷_, _++_, map, append-nil, append-assoc}
-use lib.ListN.{length, take, drop, length-append, length-drop, length-map, drop-of-length-le}
+use mathlib.Core.List.{List, [], _∷_, _++_, map, append-nil}
+use lib.ListN.{length, take, drop, length-append, length-drop, drop-of-length-le}
 use lib.Seq.{drop-drop, length-take-le}
 use borrow.Author.Tests.{le-leb, lt-leb}
 use borrow.Rule.Slice.PartMut.{putMid}
 use Rattle.octets.specs.Octets.{Octets, numberAt, be, put, copied}
 use Rattle.octets.specs.Field.{fitted}
-use Rattle.octets.proofs.Laws.{put-nil, put-put, put-next, length-put, length-be, copied-number, number-fits}
+use Rattle.octets.proofs.Laws.{put-nil, put-put, put-next, length-put, length-be, number-split, be-two, copied-number, number-fits}
 use Rattle.records.specs.Records.{rBit, AssertRecord, assert, ofGroup, AggregatedRecord, ofSource, ofRp, groupEntries, allGroupEntries, entries, allEntries}
 use Rattle.records.specs.Sizes.{groupRecordSize, groupRecordsSize, aggregatedSize, allSize}
 use Rattle.format.specs.Family.{Family}
-use Rattle.format.specs.Entry.{frontSize, assertEntryOctets, pairEntryOctets}
+use Rattle.format.specs.Entry.{assertEntryOctets, pairEntryOctets}
 use Rattle.format.specs.Record.{each}
 use Rattle.format.proofs.Lengths.{each-append, length-each}
+use Rattle.format.proofs.Entries.{numberAt-lt}
 use Rattle.fields.specs.Answers.{plainAssert, plainPair}
 use Rattle.reading.specs.Copied.{Fit, Copied}
 use Rattle.reading.specs.declared.copy.Places.{Places}
@@ -60,12 +60,9 @@ number-into k n d out past e room h =
     ∙ rw (length-be k n, zero-add, drop-of-length-le (take k (drop out d)) {i = k} (omega arith), append-nil) refl in
     ap (putMid out (past - out) d) h ∙ rw (m, whole, length-be k n, drop-drop) refl
 
--- the octets of an entry: its front, then two addresses, then what stands past them
-pub past-front : (f : Family) (d : List ℕ) (out : ℕ) (g s rest : List ℕ) {d₁ d₂ d₃ : List ℕ} {at past : ℕ} → d₁ ≡ put d out (f .front) → d₂ ≡ put d₁ at (g ++ s) → d₃ ≡ put d₂ past rest
-    → at ≡ out + frontSize f → past ≡ at + (length g + length s) → d₃ ≡ put d out (f .front ++ (g ++ (s ++ rest)))
-past-front f d out g s rest {d₁} {at = at} front addresses others h k =
-    put-next d out (f .front) (g ++ (s ++ rest)) front
-    (put-next d₁ at (g ++ s) rest addresses others (k ∙ ap (λ (x : ℕ). at + x) (sym (length-append g s))) ∙ ap (put d₁ at) (append-assoc g s rest)) h
+-- two words that stand one after another
+pub two-words : (o : List ℕ) (at : ℕ) → Octets o → at + 8 ≤ length o → be 8 (numberAt 8 o at) ≡ be 4 (numberAt 4 o at) ++ be 4 (numberAt 4 o (at + 4))
+two-words o at octet there = rw (number-split 4 4 o at there) (be-two 4 4 (numberAt 4 o at) (numberAt 4 o (at + 4)) (numberAt-lt 4 o (at + 4) octet))
 
 -- ---- entries of one size
 
@@ -204,68 +201,16 @@ unfolding plainAddresses
 length-addresses isGroup w o at zero = refl
 length-addresses isGroup w o at (suc n) = ap suc (length-addresses isGroup w o (at + (w + skip isGroup)) n)
 
-like-length : (isGroup : Bool) (w : ℕ) (o : List ℕ) (other word at n : ℕ) → length (likeEntries isGroup w o other word at n) ≡ n
-like-length isGroup w o other word at n = length-map (plainAddresses isGroup w o at n) _ ∙ length-addresses isGroup w o at n
-
--- n addresses: none, or the first and k others
-pub addresses-none : (isGroup : Bool) (f : Family) (o : List ℕ) (other word from n : ℕ) (d : List ℕ) (start : ℕ) → n ≡ 0
-    → Copied f from ((f .width + skip isGroup) * n) d start (likeEntries isGroup (f .width) o other word from n) d (record { at = from; out = start })
-unfolding plainAddresses each
-addresses-none isGroup f o other word from n d start e =
-    rw e (record {
-      read = sym (ap (λ (x : ℕ). from + x) (mul-zero (f .width + skip isGroup)) ∙ add-zero from);
-      written = sym (ap (λ (x : ℕ). start + x) (mul-zero (entrySize true f)) ∙ add-zero start);
-      buffer = sym (put-nil d start);
-    })
-
-spans : (s : ℕ) {n k : ℕ} → n ≡ suc k → s * n ≡ s + s * k
-spans s {k = k} e = ap (λ (x : ℕ). s * x) e ∙ span-suc s k
-
-pub first-fits : (isGroup : Bool) (f : Family) (o : List ℕ) (other word from n k start : ℕ) (d : List ℕ) → n ≡ suc k
-    → Fit f o from ((f .width + skip isGroup) * n) d start (likeEntries isGroup (f .width) o other word from n)
-    → (from + (f .width + skip isGroup) ≤ length o) × (start + entrySize true f ≤ length d)
-first-fits isGroup f o other word from n k start d e h =
-    let room = rw (like-length isGroup (f .width) o other word from n) at (h .room) in
-    (omega (arith, h .there, spans (f .width + skip isGroup) e), omega (arith, room, spans (entrySize true f) e))
-
-module _ (isGroup : Bool) (f : Family) (o : List ℕ) (other word from n k at out start : ℕ) (d d′ : List ℕ) (e : n ≡ suc k)
-    (next : at ≡ from + (f .width + skip isGroup)) (past : out ≡ start + entrySize true f) where
-  pub others-fit : length d′ ≡ length d → Fit f o from ((f .width + skip isGroup) * n) d start (likeEntries isGroup (f .width) o other word from n)
-      → Fit f o at ((f .width + skip isGroup) * k) d′ out (likeEntries isGroup (f .width) o other word at k)
-  others-fit same h =
-      let room = rw (like-length isGroup (f .width) o other word from n) at (h .room) in
-      record {
-        there = omega (arith, h .there, spans (f .width + skip isGroup) e);
-        room = rw (like-length isGroup (f .width) o other word at k) (omega (arith, room, spans (entrySize true f) e, same));
-      }
-
-  pub others-copied : {d″ : List ℕ} {p : Places}
-      → d′ ≡ put d start (assertEntryOctets f (withAddress isGroup (numberAt (f .width) o other) (numberAt 4 o word) (numberAt 4 o (word + 4)) (numberAt (f .width) o (from + skip isGroup))))
-      → Copied f at ((f .width + skip isGroup) * k) d′ out (likeEntries isGroup (f .width) o other word at k) d″ p
-      → Copied f from ((f .width + skip isGroup) * n) d start (likeEntries isGroup (f .width) o other word from n) d″ p
-  unfolding plainAddresses each
-  others-copied first h =
-      let one : AssertRecord = withAddress isGroup (numberAt (f .width) o other) (numberAt 4 o word) (numberAt 4 o (word + 4)) (numberAt (f .width) o (from + skip isGroup)) in
-      let split : likeEntries isGroup (f .width) o other word from n ≡ one ∷ likeEntries isGroup (f .width) o other word at k = rw (e, next) refl in
-      let written = rw (like-length isGroup (f .width) o other word at k) at (h .written) in
-      record {
-        read = omega (arith, h .read, spans (f .width + skip isGroup) e);
-        written = rw (like-length isGroup (f .width) o other word from n) (omega (arith, written, spans (entrySize true f) e));
-        buffer =
-            put-next d start (assertEntryOctets f one) _ first (h .buffer) (omega (arith, length-entry true f one))
-            ∙ ap (λ es. put d start (each (assertEntryOctets f) es)) (sym split);
-      }
-
 -- the address and the other one: which is the group, and which the source
 pub either-there : (isGroup : Bool) (address other w len : ℕ) {g s : ℕ} → address + w ≤ len → other + w ≤ len → g ≡ cond isGroup address other → s ≡ cond isGroup other address
     → (g + w ≤ len) × (s + w ≤ len)
 either-there true address other w len h k p q = (omega arith, omega arith)
 either-there false address other w len h k p q = (omega arith, omega arith)
 
-pub either-entry : (isGroup : Bool) (w : ℕ) (o : List ℕ) (address other : ℕ) {g s v v′ m m′ : ℕ} → g ≡ cond isGroup address other → s ≡ cond isGroup other address
-    → v ≡ v′ → m ≡ m′ → assert (numberAt w o g) (numberAt w o s) v m ≡ withAddress isGroup (numberAt w o other) v′ m′ (numberAt w o address)
-either-entry true w o address other p q r t = rw (p, q, r, t)
-either-entry false w o address other p q r t = rw (p, q, r, t)
+pub either-entry : (isGroup : Bool) (w : ℕ) (o : List ℕ) (address other v m : ℕ) {g s : ℕ} → g ≡ cond isGroup address other → s ≡ cond isGroup other address
+    → assert (numberAt w o g) (numberAt w o s) v m ≡ withAddress isGroup (numberAt w o other) v m (numberAt w o address)
+either-entry true w o address other v m p q = rw (p, q)
+either-entry false w o address other v m p q = rw (p, q)
 
 pub groups-series : (w : ℕ) (o : List ℕ) (v m : ℕ)
     → Series (λ at. groupEntries v m (plainGroupRecord w o at)) (λ at. groupRecordSize w (numberAt 2 o (at + (w + 4))))

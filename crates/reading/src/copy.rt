@@ -1,12 +1,13 @@
 // The second pass of a reading call: the entries of octets that were checked, written one after another.
-// Octets are copied as they stand; no number is read but the counts, and the two words that many entries share.
+// Octets are copied as they stand; no number is read but the counts, and R.
 // Nothing is refused here: each function knows that its octets are there and that the entries fit.
 // A loop over n things is two functions, the loop and one that calls it with the family as a literal: so the compiler
-// makes a loop for each family.
+// makes a loop for each family. A group record, of which a message may have many short ones, is two functions too.
 use addresses::copy_address;
 use addresses::front_size;
 use addresses::width;
 use format::r_bit;
+use octets::copy8;
 use octets::number16;
 use octets::number32;
 use octets::write32;
@@ -17,7 +18,7 @@ ghost use Prim.Native.Nat.{_+_, _≤_, _*_};
 ghost use lib.ListN.{length};
 ghost use Rattle.octets.specs.Octets.{numberAt, be, put};
 ghost use Rattle.records.specs.Sizes.{groupRecordSize, groupRecordsSize, aggregatedSize, allSize};
-ghost use Rattle.records.specs.Records.{assert, groupEntries, allGroupEntries, entries, allEntries};
+ghost use Rattle.records.specs.Records.{groupEntries, allGroupEntries, entries, allEntries};
 ghost use Rattle.format.specs.Family.{familyOf};
 ghost use Rattle.format.specs.Record.{each};
 ghost use Rattle.format.specs.Entry.{frontSize, assertEntryOctets};
@@ -41,7 +42,7 @@ pub(crate) fn entry_size(ipv6: bool, is_assert: bool) -> usize
     front_size(ipv6) + 2 * width(ipv6) + either(is_assert, 8, 0)
 }
 
-// Two fields of one size, one after another: addresses of a family, or words, which are as long as an IPv4 address.
+// Two addresses, one after another.
 fn copy_two(ipv6: bool, m: &[u8], first: usize, s: &[u8], second: usize, d: &mut [u8], out: usize)
     requires { ⌜ (first + familyOf ipv6 .width ≤ length (now m)) × (second + familyOf ipv6 .width ≤ length (now s)) × (out + 2 * familyOf ipv6 .width ≤ length (now d)) ⌝ }
     ensures { λ r. ⌜ now (d .exit) ≡ put (now (d .entry)) out (be (familyOf ipv6 .width) (numberAt (familyOf ipv6 .width) (now (m .entry)) first) ++ be (familyOf ipv6 .width) (numberAt (familyOf ipv6 .width) (now (s .entry)) second)) ⌝ }
@@ -51,22 +52,16 @@ fn copy_two(ipv6: bool, m: &[u8], first: usize, s: &[u8], second: usize, d: &mut
     copy_address(ipv6, &s[second..second + w], &mut d[out + w..out + 2 * w]);
 }
 
-// A word at a place where there is room for it.
-fn put_word(d: &mut [u8], out: usize, n: u32)
-    requires { ⌜ out + 4 ≤ length (now d) ⌝ }
-    ensures { λ r. ⌜ now (d .exit) ≡ put (now (d .entry)) out (be 4 n) ⌝ }
-{
-    write32(&mut d[out..out + 4], 0, n);
-}
-
-// What an entry begins with: the family and three zero octets, as one word. IPv4 has nothing there.
+// What an entry begins with: the family and three zero octets, as one word.
 fn put_front(ipv6: bool, d: &mut [u8], out: usize)
     requires { ⌜ out + frontSize (familyOf ipv6) ≤ length (now d) ⌝ }
     ensures { λ r. ⌜ now (d .exit) ≡ put (now (d .entry)) out (familyOf ipv6 .front) ⌝ }
 {
     if ipv6 {
-        put_word(d, out, 0x0200_0000);
+        write32(&mut d[out..out + 4], 0, 0x0200_0000);
+        return;
     }
+    write32(&mut d[out..out + 4], 0, 0x0100_0000);
 }
 
 // An entry, from the places of its group and, of an assert, of its word R with preference, after which the metric stands.
@@ -89,31 +84,9 @@ fn copy_entry(
     put_front(ipv6, d, out);
     copy_two(ipv6, m, group, s, source, d, addresses);
     if is_assert {
-        copy_two(false, m, word, m, word + 4, d, addresses + 2 * width(ipv6));
+        let words = addresses + 2 * width(ipv6);
+        copy8(&m[word..word + 8], &mut d[words..words + 8]);
     }
-}
-
-// An assert entry whose two words are numbers. The compiler does not know that message and entries are apart, and would load
-// octets of the message anew for each entry; numbers stay in registers, and both words are one store.
-fn put_entry(
-    ipv6: bool,
-    m: &[u8],
-    group: usize,
-    source: usize,
-    r_preference: u32,
-    metric: u32,
-    d: &mut [u8],
-    out: usize,
-)
-    requires { ⌜ (group + familyOf ipv6 .width ≤ length (now m)) × (source + familyOf ipv6 .width ≤ length (now m)) × (out + entrySize true (familyOf ipv6) ≤ length (now d)) ⌝ }
-    ensures { λ r. ⌜ now (d .exit) ≡ put (now (d .entry)) out (assertEntryOctets (familyOf ipv6) (assert (numberAt (familyOf ipv6 .width) (now (m .entry)) group) (numberAt (familyOf ipv6 .width) (now (m .entry)) source) «r_preference» metric)) ⌝ }
-{
-    let addresses = out + front_size(ipv6);
-    let words = addresses + 2 * width(ipv6);
-    put_front(ipv6, d, out);
-    copy_two(ipv6, m, group, m, source, d, addresses);
-    put_word(d, words, r_preference);
-    put_word(d, words + 4, metric);
 }
 
 // n assert records, or n pairs, one after another.
@@ -159,8 +132,8 @@ struct Places {
     out: usize,
 }
 
-// One entry for each of n groups, or of n sources, all with one other address and two words, which are read once.
-fn put_addresses(
+// One entry for each of n groups, or of n sources, all with one other address and two words.
+fn copy_addresses_of(
     ipv6: bool,
     is_group: bool,
     m: &[u8],
@@ -176,8 +149,6 @@ fn put_addresses(
 {
     let w = width(ipv6);
     let size = entry_size(ipv6, true);
-    let r_preference = number32(&m[word..word + 4], 0);
-    let metric = number32(&m[word + 4..word + 8], 0);
     let mut left = n;
     let mut at = from;
     let mut out = start;
@@ -185,52 +156,12 @@ fn put_addresses(
         let address = at + either(is_group, 4, 2);
         let group = either(is_group, address, other);
         let source = either(is_group, other, address);
-        put_entry(ipv6, m, group, source, r_preference, metric, d, out);
+        copy_entry(ipv6, true, m, group, m, source, word, d, out);
         at = address + w;
         out += size;
         left -= 1;
     }
     Places { at, out }
-}
-
-// The same, the first entry copied as it stands. The first octet of the words was read already, for R; until something is stored, the
-// compiler keeps it and would read the words octet by octet.
-fn copy_addresses_of(
-    ipv6: bool,
-    is_group: bool,
-    m: &[u8],
-    from: usize,
-    n: usize,
-    other: usize,
-    word: usize,
-    d: &mut [u8],
-    start: usize,
-) -> Places
-    requires { ⌜ (other + familyOf ipv6 .width ≤ length (now m)) × (word + 8 ≤ length (now m)) × Fit (familyOf ipv6) (now m) from ((familyOf ipv6 .width + skip «is_group») * n) (now d) start (likeEntries «is_group» (familyOf ipv6 .width) (now m) other word from n) ⌝ }
-    ensures { λ r. ⌜ Copied (familyOf ipv6) from ((familyOf ipv6 .width + skip «is_group») * n) (now (d .entry)) start (likeEntries «is_group» (familyOf ipv6 .width) (now (m .entry)) other word from n) (now (d .exit)) r ⌝ }
-{
-    if n == 0 {
-        return Places {
-            at: from,
-            out: start,
-        };
-    }
-    let w = width(ipv6);
-    let address = from + either(is_group, 4, 2);
-    let group = either(is_group, address, other);
-    let source = either(is_group, other, address);
-    copy_entry(ipv6, true, m, group, m, source, word, d, start);
-    put_addresses(
-        ipv6,
-        is_group,
-        m,
-        address + w,
-        n - 1,
-        other,
-        word,
-        d,
-        start + entry_size(ipv6, true),
-    )
 }
 
 fn copy_addresses(
@@ -254,7 +185,7 @@ fn copy_addresses(
 }
 
 // The entries of a group record; with no source one entry with source 0.
-fn copy_group_record(
+fn copy_group_record_of(
     ipv6: bool,
     m: &[u8],
     at: usize,
@@ -277,6 +208,23 @@ fn copy_group_record(
         };
     }
     copy_addresses(ipv6, false, m, sources, p, at + 4, word, d, out)
+}
+
+fn copy_group_record(
+    ipv6: bool,
+    m: &[u8],
+    at: usize,
+    d: &mut [u8],
+    out: usize,
+    word: usize,
+) -> Places
+    requires { ⌜ (word + 8 ≤ length (now m)) × Fit (familyOf ipv6) (now m) at (groupRecordSize (familyOf ipv6 .width) (numberAt 2 (now m) (at + (familyOf ipv6 .width + 4)))) (now d) out (groupEntries (numberAt 4 (now m) word) (numberAt 4 (now m) (word + 4)) (plainGroupRecord (familyOf ipv6 .width) (now m) at)) ⌝ }
+    ensures { λ r. ⌜ Copied (familyOf ipv6) at (groupRecordSize (familyOf ipv6 .width) (numberAt 2 (now (m .entry)) (at + (familyOf ipv6 .width + 4)))) (now (d .entry)) out (groupEntries (numberAt 4 (now (m .entry)) word) (numberAt 4 (now (m .entry)) (word + 4)) (plainGroupRecord (familyOf ipv6 .width) (now (m .entry)) at)) (now (d .exit)) r ⌝ }
+{
+    if ipv6 {
+        return copy_group_record_of(true, m, at, d, out, word);
+    }
+    copy_group_record_of(false, m, at, d, out, word)
 }
 
 // The entries of n group records, one after another.

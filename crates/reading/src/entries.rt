@@ -6,18 +6,18 @@ use crate::copy::entry_size;
 use counting::Counted;
 use counting::count_asserts;
 use counting::count_pairs;
+use format::AddressFamily;
 use format::Kind;
 use format::Path;
 use format::Refusal;
-use format::nowhere;
+use format::is_ipv6;
 use headers::Headed;
 use headers::header;
 ghost use mathlib.Core.Path.{_≡_};
 ghost use Prim.Native.Nat.{_*_, _≤_};
 ghost use lib.ListN.{length};
 ghost use Rattle.octets.specs.Octets.{put};
-ghost use Rattle.format.specs.Path.{nowhere};
-ghost use Rattle.format.specs.Family.{familyOf, ipv4};
+ghost use Rattle.format.specs.Family.{familyOf, familyNamed};
 ghost use Rattle.format.specs.Record.{each};
 ghost use Rattle.format.specs.Reading.{readAsserts, readPairs};
 ghost use Rattle.counting.specs.Counts.{counted, tallied};
@@ -88,17 +88,17 @@ fn read_of(ipv6: bool, path: Path, is_assert: bool, m: &[u8], d: &mut [u8]) -> R
 }
 
 // Reads a message of the assert kinds into assert entries.
-pub fn read_asserts(m: &[u8], d: &mut [u8]) -> Reading
-    ensures answer { λ r. ⌜ answered r ≡ readAsserts ipv4 nowhere (now (m .entry)) (now (d .entry)) .answer ⌝ }
-    ensures lent { λ r. ⌜ now (d .exit) ≡ readAsserts ipv4 nowhere (now (m .entry)) (now (d .entry)) .lent ⌝ }
+pub fn read_asserts(family: AddressFamily, path: Path, m: &[u8], d: &mut [u8]) -> Reading
+    ensures answer { λ r. ⌜ answered r ≡ readAsserts (familyNamed family) path (now (m .entry)) (now (d .entry)) .answer ⌝ }
+    ensures lent { λ r. ⌜ now (d .exit) ≡ readAsserts (familyNamed family) path (now (m .entry)) (now (d .entry)) .lent ⌝ }
 {
-    read_of(false, nowhere(), true, m, d)
+    read_of(is_ipv6(family), path, true, m, d)
 }
 
 // Reads a message of the pair kinds into pair entries.
-pub fn read_pairs(m: &[u8], d: &mut [u8]) -> Reading
-    ensures answer { λ r. ⌜ answered r ≡ readPairs ipv4 nowhere (now (m .entry)) (now (d .entry)) .answer ⌝ }
-    ensures lent { λ r. ⌜ now (d .exit) ≡ readPairs ipv4 nowhere (now (m .entry)) (now (d .entry)) .lent ⌝ }
+pub fn read_pairs(family: AddressFamily, path: Path, m: &[u8], d: &mut [u8]) -> Reading
+    ensures answer { λ r. ⌜ answered r ≡ readPairs (familyNamed family) path (now (m .entry)) (now (d .entry)) .answer ⌝ }
+    ensures lent { λ r. ⌜ now (d .exit) ≡ readPairs (familyNamed family) path (now (m .entry)) (now (d .entry)) .lent ⌝ }
 {
-    read_of(false, nowhere(), false, m, d)
+    read_of(is_ipv6(family), path, false, m, d)
 }

@@ -2,7 +2,7 @@
 -- them. The measure is how many that are there are left. Assumes nothing.
 use Prim.Native.Nat.{_+_, _-_, _≤_, min}
 use native.Mathlib.Omega.{arith}
-use mathlib.Core.Path.{_≡_, sym, ap, _∙_}
+use mathlib.Core.Path.{_≡_, sym, _∙_}
 use borrow.Author.Needs.{needs}
 use denote.Ref.{now}
 use lib.ListN.{length}
@@ -14,28 +14,27 @@ use Rattle.counting.proofs.whole.allowed_records_of.Statement.{statemen
 use Rattle.counting.proofs.whole.allowed_records_of.Tie as tie
 
 abbrev Inv-loop : tie.InvT-loop
-Inv-loop ipv6 m from is-assert zero-allowed whole at₀ i₀ at i =
+Inv-loop ipv6 m from whole is-assert zero-allowed at₀ i₀ at i =
     (whole - i ≡ min (whole - i) (wholeIn (recordSize (familyOf ipv6) is-assert) m at))
     × (i + allowedRecords (familyOf ipv6) is-assert zero-allowed (whole - i) m at ≡ allowedRecords (familyOf ipv6) is-assert zero-allowed whole m from)
 
 abbrev μ-loop : tie.MeasureT-loop
-μ-loop ipv6 m from is-assert zero-allowed whole at₀ i₀ at i = whole - i
+μ-loop ipv6 m from whole is-assert zero-allowed at₀ i₀ at i = whole - i
 
 abbrev start : tie.At-loop Inv-loop μ-loop → tie.Start Inv-loop μ-loop
-start l = l .before .before .before
+start l = l .before .before
 
 -- the next is there
 room : (c : tie.In-loop Inv-loop μ-loop) → c .before .loop .at + recordSize (familyOf (start (c .before) .args .ipv6)) (start (c .before) .args .is-assert) ≤ length (now (start (c .before) .args .m))
 room c =
     let l = c .before in
     let a = start l .args in
-    whole-room (record-some (familyOf (a .ipv6)) (a .is-assert)) (now (a .m)) (l .loop .at) (l .before .records-in .result) (l .before .records-in .result) (l .loop .i) (l .loop .inv .0) (c .loop-test .taken) .1
+    whole-room (record-some (familyOf (a .ipv6)) (a .is-assert)) (now (a .m)) (l .loop .at) (a .whole) (a .whole) (l .loop .i) (l .loop .inv .0) (c .loop-test .taken) .1
 
 loop-holds : tie.Need-loop-holds Inv-loop μ-loop
-unfolding wholeIn
 loop-holds c =
-    let a = c .before .before .args in
-    (omega (arith, c .records-in .ensures), allowed-first (familyOf (a .ipv6)) (a .is-assert) (a .zero-allowed) (now (a .m)) (a .from) (c .records-in .result) 0)
+    let a = c .before .args in
+    (omega (arith, c .before .pre), allowed-first (familyOf (a .ipv6)) (a .is-assert) (a .zero-allowed) (now (a .m)) (a .from) (a .whole) 0)
 
 record-allowed-requires : tie.Need-record-allowed-requires Inv-loop μ-loop
 record-allowed-requires c κs = room c
@@ -48,33 +47,26 @@ loop-again c =
     let d = c .before .before in
     let l = d .before .before in
     let a = start l .args in (
-      rw (c .record-size .ensures) (whole-next (record-some (familyOf (a .ipv6)) (a .is-assert)) (now (a .m)) (l .loop .at) (l .before .records-in .result) (l .before .records-in .result) (l .loop .i) (l .loop .inv .0)),
-      allowed-on (familyOf (a .ipv6)) (a .is-assert) (a .zero-allowed) (now (a .m)) (l .loop .at) (l .before .records-in .result) (l .loop .i) (c .record-size .ensures) (d .before .loop-test .taken)
+      rw (c .record-size .ensures) (whole-next (record-some (familyOf (a .ipv6)) (a .is-assert)) (now (a .m)) (l .loop .at) (a .whole) (a .whole) (l .loop .i) (l .loop .inv .0)),
+      allowed-on (familyOf (a .ipv6)) (a .is-assert) (a .zero-allowed) (now (a .m)) (l .loop .at) (a .whole) (l .loop .i) (c .record-size .ensures) (d .before .loop-test .taken)
           (sym (d .record-allowed .ensures) ∙ c .before .if1 .taken)
           ∙ l .loop .inv .1,
     )
-
--- those so far are all of them
-all : (l : tie.At-loop Inv-loop μ-loop) → l .loop .i + allowedRecords (familyOf (start l .args .ipv6)) (start l .args .is-assert) (start l .args .zero-allowed) (l .before .records-in .result - l .loop .i) (now (start l .args .m)) (l .loop .at) ≡ l .loop .i
-    → l .loop .i ≡ allowedRecords (familyOf (start l .args .ipv6)) (start l .args .is-assert) (start l .args .zero-allowed) (wholeIn (recordSize (familyOf (start l .args .ipv6)) (start l .args .is-assert)) (now (start l .args .m)) (start l .args .from)) (now (start l .args .m)) (start l .args .from)
-unfolding wholeIn
-all l e =
-    let a = start l .args in
-    sym e ∙ l .loop .inv .1 ∙ ap (λ w. allowedRecords (familyOf (a .ipv6)) (a .is-assert) (a .zero-allowed) w (now (a .m)) (a .from)) (l .before .records-in .ensures)
 
 returns : tie.Need-returns Inv-loop μ-loop
 returns c =
     let d = c .before in
     let l = d .before .before in
     let a = start l .args in
-    all l (allowed-no (familyOf (a .ipv6)) (a .is-assert) (a .zero-allowed) (now (a .m)) (l .loop .at) (l .before .records-in .result) (l .loop .i) (d .before .loop-test .taken)
+    sym (allowed-no (familyOf (a .ipv6)) (a .is-assert) (a .zero-allowed) (now (a .m)) (l .loop .at) (a .whole) (l .loop .i) (d .before .loop-test .taken)
     (sym (d .record-allowed .ensures) ∙ c .if1 .left))
+    ∙ l .loop .inv .1
 
 returns-2 : tie.Need-returns-2 Inv-loop μ-loop
 returns-2 c =
     let l = c .before in
     let a = start l .args in
-    all l (allowed-end (familyOf (a .ipv6)) (a .is-assert) (a .zero-allowed) (now (a .m)) (l .loop .at) (l .before .records-in .result) (l .loop .i) (c .loop-test .left))
+    sym (allowed-end (familyOf (a .ipv6)) (a .is-assert) (a .zero-allowed) (now (a .m)) (l .loop .at) (a .whole) (l .loop .i) (c .loop-test .left)) ∙ l .loop .inv .1
 
 pub allowed-records-of-spec : {M : Type 1} → statement M
 allowed-records-of-spec =
@@ -82,8 +74,6 @@ allowed-records-of-spec =
     (tie.spec
     Inv-loop
     μ-loop
-    (λ c. search needs)
-    (λ c κs. search needs)
     loop-holds
     record-allowed-requires
     (λ c κs. search needs)

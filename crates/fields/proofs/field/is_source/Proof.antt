@@ -12,7 +12,7 @@ use Rattle.octets.specs.Octets.{numberAt}
 use Rattle.records.specs.Sizes.{sourceSize}
 use Rattle.format.specs.Family.{familyOf, mayBeSource}
 use Rattle.format.specs.Address.{sourceForm}
-use Rattle.addresses.proofs.Laws.{address-there}
+use Rattle.addresses.proofs.Laws.{address-there, source-at, may-some}
 use Rattle.fields.proofs.Fields.{sourceTest, source-form}
 use Rattle.fields.proofs.field.is_source.Statement.{statement}
 use Rattle.fields.proofs.field.is_source.Tie as tie
@@ -52,8 +52,15 @@ left c =
 
 returns-3 : tie.Need-returns-3
 returns-3 c =
-    let e = c .before in
-    let a = start (past e) .args in
+    let e = c .before .before .before in
+    let a = c .before .before .before .before .before .before .before .before .args in
+    let source = source-at (a .ipv6) (now (a .s)) 2 (λ i. c .before .before .shared-slice-known2 .given i .fits) (omega (arith, long (past e))) (sym (c .before .begins-source .ensures) ∙ c .if3 .taken) in
+    rw (left e) (may-some (familyOf (a .ipv6)) (a .zero-allowed) _ source)
+
+returns-4 : tie.Need-returns-4
+returns-4 c =
+    let e = c .before .before .before .before in
+    let a = c .before .before .before .before .before .before .before .before .before .args in
     let f = familyOf (a .ipv6) in
     rw (left e) (c .may-be-source .ensures ∙ ap (mayBeSource f (a .zero-allowed)) (address-there f (now (a .s)) 2 (omega (arith, long (past e)))))
 
@@ -66,5 +73,8 @@ is-source-spec =
     returns
     (λ c κs. search needs)
     returns-2
+    (λ c. omega (arith, long (past (c .before)), c .before .before .before .before .width .ensures))
     (λ c κs. search needs)
-    returns-3)
+    returns-3
+    (λ c κs. search needs)
+    returns-4)

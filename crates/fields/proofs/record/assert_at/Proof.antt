@@ -1,39 +1,35 @@
--- `fields::record::assert_at` meets its contract: its numbers are those that `plainAssert` names, past the end 0.
+-- `fields::record::assert_at` meets its contract: its numbers are those that `plainAssert` names.
 -- Assumes nothing.
-use Prim.Native.Nat.{ℕ, _+_}
-use native.Mathlib.Omega.{arith}
-use mathlib.Core.Path.{_≡_}
 use denote.Ref.{now}
 use borrow.Author.Needs.{needs}
-use Rattle.octets.specs.Octets.{numberAt}
-use Rattle.fields.specs.Answers.{plainAssert}
+use Rattle.format.specs.Family.{familyOf}
 use Rattle.format.specs.Values.{assertOf}
-use Rattle.fields.proofs.Fields.{number-none}
+use Rattle.fields.proofs.Plain.{assert-read}
 use Rattle.fields.proofs.record.assert_at.Statement.{statement}
 use Rattle.fields.proofs.record.assert_at.Tie as tie
 
 returns : tie.Need-returns
-unfolding assertOf plainAssert
+unfolding assertOf
 returns c =
-    let a = c .before .before .args in
-    let none : (k : ℕ) → numberAt 4 (now (a .m)) (a .at + k) ≡ 0 = λ k. number-none 4 (now (a .m)) (a .at + k) (omega arith) in
-    rw (none 4, none 10, none 14, none 18)
-
-returns-2 : tie.Need-returns-2
-unfolding assertOf plainAssert
-returns-2 c = rw (c .before .before .before .number32 .ensures, c .before .before .number322 .ensures, c .before .number323 .ensures, c .number324 .ensures)
+    let a = c .before .before .before .before .before .before .args in
+    assert-read (familyOf (a .ipv6)) (now (a .m)) (a .at) (c .before .before .before .before .width .ensures .0) (c .before .before .before .address-at .ensures) (c .before .before .address-at2 .ensures) (c .before .before .before .before .before .before .pre) (c .before .number32 .ensures) (c .number322 .ensures)
 
 pub assert-at-spec : {M : Type 1} → statement M
 assert-at-spec =
     tie.close
     (tie.spec
-    returns
-    (λ c. search needs)
     (λ c κs. search needs)
     (λ c. search needs)
     (λ c κs. search needs)
     (λ c. search needs)
-    (λ c κs. search needs)
     (λ c. search needs)
     (λ c κs. search needs)
-    returns-2)
+    (λ c. search needs)
+    (λ c. search needs)
+    (λ c. search needs)
+    (λ c κs. search needs)
+    (λ c. search needs)
+    (λ c. search needs)
+    (λ c. search needs)
+    (λ c κs. search needs)
+    returns)

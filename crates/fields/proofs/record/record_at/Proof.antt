@@ -1,10 +1,34 @@
 -- `fields::record::record_at` meets its contract, kind by kind.
 -- Assumes nothing.
 use borrow.Author.Needs.{needs}
-use Rattle.fields.specs.Answers.{plainRecord}
+use Rattle.fields.specs.Answers.{plainRecord, plainSize}
 use Rattle.format.specs.Values.{recordOf}
 use Rattle.fields.proofs.record.record_at.Statement.{statement}
 use Rattle.fields.proofs.record.record_at.Tie as tie
+
+assert-at-requires : tie.Need-assert-at-requires
+unfolding plainSize
+assert-at-requires c κs = rw (c .enum-told .given .1) at (c .before .before .before .pre)
+
+assert-at-requires-2 : tie.Need-assert-at-requires-2
+unfolding plainSize
+assert-at-requires-2 c κs = rw (c .enum-told2 .given .1) at (c .before .before .before .pre)
+
+assert-at-requires-3 : tie.Need-assert-at-requires-3
+unfolding plainSize
+assert-at-requires-3 c κs = rw (c .enum-told3 .given .1) at (c .before .before .before .pre)
+
+assert-at-requires-4 : tie.Need-assert-at-requires-4
+unfolding plainSize
+assert-at-requires-4 c κs = rw (c .enum-told4 .given .1) at (c .before .before .before .pre)
+
+pair-at-requires : tie.Need-pair-at-requires
+unfolding plainSize
+pair-at-requires c κs = rw (c .enum-told5 .given .1) at (c .before .before .before .pre)
+
+pair-at-requires-2 : tie.Need-pair-at-requires-2
+unfolding plainSize
+pair-at-requires-2 c κs = rw (c .enum-told6 .given .1) at (c .before .before .before .pre)
 
 returns : tie.Need-returns
 unfolding recordOf plainRecord
@@ -35,17 +59,17 @@ record-at-spec =
     tie.close
     (tie.spec
     (λ c. search needs)
-    (λ c κs. search needs)
+    assert-at-requires
     (λ c. search needs)
-    (λ c κs. search needs)
+    assert-at-requires-2
     (λ c. search needs)
-    (λ c κs. search needs)
+    assert-at-requires-3
     (λ c. search needs)
-    (λ c κs. search needs)
+    assert-at-requires-4
     (λ c. search needs)
-    (λ c κs. search needs)
+    pair-at-requires
     (λ c. search needs)
-    (λ c κs. search needs)
+    pair-at-requires-2
     returns
     returns-2
     returns-3

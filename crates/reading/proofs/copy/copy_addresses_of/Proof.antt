@@ -1,114 +1,105 @@
--- `reading::copy::copy_addresses_of` meets its contract: none, or the first entry and the others.
+-- `reading::copy::copy_addresses_of` meets its contract: the loop's invariant is `Walk` over `addresses-series`.
+-- The measure is the addresses left.
 -- Assumes nothing.
-use Prim.Native.Nat.{ℕ, suc, _+_, _-_, _≤_}
+use Prim.Native.Nat.{ℕ, _+_, _*_, _≤_}
 use native.Mathlib.Omega.{arith}
-use mathlib.Core.Path.{_≡_, refl, ap, _∙_}
-use mathlib.Core.Bool.{true}
+use mathlib.Core.Path.{_≡_, ap, _∙_}
+use mathlib.Core.Bool.{Bool, true}
+use mathlib.Core.List.{List}
 use lib.ListN.{length}
 use denote.Ref.{now}
-use Rattle.octets.specs.Octets.{numberAt, put}
-use Rattle.octets.proofs.Laws.{length-put}
+use Rattle.octets.specs.Octets.{numberAt}
+use Rattle.records.specs.Records.{AssertRecord}
 use Rattle.format.specs.Entry.{assertEntryOctets}
 use Rattle.format.specs.Family.{familyOf}
-use Rattle.reading.specs.Plain.{entrySize, skip, withAddress, entryWith}
-use Rattle.reading.proofs.Copying.{length-entry, addresses-none, first-fits, others-fit, others-copied, either-there, either-entry}
+use Rattle.reading.specs.Plain.{entrySize, entryWith, skip, withAddress, likeEntries}
+use Rattle.reading.proofs.Copying.{Walk, walk-start, walk-end, turn-there, turn-next, put-one, addresses-series, length-entry, either-there, either-entry}
 use borrow.Author.Needs.{needs}
 use Rattle.reading.proofs.copy.copy_addresses_of.Statement.{statement}
 use Rattle.reading.proofs.copy.copy_addresses_of.Tie as tie
 
-returns : tie.Need-returns
-returns c =
-    let a = c .before .before .before .args in
-    addresses-none (a .is-group) (familyOf (a .ipv6)) (now (a .m)) (a .other) (a .word) (a .from) (a .n) (now (a .d)) (a .start) (c .if1 .taken)
+abbrev Inv-loop : tie.InvT-loop
+Inv-loop ipv6 isGroup m from n other word d₀ start w size left₀ at₀ out₀ d left at out =
+    let f = familyOf ipv6 in
+    Walk (likeEntries isGroup (f .width) m other word) (λ p k. (f .width + skip isGroup) * k) (assertEntryOctets f) (entrySize true f) (length m) from n d₀ start d at out left
 
--- where there is one at least
-abbrev begin : tie.Else1 → tie.Start
-begin c = c .before .before .before
+abbrev μ-loop : tie.MeasureT-loop
+μ-loop ipv6 isGroup m from n other word d₀ start w size left₀ at₀ out₀ d left at out = left
 
-some : (c : tie.Else1) → begin c .args .n ≡ suc (begin c .args .n - 1)
-some c = omega (arith, c .if1 .left)
+-- the loop begins after the width and the size of an entry
+abbrev begin : tie.At-loop Inv-loop μ-loop → tie.Start Inv-loop μ-loop
+begin c = c .before .before .before .before .before
 
--- the first is there, and its entry fits
-there : (c : tie.Else1)
-    → (begin c .args .from + (familyOf (begin c .args .ipv6) .width + skip (begin c .args .is-group)) ≤ length (now (begin c .args .m)))
-    × (begin c .args .start + entrySize true (familyOf (begin c .args .ipv6)) ≤ length (now (begin c .args .d)))
+loop-holds : tie.Need-loop-holds Inv-loop μ-loop
+loop-holds c =
+    let s = c .before .before .before .before in
+    walk-start (length-entry true (familyOf (s .args .ipv6))) (s .pre .2 .there) (s .pre .2 .room)
+
+-- what becomes of an address
+abbrev entry : Bool → ℕ → List ℕ → ℕ → ℕ → ℕ → AssertRecord
+entry isGroup w m other word = withAddress isGroup (numberAt w m other) (numberAt 4 m word) (numberAt 4 m (word + 4))
+
+-- in a turn the octets are there, and their entry fits
+there : (c : tie.In-loop Inv-loop μ-loop)
+    → let a = begin (c .before) .args in
+    let f = familyOf (a .ipv6) in
+    (c .before .loop .at + (f .width + skip (a .is-group)) ≤ length (now (a .m))) × (c .before .loop .out + entrySize true f * 1 ≤ length (c .before .loop .d))
+    × (c .before .before .before .width .result ≡ f .width) × (c .before .before .entry-size .result ≡ entrySize true f)
 there c =
-    let s = begin c in
-    let a = s .args in
-    first-fits (a .is-group) (familyOf (a .ipv6)) (now (a .m)) (a .other) (a .word) (a .from) (a .n) (a .n - 1) (a .start) (now (a .d)) (some c) (s .pre .2)
+    let a = begin (c .before) .args in
+    let w = familyOf (a .ipv6) .width in
+    let t = turn-there (addresses-series (a .is-group) w (now (a .m)) (entry (a .is-group) w (now (a .m)) (a .other) (a .word))) (c .before .loop .inv) (c .loop-test .taken) in
+    (t .0, t .1, c .before .before .before .width .ensures .0, c .before .before .entry-size .ensures .0)
 
-copy-entry-requires : tie.Need-copy-entry-requires
+copy-entry-requires : tie.Need-copy-entry-requires Inv-loop μ-loop
 copy-entry-requires c κs =
-    let none = c .before .before .before .before .before in
-    let s = begin none in
-    let a = s .args in
-    let t = there none in
+    let s = c .before .before .before .before .before .before .before .before .before .before in
+    let t = there (c .before .before .before .before) in
     let e = c .before .before .before .either .ensures .0 in
-    let h = either-there (a .is-group) _ (a .other) (familyOf (a .ipv6) .width) (length (now (a .m))) (omega (arith, t, e)) (s .pre .0) (c .before .before .either2 .ensures .0) (c .before .either3 .ensures .0) in
+    let h = either-there (s .args .is-group) _ (s .args .other) (familyOf (s .args .ipv6) .width) (length (now (s .args .m))) (omega (arith, t, e)) (s .pre .0) (c .before .before .either2 .ensures .0) (c .before .either3 .ensures .0) in
     (h .0, h .1, s .pre .1, omega (arith, t))
 
--- the first entry, by its group and its source
-entry-is : (c : tie.After-either3)
-    → let a = begin (c .before .before .before .before) .args in
-    let f = familyOf (a .ipv6) in
-    let m = now (a .m) in
-    entryWith true f (numberAt (f .width) m (c .before .either2 .result)) (numberAt (f .width) m (c .either3 .result)) (numberAt 4 m (a .word)) (numberAt 4 m (a .word + 4))
-    ≡ withAddress (a .is-group) (numberAt (f .width) m (a .other)) (numberAt 4 m (a .word)) (numberAt 4 m (a .word + 4)) (numberAt (f .width) m (a .from + skip (a .is-group)))
+loop-again : tie.Need-loop-again Inv-loop μ-loop
 unfolding entryWith
-entry-is c =
-    let a = begin (c .before .before .before .before) .args in
-    let w = familyOf (a .ipv6) .width in
+loop-again c =
+    let l = c .before .before .before .before .before .before .before .before in
+    let a = c .before .before .before .before .before .before .before .before .before .before .before .before .before .args in
     let m = now (a .m) in
-    either-entry (a .is-group) w m _ (a .other) (c .before .either2 .ensures .0) (c .either3 .ensures .0) refl refl
-    ∙ ap (λ (x : ℕ). withAddress (a .is-group) (numberAt w m (a .other)) (numberAt 4 m (a .word)) (numberAt 4 m (a .word + 4)) (numberAt w m (a .from + x))) (c .before .before .either .ensures .0)
-
-put-addresses-requires : tie.Need-put-addresses-requires
-put-addresses-requires c κs =
-    let copy = c .before .before .before .before in
-    let chosen = copy .before .before in
-    let wide = chosen .before .before .before in
-    let none = wide .before in
-    let s = begin none in
-    let a = s .args in
+    let t = there (c .before .before .before .before .before .before .before) in
     let f = familyOf (a .ipv6) in
-    let t = there none in
-    let e = chosen .before .before .either .ensures .0 in
-    let same = ap length (copy .copy-entry .ensures) ∙ length-put (now (a .d)) (a .start) _ (omega (arith, t, length-entry true f (entryWith true f (numberAt (f .width) (now (a .m)) (chosen .before .either2 .result)) (numberAt (f .width) (now (a .m)) (chosen .either3 .result)) (numberAt 4 (now (a .m)) (a .word)) (numberAt 4 (now (a .m)) (a .word + 4))))) in (
-      s .pre .0,
-      s .pre .1,
-      others-fit (a .is-group) f (now (a .m)) (a .other) (a .word) (a .from) (a .n) (a .n - 1) _ _ (a .start) (now (a .d)) _ (some none)
-          (omega (arith, e, wide .width .ensures)) (omega (arith, c .entry-size .ensures)) same (s .pre .2),
-    )
+    let e = c .before .before .before .before .before .before .either .ensures .0 in
+    let same = either-entry (a .is-group) (f .width) m _ (a .other) (numberAt 4 m (a .word)) (numberAt 4 m (a .word + 4)) (c .before .before .before .before .before .either2 .ensures .0) (c .before .before .before .before .either3 .ensures .0) ∙ ap (λ (x : ℕ). entry (a .is-group) (f .width) m (a .other) (a .word) (numberAt (f .width) m (l .loop .at + x))) e in
+    turn-next (addresses-series (a .is-group) (f .width) m (entry (a .is-group) (f .width) m (a .other) (a .word))) (l .loop .inv) (omega (arith, c .before .before .before .before .before .before .before .loop-test))
+    (put-one (assertEntryOctets f) (l .loop .d) (l .loop .out) (c .before .before .copy-entry .ensures) same) (omega (arith, t, e)) (omega (arith, t))
 
-returns-2 : tie.Need-returns-2
-returns-2 c =
-    let rest = c .before .before in
-    let copy = rest .before .before .before .before .before in
-    let chosen = copy .before .before in
-    let wide = chosen .before .before .before in
-    let none = wide .before in
-    let a = begin none .args in
-    let f = familyOf (a .ipv6) in
-    let e = chosen .before .before .either .ensures .0 in
-    others-copied (a .is-group) f (now (a .m)) (a .other) (a .word) (a .from) (a .n) (a .n - 1) _ _ (a .start) (now (a .d)) _ (some none)
-    (omega (arith, e, wide .width .ensures)) (omega (arith, rest .before .entry-size .ensures))
-    (copy .copy-entry .ensures ∙ ap (λ r. put (now (a .d)) (a .start) (assertEntryOctets f r)) (entry-is chosen)) (rest .put-addresses .ensures)
+same-length : tie.Need-same-length Inv-loop μ-loop
+same-length c = c .before .loop .inv .written .same
+
+returns : tie.Need-returns Inv-loop μ-loop
+returns c =
+    let a = begin (c .before) .args in
+    let w = familyOf (a .ipv6) .width in
+    let h = walk-end (addresses-series (a .is-group) w (now (a .m)) (entry (a .is-group) w (now (a .m)) (a .other) (a .word))) (c .before .loop .inv) (c .loop-test .left) in
+    record { read = h .0; written = h .1; buffer = h .2 }
 
 pub copy-addresses-of-spec : {M : Type 1} → statement M
 copy-addresses-of-spec =
     tie.close
     (tie.spec
-    returns
+    Inv-loop
+    μ-loop
     (λ c κs. search needs)
     (λ c κs. search needs)
-    (λ c. omega (arith, there (c .before .before), c .either .ensures))
+    loop-holds
+    (λ c κs. search needs)
+    (λ c. omega (arith, there (c .before), c .either .ensures))
     (λ c κs. search needs)
     (λ c κs. search needs)
     copy-entry-requires
-    (λ c. omega (arith, there (c .before .before .before .before .before .before .before .before), c .before .before .before .before .before .before .either .ensures, c .before .before .before .before .before .before .before .width .ensures))
-    (λ c. omega (arith, some (c .before .before .before .before .before .before .before .before)))
-    (λ c κs. search needs)
-    (λ c. omega (arith, c .entry-size .ensures, there (c .before .before .before .before .before .before .before .before .before .before)))
-    put-addresses-requires
+    (λ c. omega (arith, there (c .before .before .before .before .before .before .before), c .before .before .before .before .before .before .either .ensures))
+    (λ c. omega (arith, there (c .before .before .before .before .before .before .before), c .before .before .before .before .before .before .either .ensures))
     (λ c. search needs)
-    returns-2)
+    (λ c. search needs)
+    loop-again
+    same-length
+    returns)

@@ -1,11 +1,11 @@
--- `reading::entries::read_asserts` meets its contract, at IPv4.
+-- `reading::entries::read_asserts` meets its contract, for the family that is named.
 -- Assumes nothing.
 use borrow.Author.Needs.{needs}
 use Rattle.reading.proofs.entries.read_asserts.Statement.{statement}
 use Rattle.reading.proofs.entries.read_asserts.Tie as tie
 
 returns : tie.Need-returns
-returns c = rw (← c .before .before .before .before .nowhere .ensures) (c .before .before .read-of .ensures)
+returns c = rw (← c .before .before .before .before .is-ipv6 .ensures) (c .before .before .read-of .ensures)
 
 pub read-asserts-spec : {M : Type 1} → statement M
 read-asserts-spec =

@@ -1,11 +1,11 @@
--- `reading::entries::read_pairs` meets its contract, at IPv4.
+-- `reading::entries::read_pairs` meets its contract, for the family that is named.
 -- Assumes nothing.
 use borrow.Author.Needs.{needs}
 use Rattle.reading.proofs.entries.read_pairs.Statement.{statement}
 use Rattle.reading.proofs.entries.read_pairs.Tie as tie
 
 returns : tie.Need-returns
-returns c = rw (← c .before .before .before .before .nowhere .ensures) (c .before .before .read-of .ensures)
+returns c = rw (← c .before .before .before .before .is-ipv6 .ensures) (c .before .before .read-of .ensures)
 
 pub read-pairs-spec : {M : Type 1} → statement M
 read-pairs-spec =

@@ -1,11 +1,11 @@
--- `reading::message::body` meets its contract, at IPv4.
+-- `reading::message::body` meets its contract, for the family that is named.
 -- Assumes nothing.
 use borrow.Author.Needs.{needs}
 use Rattle.reading.proofs.message.body.Statement.{statement}
 use Rattle.reading.proofs.message.body.Tie as tie
 
 returns : tie.Need-returns
-returns c = rw (← c .before .nowhere .ensures) (c .body .ensures)
+returns c = rw (← c .before .is-ipv6 .ensures) (c .body .ensures)
 
 pub body-spec : {M : Type 1} → statement M
 body-spec =

@@ -1,11 +1,11 @@
--- `reading::message::header` meets its contract, at IPv4.
+-- `reading::message::header` meets its contract, for the family that is named.
 -- Assumes nothing.
 use borrow.Author.Needs.{needs}
 use Rattle.reading.proofs.message.header.Statement.{statement}
 use Rattle.reading.proofs.message.header.Tie as tie
 
 returns : tie.Need-returns
-returns c = rw (← c .before .nowhere .ensures) (c .header .ensures)
+returns c = rw (← c .before .is-ipv6 .ensures) (c .header .ensures)
 
 pub header-spec : {M : Type 1} → statement M
 header-spec =
