@@ -5,10 +5,11 @@
 mod table;
 mod write;
 
+use format::AddressFamily;
 use format::Kind;
 use format::Path;
 use format::Refusal;
-use format::nowhere;
+use format::is_ipv6;
 use headers::Headed;
 use table::Step;
 use table::ValuePlaces;
@@ -19,8 +20,7 @@ ghost use mathlib.Core.Bool.{cond};
 ghost use lib.Dec.{eqb};
 ghost use lib.ListN.{length};
 ghost use Rattle.octets.specs.Octets.{numberAt};
-ghost use Rattle.format.specs.Path.{nowhere};
-ghost use Rattle.format.specs.Family.{ipv4, familyOf};
+ghost use Rattle.format.specs.Family.{familyNamed};
 ghost use Rattle.format.specs.Reader.{from};
 ghost use Rattle.hello.specs.Options.{nothing, options};
 ghost use Rattle.hello.specs.Hello.{holdtimeOf, helloOf, helloOptions, optionsFine, readHello};
@@ -132,12 +132,12 @@ pub fn check_options(m: &[u8]) -> OptionsChecked
     }
 }
 
-// A Hello in either family: the checks of every message, 4 for another kind, then its options.
-fn read_of(ipv6: bool, path: Path, m: &[u8]) -> HelloRead
-    ensures says { λ r. ⌜ told r ≡ readHello (familyOf ipv6) path (now (m .entry)) ⌝ }
+// A Hello: the checks of every message, 4 for another kind, then its options.
+pub fn read_hello(family: AddressFamily, path: Path, m: &[u8]) -> HelloRead
+    ensures says { λ r. ⌜ told r ≡ readHello (familyNamed family) path (now (m .entry)) ⌝ }
     ensures zero { λ r. ⌜ unannounced r ⌝ }
 {
-    let k = headers::header(ipv6, path, m);
+    let k = headers::header(is_ipv6(family), path, m);
     match k {
         Headed::Refused(r) => HelloRead::Refused(r),
         Headed::Is(kind) => match kind {
@@ -148,12 +148,4 @@ fn read_of(ipv6: bool, path: Path, m: &[u8]) -> HelloRead
             }),
         },
     }
-}
-
-// The same in IPv4.
-pub fn read_hello(m: &[u8]) -> HelloRead
-    ensures says { λ r. ⌜ told r ≡ readHello ipv4 nowhere (now (m .entry)) ⌝ }
-    ensures zero { λ r. ⌜ unannounced r ⌝ }
-{
-    read_of(false, nowhere(), m)
 }

@@ -10,11 +10,12 @@ use crate::table::PRIORITY;
 use crate::table::was_given;
 use checksum::add;
 use checksum::sum_after;
+use format::AddressFamily;
 use format::Kind;
 use format::Path;
 use format::Refusal;
 use format::Writing;
-use format::nowhere;
+use format::is_ipv6;
 use octets::copy4;
 use octets::write16;
 use octets::write32;
@@ -24,8 +25,7 @@ ghost use Prim.Native.Nat.{_+_, _≤_};
 ghost use lib.ListN.{length};
 ghost use Rattle.octets.specs.Octets.{put};
 ghost use Rattle.checksum.specs.Sum.{words, sumFrom};
-ghost use Rattle.format.specs.Path.{nowhere};
-ghost use Rattle.format.specs.Family.{ipv4, familyOf};
+ghost use Rattle.format.specs.Family.{familyNamed};
 ghost use Rattle.format.specs.Writing.{lengthBy};
 ghost use Rattle.hello.specs.Options.{lengthOf, given, optionOctets, optionsOctets};
 ghost use Rattle.hello.specs.Hello.{saidIn, writeHello};
@@ -135,10 +135,10 @@ fn pass(h: Heard, write: bool, start: u16, d: &mut [u8]) -> Extent
     pass_option(h, Known::Packing, write, d, priority)
 }
 
-// Writes the one Hello that says this, in either family. A priority that it has not is not looked at.
-fn write_of(ipv6: bool, path: Path, said: Hello, d: &mut [u8]) -> Writing
-    ensures answer { λ r. ⌜ lengthBy r ≡ writeHello (familyOf ipv6) path (helloBy said) (now (d .entry)) .answer ⌝ }
-    ensures buffer { λ _. ⌜ now (d .exit) ≡ writeHello (familyOf ipv6) path (helloBy said) (now (d .entry)) .buffer ⌝ }
+// Writes the one Hello that says this. A priority that it has not is not looked at.
+pub fn write_hello(family: AddressFamily, path: Path, said: Hello, d: &mut [u8]) -> Writing
+    ensures answer { λ r. ⌜ lengthBy r ≡ writeHello (familyNamed family) path (helloBy said) (now (d .entry)) .answer ⌝ }
+    ensures buffer { λ _. ⌜ now (d .exit) ≡ writeHello (familyNamed family) path (helloBy said) (now (d .entry)) .buffer ⌝ }
 {
     let h = to_say(said);
     let measured = pass(h, false, 0, d);
@@ -149,16 +149,8 @@ fn write_of(ipv6: bool, path: Path, said: Hello, d: &mut [u8]) -> Writing
             place: 0,
         });
     }
-    let start = headers::start_sum(ipv6, path, Kind::Hello, n);
+    let start = headers::start_sum(is_ipv6(family), path, Kind::Hello, n);
     let x = pass(h, true, start, d);
     headers::put_header(Kind::Hello, x.sum, d);
     Writing::Wrote(n)
-}
-
-// The same in IPv4.
-pub fn write_hello(said: Hello, d: &mut [u8]) -> Writing
-    ensures answer { λ r. ⌜ lengthBy r ≡ writeHello ipv4 nowhere (helloBy said) (now (d .entry)) .answer ⌝ }
-    ensures buffer { λ _. ⌜ now (d .exit) ≡ writeHello ipv4 nowhere (helloBy said) (now (d .entry)) .buffer ⌝ }
-{
-    write_of(false, nowhere(), said, d)
 }
