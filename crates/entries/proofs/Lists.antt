@@ -1,8 +1,8 @@
 -- Entries one after another.
 --     rest-there, some-there         those from a number on are there, and some of them
 --     first-bad, first-end           the first bad entry from a number on, where that one is bad, and at the end
---     first-next, first-four         past an entry, and past four, that are allowed
---     four-allowed                   four that are allowed
+--     first-next, first-on, first-three     past an entry, and past three, that are allowed
+--     three-allowed                  three that are allowed
 -- Assumes nothing.
 use Prim.Native.Nat.{ℕ, suc, _+_, _-_, _*_, _/_, _≤_, _<_}
 use native.Mathlib.Nat.{mul-suc, mul-add, mul-div-le, mul-le-mul-left}
@@ -53,28 +53,26 @@ module _ (E : Entries) (o : List ℕ) where
       let left : length o / E .size - i ≡ suc (length o / E .size - (i + 1)) = omega arith in
       rw (left, f, place-next i, add-one)
 
-  first-on : (i j at : ℕ) → j ≡ i + 1 → at ≡ E .size * i → j ≤ length o / E .size → E .allowedAt o at ≡ true
+  pub first-on : (i j at : ℕ) → j ≡ i + 1 → at ≡ E .size * i → j ≤ length o / E .size → E .allowedAt o at ≡ true
       → (firstBad E o j ≡ firstBad E o i) × (at + E .size ≡ E .size * j)
   first-on i j at p q h f =
       (ap (firstBad E o) p ∙ first-next i (omega arith) (ap (E .allowedAt o) (sym q) ∙ f), rw p (omega (arith, place-next i)))
 
-  -- and four are
-  pub first-four : (i at : ℕ) → at ≡ E .size * i → i + 4 ≤ length o / E .size → AllAllowed E o at 4
-      → (firstBad E o (i + 4) ≡ firstBad E o i) × (at + 4 * E .size ≡ E .size * (i + 4))
+  -- and three are
+  pub first-three : (i at : ℕ) → at ≡ E .size * i → i + 3 ≤ length o / E .size → AllAllowed E o at 3
+      → (firstBad E o (i + 3) ≡ firstBad E o i) × (at + 3 * E .size ≡ E .size * (i + 3))
   unfolding AllAllowed
-  first-four i at q h all =
+  first-three i at q h all =
       let one = first-on i (i + 1) at refl q (omega arith) (all .0) in
       let two = first-on (i + 1) (i + 2) (at + E .size) (omega arith) (one .1) (omega arith) (all .1 .0) in
       let three = first-on (i + 2) (i + 3) (at + E .size + E .size) (omega arith) (two .1) (omega arith) (all .1 .1 .0) in
-      let four = first-on (i + 3) (i + 4) (at + E .size + E .size + E .size) (omega arith) (three .1) (omega arith) (all .1 .1 .1 .0) in
-      (four .0 ∙ three .0 ∙ two .0 ∙ one .0, omega (arith, four .1))
+      (three .0 ∙ two .0 ∙ one .0, omega (arith, three .1))
 
--- four entries at places that code counts from the first
-pub four-allowed : (E : Entries) (o : List ℕ) (at s : ℕ) → s ≡ E .size → E .allowedAt o at ≡ true → E .allowedAt o (at + s) ≡ true
-    → E .allowedAt o (at + 2 * s) ≡ true → E .allowedAt o (at + 3 * s) ≡ true → AllAllowed E o at 4
+-- three entries at places that code counts from the first
+pub three-allowed : (E : Entries) (o : List ℕ) (at s : ℕ) → s ≡ E .size → E .allowedAt o at ≡ true → E .allowedAt o (at + s) ≡ true
+    → E .allowedAt o (at + 2 * s) ≡ true → AllAllowed E o at 3
 unfolding AllAllowed
-four-allowed E o at s e a b c d =
+three-allowed E o at s e a b c =
     let second : at + E .size ≡ at + s = omega arith in
     let third : at + E .size + E .size ≡ at + 2 * s = omega arith in
-    let fourth : at + E .size + E .size + E .size ≡ at + 3 * s = omega arith in
-    (a, (ap (E .allowedAt o) second ∙ b, (ap (E .allowedAt o) third ∙ c, (ap (E .allowedAt o) fourth ∙ d, tt))))
+    (a, (ap (E .allowedAt o) second ∙ b, (ap (E .allowedAt o) third ∙ c, tt)))

@@ -4,10 +4,9 @@
 use crate::record::put_group;
 use crate::record::put_metric;
 use crate::record::put_source;
-use crate::run::address;
 use crate::run::assert_size;
+use crate::run::is_none;
 use addresses::front_size;
-use addresses::is_zero;
 use addresses::width;
 ghost use mathlib.Core.Path.{_≡_};
 ghost use mathlib.Core.Bool.{false};
@@ -131,7 +130,7 @@ pub(crate) fn zeros(ipv6: bool, e: &[u8], from: usize, n: usize) -> usize
     let mut k = 0;
     let mut at = from;
     while k < n {
-        if !is_zero(address(ipv6, e, at + source)) {
+        if !is_none(ipv6, e, at + source) {
             return k;
         }
         k += 1;

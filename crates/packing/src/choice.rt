@@ -4,15 +4,15 @@ use crate::limit::asked;
 use crate::most::write_most;
 use crate::within::Fitted;
 use crate::within::smaller;
+use format::AddressFamily;
 use format::Kind;
 use format::Path;
 use format::Refusal;
-use format::nowhere;
+use format::is_ipv6;
 ghost use mathlib.Core.Path.{_≡_};
 ghost use mathlib.Core.Bool.{_&&_, _||_};
 ghost use lib.Dec.{eqb, ltb};
-ghost use Rattle.format.specs.Path.{nowhere};
-ghost use Rattle.format.specs.Family.{ipv4, familyOf};
+ghost use Rattle.format.specs.Family.{familyNamed};
 ghost use Rattle.format.specs.Packing.{choice};
 ghost use Rattle.packing.specs.Answers.{chosenBy};
 
@@ -42,7 +42,7 @@ fn prefers_aggregated(s: Fitted, a: Fitted) -> bool
 
 // Packs both forms and says which is chosen. Either buffer below the limit is refused with 8.
 fn both(
-    ipv6: bool,
+    family: AddressFamily,
     path: Path,
     e: &[u8],
     start: usize,
@@ -50,10 +50,11 @@ fn both(
     simple: &mut [u8],
     aggregated: &mut [u8],
 ) -> Choice
-    ensures answer { λ r. ⌜ chosenBy r ≡ choice (familyOf ipv6) path (now (e .entry)) start limit (now (simple .entry)) (now (aggregated .entry)) .answer ⌝ }
-    ensures simple { λ r. ⌜ now (simple .exit) ≡ choice (familyOf ipv6) path (now (e .entry)) start limit (now (simple .entry)) (now (aggregated .entry)) .simpleBuffer ⌝ }
-    ensures aggregated { λ r. ⌜ now (aggregated .exit) ≡ choice (familyOf ipv6) path (now (e .entry)) start limit (now (simple .entry)) (now (aggregated .entry)) .aggregatedBuffer ⌝ }
+    ensures answer { λ r. ⌜ chosenBy r ≡ choice (familyNamed family) path (now (e .entry)) start limit (now (simple .entry)) (now (aggregated .entry)) .answer ⌝ }
+    ensures simple { λ r. ⌜ now (simple .exit) ≡ choice (familyNamed family) path (now (e .entry)) start limit (now (simple .entry)) (now (aggregated .entry)) .simpleBuffer ⌝ }
+    ensures aggregated { λ r. ⌜ now (aggregated .exit) ≡ choice (familyNamed family) path (now (e .entry)) start limit (now (simple .entry)) (now (aggregated .entry)) .aggregatedBuffer ⌝ }
 {
+    let ipv6 = is_ipv6(family);
     let room = smaller(simple.len(), aggregated.len());
     let x = asked(ipv6, Kind::Simple, e, start, limit, room);
     match x {
@@ -79,31 +80,35 @@ fn both(
 
 // Both forms, and which is chosen.
 pub fn pack_both(
+    family: AddressFamily,
+    path: Path,
     e: &[u8],
     start: usize,
     limit: usize,
     simple: &mut [u8],
     aggregated: &mut [u8],
 ) -> Choice
-    ensures answer { λ r. ⌜ chosenBy r ≡ choice ipv4 nowhere (now (e .entry)) start limit (now (simple .entry)) (now (aggregated .entry)) .answer ⌝ }
-    ensures simple { λ r. ⌜ now (simple .exit) ≡ choice ipv4 nowhere (now (e .entry)) start limit (now (simple .entry)) (now (aggregated .entry)) .simpleBuffer ⌝ }
-    ensures aggregated { λ r. ⌜ now (aggregated .exit) ≡ choice ipv4 nowhere (now (e .entry)) start limit (now (simple .entry)) (now (aggregated .entry)) .aggregatedBuffer ⌝ }
+    ensures answer { λ r. ⌜ chosenBy r ≡ choice (familyNamed family) path (now (e .entry)) start limit (now (simple .entry)) (now (aggregated .entry)) .answer ⌝ }
+    ensures simple { λ r. ⌜ now (simple .exit) ≡ choice (familyNamed family) path (now (e .entry)) start limit (now (simple .entry)) (now (aggregated .entry)) .simpleBuffer ⌝ }
+    ensures aggregated { λ r. ⌜ now (aggregated .exit) ≡ choice (familyNamed family) path (now (e .entry)) start limit (now (simple .entry)) (now (aggregated .entry)) .aggregatedBuffer ⌝ }
 {
-    both(false, nowhere(), e, start, limit, simple, aggregated)
+    both(family, path, e, start, limit, simple, aggregated)
 }
 
 // The message that is chosen, as a part of the buffer that it was written into; empty where `pack_both` refuses
 // and at the end of the list.
 pub fn pack_chosen<'a>(
+    family: AddressFamily,
+    path: Path,
     e: &[u8],
     start: usize,
     limit: usize,
     simple: &'a mut [u8],
     aggregated: &'a mut [u8],
 ) -> &'a mut [u8]
-    ensures { λ r. ⌜ now r ≡ choice ipv4 nowhere (now (e .entry)) start limit (now (simple .entry)) (now (aggregated .entry)) .part ⌝ }
+    ensures { λ r. ⌜ now r ≡ choice (familyNamed family) path (now (e .entry)) start limit (now (simple .entry)) (now (aggregated .entry)) .part ⌝ }
 {
-    match pack_both(e, start, limit, simple, aggregated) {
+    match both(family, path, e, start, limit, simple, aggregated) {
         Choice::Refused(_) => &mut simple[..0],
         Choice::Wrote {
             aggregated: better,

@@ -1,6 +1,6 @@
 // The packing calls: plain asserts, packed simple and aggregated asserts, null-registers and register-stops, and the
 // choice between the two packed assert forms. Every public call is total; what it answers and what it writes is a
-// definition of the crate format. The functions inside go by the family, a bool, and by the path; the public calls name IPv4.
+// definition of the crate format. The functions inside go by the family, a bool, and by the path.
 //
 // run.rt         where a run of entries ends
 // record.rt      records of one length

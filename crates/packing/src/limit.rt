@@ -55,7 +55,7 @@ pub(crate) fn asked(
     let Limit::Is(l) = x else {
         return x;
     };
-    let size = entry_size(ipv6, kind);
+    let size = entry_size(ipv6, true, kind);
     let count = e.len() / size;
     if room < l {
         return refused(8, 0);
@@ -66,7 +66,7 @@ pub(crate) fn asked(
     if count < start {
         return refused(10, 0);
     }
-    let bad = first_bad(ipv6, kind, e, start);
+    let bad = first_bad(ipv6, true, kind, e, start);
     match bad {
         Listed::Allowed => x,
         Listed::Bad(i) => refused(7, i),

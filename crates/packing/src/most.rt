@@ -96,7 +96,7 @@ pub(crate) fn write_most(
     ensures answer { λ r. ⌜ (r .next ≡ length (octetsOf (pack (formFor ipv6 kind) path limit (drop start (entriesOf (entriesFor ipv6 kind) (now (e .entry))))))) × (r .taken ≡ tookOf (pack (formFor ipv6 kind) path limit (drop start (entriesOf (entriesFor ipv6 kind) (now (e .entry)))))) ⌝ }
     ensures buffer { λ r. ⌜ now (d .exit) ≡ put (now (d .entry)) 0 (octetsOf (pack (formFor ipv6 kind) path limit (drop start (entriesOf (entriesFor ipv6 kind) (now (e .entry)))))) ⌝ }
 {
-    let size = entry_size(ipv6, kind);
+    let size = entry_size(ipv6, true, kind);
     let n = e.len() / size - start;
     if n == 0 {
         return Fitted { taken: 0, next: 0 };

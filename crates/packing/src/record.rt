@@ -109,7 +109,7 @@ fn put_records_of(
     ensures buffer { λ r. ⌜ now (d .exit) ≡ put (now (d .entry)) start (each (recordOctets ipv6 kind) (entriesAt (entriesFor ipv6 kind) (now (e .entry)) from n)) ⌝ }
 {
     let asserts = is_assert(kind);
-    let size = entry_size(ipv6, kind);
+    let size = entry_size(ipv6, true, kind);
     let record = record_size(ipv6, asserts);
     let mut i = 0;
     let mut at = from;

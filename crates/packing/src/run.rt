@@ -1,11 +1,12 @@
 // Where a run of entries ends: neighbouring asserts that are joined into one aggregated record, and inside one with R=1
 // those of one group. What the entries of a run share is read once, and the others are compared with it. Each run is
 // looked for by a loop in which the family is a literal, so that the compiler makes one for each.
-use addresses::address_at;
 use addresses::front_size;
 use addresses::width;
 use format::Address;
 use octets::number32;
+use octets::whole32;
+use octets::whole64;
 ghost use mathlib.Core.Path.{_≡_};
 ghost use mathlib.Core.Bool.{true, false, _&&_};
 ghost use Prim.Native.Nat.{_+_, _*_, _≤_, _<_};
@@ -37,7 +38,30 @@ pub(crate) fn address(ipv6: bool, e: &[u8], at: usize) -> Address
     requires { ⌜ at + familyOf ipv6 .width ≤ length (now e) ⌝ }
     ensures { λ r. ⌜ numberOf r ≡ numberAt (familyOf ipv6 .width) (now (e .entry)) at ⌝ }
 {
-    address_at(ipv6, &e[at..at + width(ipv6)], 0)
+    if ipv6 {
+        return Address {
+            high: whole64(&e[at..at + 8], 0),
+            low: whole64(&e[at + 8..at + 16], 0),
+        };
+    }
+    Address {
+        high: 0,
+        low: whole32(&e[at..at + 4], 0) as u64,
+    }
+}
+
+// Whether the address at a place is 0: small, so that the compiler puts it into the loop over entries without a source.
+pub(crate) fn is_none(ipv6: bool, e: &[u8], at: usize) -> bool
+    requires { ⌜ at + familyOf ipv6 .width ≤ length (now e) ⌝ }
+    ensures { λ r. ⌜ r ≡ eqb (numberAt (familyOf ipv6 .width) (now (e .entry)) at) 0 ⌝ }
+{
+    if ipv6 {
+        if whole64(&e[at + 8..at + 16], 0) != 0 {
+            return false;
+        }
+        return whole64(&e[at..at + 8], 0) == 0;
+    }
+    whole32(&e[at..at + 4], 0) == 0
 }
 
 fn is_same(a: Address, b: Address) -> bool

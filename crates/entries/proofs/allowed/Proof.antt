@@ -8,46 +8,45 @@ use denote.Ref.{now}
 use borrow.Author.Tests.{not-true, not-false}
 use borrow.Author.Needs.{needs}
 use Rattle.octets.specs.Octets.{numberAt}
-use Rattle.format.specs.Family.{familyOf}
-use Rattle.format.specs.Entry.{frontSize}
 use Rattle.addresses.proofs.Laws.{width-range, group-at}
-use Rattle.entries.specs.Kinds.{fieldsSize}
-use Rattle.entries.proofs.ByKind.{sized, by-size, source-cut, entry-other, entry-no, entry-by}
+use Rattle.format.specs.Family.{mayBeSource}
+use Rattle.entries.specs.Kinds.{familyWith, fieldsSize}
+use Rattle.entries.proofs.ByKind.{sized, by-size, source-cut, entry-other, entry-no, entry-by, zero-with}
 use Rattle.entries.proofs.allowed.Statement.{statement}
 use Rattle.entries.proofs.allowed.Tie as tie
 
 has-front-requires : tie.Need-has-front-requires
-has-front-requires c κs = let a = c .before .args in omega (arith, c .before .pre, by-size (familyOf (a .ipv6)) (a .asserts) (a .stop))
+has-front-requires c κs = let a = c .before .args in omega (arith, c .before .pre, by-size (familyWith (a .ipv6) (a .prefixed)) (a .asserts) (a .stop))
 
 returns : tie.Need-returns
-returns c = let a = c .before .before .before .args in entry-other (familyOf (a .ipv6)) (a .asserts) (a .stop) (now (a .e)) (a .at) (c .before .has-front .ensures) (not-true (c .before .has-front .result) (c .if1 .taken))
+returns c = let a = c .before .before .before .args in entry-other (familyWith (a .ipv6) (a .prefixed)) (a .asserts) (a .stop) (now (a .e)) (a .at) (c .before .has-front .ensures) (not-true (c .before .has-front .result) (c .if1 .taken))
 
-abbrev start : tie.After-front-size → tie.Start
+abbrev start : tie.After-front-by → tie.Start
 start c = c .before .before .before .before
 
 -- the fields past the front are there, in an entry of either size
-there : (c : tie.After-front-size) → start c .args .at + c .front-size .result + fieldsSize (familyOf (start c .args .ipv6)) (start c .args .asserts) ≤ length (now (start c .args .e))
+there : (c : tie.After-front-by) → start c .args .at + c .front-by .result + fieldsSize (familyWith (start c .args .ipv6) (start c .args .prefixed)) (start c .args .asserts) ≤ length (now (start c .args .e))
 there c =
     let a = start c .args in
-    omega (arith, start c .pre, c .front-size .ensures, sized (familyOf (a .ipv6)) (a .asserts) (a .stop))
+    omega (arith, start c .pre, c .front-by .ensures, sized (familyWith (a .ipv6) (a .prefixed)) (a .asserts) (a .stop))
 
-pair-there : (c : tie.After-front-size) → start c .args .at + c .front-size .result + 2 * familyOf (start c .args .ipv6) .width ≤ length (now (start c .args .e))
+pair-there : (c : tie.After-front-by) → start c .args .at + c .front-by .result + 2 * familyWith (start c .args .ipv6) (start c .args .prefixed) .width ≤ length (now (start c .args .e))
 pair-there c = omega (arith, there c)
 
 shared-slice-read-is-multicast : tie.Need-shared-slice-read-is-multicast
 shared-slice-read-is-multicast c = omega (arith, pair-there (c .before), width-range (c .before .before .before .before .before .args .ipv6))
 
-group-is : (c : tie.After-is-multicast) → familyOf (start (c .before .before) .args .ipv6) .isGroup (numberAt (familyOf (start (c .before .before) .args .ipv6) .width) (now (start (c .before .before) .args .e)) (start (c .before .before) .args .at + c .before .before .front-size .result)) ≡ c .is-multicast .result
+group-is : (c : tie.After-is-multicast) → familyWith (start (c .before .before) .args .ipv6) (start (c .before .before) .args .prefixed) .isGroup (numberAt (familyWith (start (c .before .before) .args .ipv6) (start (c .before .before) .args .prefixed) .width) (now (start (c .before .before) .args .e)) (start (c .before .before) .args .at + c .before .before .front-by .result)) ≡ c .is-multicast .result
 group-is c =
     let s = c .before .before in
     let a = start s .args in
-    group-at (a .ipv6) (now (a .e)) (a .at + s .front-size .result) (λ i. c .before .shared-slice-known2 .given i .fits) (omega (arith, pair-there s, width-range (a .ipv6)))
+    group-at (a .ipv6) (now (a .e)) (a .at + s .front-by .result) (λ i. c .before .shared-slice-known2 .given i .fits) (omega (arith, pair-there s, width-range (a .ipv6)))
     ∙ sym (c .is-multicast .ensures)
 
 returns-2 : tie.Need-returns-2
 returns-2 c =
     let a = c .before .before .before .before .before .before .before .args in
-    entry-no (familyOf (a .ipv6)) (a .asserts) (a .stop) (now (a .e)) (a .at) (c .before .before .before .before .before .has-front .ensures) (not-false (c .before .before .before .before .before .has-front .result) (c .before .before .before .before .if1 .left)) (ap (λ x. a .at + x) (c .before .before .before .front-size .ensures .0))
+    entry-no (familyWith (a .ipv6) (a .prefixed)) (a .asserts) (a .stop) (now (a .e)) (a .at) (c .before .before .before .before .before .has-front .ensures) (not-false (c .before .before .before .before .before .has-front .result) (c .before .before .before .before .if1 .left)) (ap (λ x. a .at + x) (c .before .before .before .front-by .ensures .0))
     (group-is (c .before)) (not-true (c .before .is-multicast .result) (c .if2 .taken))
 
 part-may-be-source-end : tie.Need-part-may-be-source-end
@@ -57,15 +56,16 @@ zero-allowed-requires : tie.Need-zero-allowed-requires
 zero-allowed-requires c κs = there (c .before .before .before .before .before)
 
 returns-3 : tie.Need-returns-3
+unfolding mayBeSource
 returns-3 c =
     let a = c .before .before .before .before .before .before .before .before .before .before .before .args in
     let s = c .before .before .before .before .before .before .before in
     let w = c .before .before .before .width .result in
-    let group = a .at + s .front-size .result in
+    let group = a .at + s .front-by .result in
     let there-whole : group + 2 * w ≤ length (now (a .e)) = omega (arith, pair-there s, c .before .before .before .width .ensures) in
-    entry-by (familyOf (a .ipv6)) (a .asserts) (a .stop) (now (a .e)) (a .at) (c .before .before .before .before .before .before .before .before .before .has-front .ensures) (not-false (c .before .before .before .before .before .before .before .before .before .has-front .result) (c .before .before .before .before .before .before .before .before .if1 .left)) (ap (λ x. a .at + x) (s .front-size .ensures .0))
+    entry-by (familyWith (a .ipv6) (a .prefixed)) (a .asserts) (a .stop) (now (a .e)) (a .at) (c .before .before .before .before .before .before .before .before .before .has-front .ensures) (not-false (c .before .before .before .before .before .before .before .before .before .has-front .result) (c .before .before .before .before .before .before .before .before .if1 .left)) (ap (λ x. a .at + x) (s .front-by .ensures .0))
     (group-is (c .before .before .before .before .before)) (not-false (c .before .before .before .before .before .is-multicast .result) (c .before .before .before .before .if2 .left))
-    (c .before .zero-allowed .ensures) (source-cut (a .ipv6) (now (a .e)) group w (c .before .before .before .width .ensures .0) there-whole) (c .may-be-source .ensures)
+    (c .before .zero-allowed .ensures ∙ zero-with (a .ipv6) (a .prefixed) (a .asserts) (a .stop) (now (a .e)) group) (source-cut (a .ipv6) (now (a .e)) group w (c .before .before .before .width .ensures .0) there-whole) (c .may-be-source .ensures)
 
 pub allowed-spec : {M : Type 1} → statement M
 allowed-spec =

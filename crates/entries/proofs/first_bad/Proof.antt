@@ -8,10 +8,9 @@ use denote.Ref.{now}
 use borrow.Author.Tests.{lt-ltb, le-ltb}
 use borrow.Author.Needs.{needs}
 use Rattle.format.specs.Entry.{count}
-use Rattle.format.specs.Family.{familyOf}
 use Rattle.format.specs.Packing.{firstBadAt, firstBad}
-use Rattle.entries.specs.Kinds.{isAssert, isStop, entriesBy, entriesFor, numbered, listedBy}
-use Rattle.entries.proofs.ByKind.{size-range}
+use Rattle.entries.specs.Kinds.{familyWith, isAssert, isStop, entriesBy, entriesWith, numbered, listedBy}
+use Rattle.entries.proofs.ByKind.{with-range}
 use Rattle.entries.proofs.first_bad.Statement.{statement}
 use Rattle.entries.proofs.first_bad.Tie as tie
 
@@ -19,20 +18,20 @@ abbrev start : tie.After-size-by → tie.Start
 start c = c .before .before .before
 
 -- the size is that of the kind's entries
-size-is : (c : tie.After-size-by) → c .size-by .result ≡ entriesFor (start c .args .ipv6) (start c .args .kind) .size
+size-is : (c : tie.After-size-by) → c .size-by .result ≡ entriesWith (start c .args .ipv6) (start c .args .prefixed) (start c .args .kind) .size
 size-is c =
     let a = start c .args in
-    c .size-by .ensures (isStop (a .kind)) ∙ ap (λ x. entriesBy (familyOf (a .ipv6)) x (isStop (a .kind)) .size) (c .before .is-assert .ensures)
+    c .size-by .ensures (isStop (a .kind)) ∙ ap (λ x. entriesBy (familyWith (a .ipv6) (a .prefixed)) x (isStop (a .kind)) .size) (c .before .is-assert .ensures)
 
 div-count : tie.Need-div-count
-div-count c = omega (arith, size-is c, size-range (start c .args .ipv6) (start c .args .kind))
+div-count c = omega (arith, size-is c, with-range (start c .args .ipv6) (start c .args .prefixed) (start c .args .kind))
 
 returns : tie.Need-returns
 unfolding listedBy firstBadAt firstBad count
 returns c =
     let a = start (c .before) .args in
-    let past : length (now (a .e)) / entriesFor (a .ipv6) (a .kind) .size ≤ a .start = omega (arith, rw (size-is (c .before)) at (c .if1 .taken)) in
-    let none : length (now (a .e)) / entriesFor (a .ipv6) (a .kind) .size - a .start ≡ 0 = omega arith in
+    let past : length (now (a .e)) / entriesWith (a .ipv6) (a .prefixed) (a .kind) .size ≤ a .start = omega (arith, rw (size-is (c .before)) at (c .if1 .taken)) in
+    let none : length (now (a .e)) / entriesWith (a .ipv6) (a .prefixed) (a .kind) .size - a .start ≡ 0 = omega arith in
     rw none
 
 up-to-requires : tie.Need-up-to-requires
@@ -43,12 +42,12 @@ up-to-requires c κs =
 -- what was found of entries of the sort is found of those of the kind
 found : (c : tie.After-up-to)
     → numbered (length (now (start (c .before .before .before) .args .e)) / c .before .before .before .size-by .result) (c .up-to .result)
-    ≡ firstBad (entriesFor (start (c .before .before .before) .args .ipv6) (start (c .before .before .before) .args .kind)) (now (start (c .before .before .before) .args .e)) (start (c .before .before .before) .args .start)
+    ≡ firstBad (entriesWith (start (c .before .before .before) .args .ipv6) (start (c .before .before .before) .args .prefixed) (start (c .before .before .before) .args .kind)) (now (start (c .before .before .before) .args .e)) (start (c .before .before .before) .args .start)
 found c =
     let s = c .before in
     let z = s .before .before in
     let a = start z .args in
-    let f = familyOf (a .ipv6) in
+    let f = familyWith (a .ipv6) (a .prefixed) in
     c .up-to .ensures
     ∙ ap (λ x. firstBad (entriesBy f x (s .is-stop .result)) (now (a .e)) (a .start)) (z .before .is-assert .ensures)
     ∙ ap (λ x. firstBad (entriesBy f (isAssert (a .kind)) x) (now (a .e)) (a .start)) (s .is-stop .ensures)

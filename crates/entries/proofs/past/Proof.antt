@@ -1,98 +1,57 @@
--- `entries::past` meets its contract. The loop's invariant: the first bad entry from here on is that from the start on. The measure is the entries left.
+-- `entries::past` meets its contract: that of its loop, with flags as literals.
 -- Assumes nothing.
-use Prim.Native.Nat.{_+_, _*_, _-_, _≤_}
-use native.Mathlib.Omega.{arith}
-use mathlib.Core.Path.{_≡_, refl, ap, _∙_}
-use mathlib.Core.Bool.{Bool, false}
-use denote.Ref.{now}
-use lib.ListN.{length}
-use borrow.Author.Tests.{not-false}
-use borrow.Author.Needs.{needs}
-use Rattle.format.specs.Family.{familyOf}
-use Rattle.format.specs.Packing.{firstBad}
-use Rattle.entries.specs.Kinds.{entriesBy}
-use Rattle.entries.proofs.Lists.{rest-there, some-there, first-four}
 use Rattle.entries.proofs.past.Statement.{statement}
 use Rattle.entries.proofs.past.Tie as tie
 
-abbrev Inv-loop : tie.InvT-loop
-Inv-loop ipv6 asserts e from count size i₀ at₀ i at =
-    (from ≤ i) × (i ≤ count)
-    × ((stop : Bool) → (at ≡ entriesBy (familyOf ipv6) asserts stop .size * i) × (firstBad (entriesBy (familyOf ipv6) asserts stop) e i ≡ firstBad (entriesBy (familyOf ipv6) asserts stop) e from))
+past-of-requires : tie.Need-past-of-requires
+past-of-requires c κs = rw (c .before .before .if1 .taken, c .before .if2 .taken, c .if3 .taken) at (c .before .before .before .before .pre)
 
-abbrev μ-loop : tie.MeasureT-loop
-μ-loop ipv6 asserts e from count size i₀ at₀ i at = count - i
+returns : tie.Need-returns
+returns c = rw (c .before .before .before .if1 .taken, c .before .before .if2 .taken, c .before .if3 .taken) (c .past-of .ensures)
 
-abbrev start : tie.At-loop Inv-loop μ-loop → tie.Start Inv-loop μ-loop
-start c = c .before .before .before
+past-of-requires-2 : tie.Need-past-of-requires-2
+past-of-requires-2 c κs = rw (c .before .before .if1 .taken, c .before .if2 .taken, c .if3 .left) at (c .before .before .before .before .pre)
 
-mul-at : tie.Need-mul-at Inv-loop μ-loop
-mul-at c =
-    let s = c .before .before in
-    let a = s .args in
-    let E = entriesBy (familyOf (a .ipv6)) (a .asserts) false in
-    let same : c .size-by .result * a .from ≡ E .size * a .from = ap (λ x. x * a .from) (c .size-by .ensures false) in
-    omega (arith, same, rest-there E (now (a .e)) (a .from) (rw (s .pre .1 false) at (s .pre .0)))
+returns-2 : tie.Need-returns-2
+returns-2 c = rw (c .before .before .before .if1 .taken, c .before .before .if2 .taken, c .before .if3 .left) (c .past-of2 .ensures)
 
-loop-holds : tie.Need-loop-holds Inv-loop μ-loop
-loop-holds c =
-    let s = c .before .before in
-    let a = s .args in
-    (omega arith, s .pre .0, λ stop. (ap (λ x. x * a .from) (c .size-by .ensures stop), refl))
+past-of-requires-3 : tie.Need-past-of-requires-3
+past-of-requires-3 c κs = rw (c .before .before .if1 .taken, c .before .if2 .left, c .if4 .taken) at (c .before .before .before .before .pre)
 
--- four entries are there
-room : (c : tie.In-loop Inv-loop μ-loop) (stop : Bool)
-    → c .before .loop .at + 4 * entriesBy (familyOf (start (c .before) .args .ipv6)) (start (c .before) .args .asserts) stop .size ≤ length (now (start (c .before) .args .e))
-room c stop =
-    let s = start (c .before) in
-    let a = s .args in
-    let E = entriesBy (familyOf (a .ipv6)) (a .asserts) stop in
-    let inv = c .before .loop .inv in
-    omega (arith, inv .2 stop .0, some-there E (now (a .e)) (c .before .loop .i) 4 (omega (arith, c .loop-test .taken, s .pre .1 stop)))
+returns-3 : tie.Need-returns-3
+returns-3 c = rw (c .before .before .before .if1 .taken, c .before .before .if2 .left, c .before .if4 .taken) (c .past-of3 .ensures)
 
--- and with the size as code has it
-room-here : (c : tie.In-loop Inv-loop μ-loop) → c .before .loop .at + 4 * c .before .before .size-by .result ≤ length (now (start (c .before) .args .e))
-room-here c = omega (arith, room c false, c .before .before .size-by .ensures false)
+past-of-requires-4 : tie.Need-past-of-requires-4
+past-of-requires-4 c κs = rw (c .before .before .if1 .taken, c .before .if2 .left, c .if4 .left) at (c .before .before .before .before .pre)
 
-returns : tie.Need-returns Inv-loop μ-loop
-returns c =
-    let inv = c .before .before .before .loop .inv in
-    (inv .0, inv .1, λ stop. inv .2 stop .1)
+returns-4 : tie.Need-returns-4
+returns-4 c = rw (c .before .before .before .if1 .taken, c .before .before .if2 .left, c .before .if4 .left) (c .past-of4 .ensures)
 
-loop-again : tie.Need-loop-again Inv-loop μ-loop
-loop-again c =
-    let t = c .before .before in
-    let l = t .before in
-    let s = start l in
-    let a = s .args in
-    let inv = l .loop .inv in (
-      omega (arith, inv .0),
-      omega (arith, t .loop-test .taken),
-      λ stop.
-          let four = first-four (entriesBy (familyOf (a .ipv6)) (a .asserts) stop) (now (a .e)) (l .loop .i) (l .loop .at) (inv .2 stop .0) (omega (arith, t .loop-test .taken, s .pre .1 stop)) (c .before .four-begin .ensures stop (not-false (c .before .four-begin .result) (c .if1 .left))) in
-          (ap (λ x. l .loop .at + 4 * x) (l .before .size-by .ensures stop) ∙ four .1, four .0 ∙ inv .2 stop .1),
-    )
+past-of-requires-5 : tie.Need-past-of-requires-5
+past-of-requires-5 c κs = rw (c .before .if1 .left, c .if5 .taken) at (c .before .before .before .pre)
 
-returns-2 : tie.Need-returns-2 Inv-loop μ-loop
-returns-2 c =
-    let inv = c .before .loop .inv in
-    (inv .0, inv .1, λ stop. inv .2 stop .1)
+returns-5 : tie.Need-returns-5
+returns-5 c = rw (c .before .before .if1 .left, c .before .if5 .taken) (c .past-of5 .ensures)
+
+past-of-requires-6 : tie.Need-past-of-requires-6
+past-of-requires-6 c κs = rw (c .before .if1 .left, c .if5 .left) at (c .before .before .before .pre)
+
+returns-6 : tie.Need-returns-6
+returns-6 c = rw (c .before .before .if1 .left, c .before .if5 .left) (c .past-of6 .ensures)
 
 pub past-spec : {M : Type 1} → statement M
 past-spec =
     tie.close
     (tie.spec
-    Inv-loop
-    μ-loop
-    (λ c κs. search needs)
-    mul-at
-    loop-holds
-    (λ c. c .loop .inv .1)
-    (λ c κs stop. room c stop)
+    past-of-requires
     returns
-    (λ c. omega (arith, c .before .before .loop-test .taken))
-    (λ c. omega (arith, room-here (c .before .before)))
-    (λ c. omega (arith, room-here (c .before .before)))
-    (λ c. omega (arith, c .before .before .loop-test .taken))
-    loop-again
-    returns-2)
+    past-of-requires-2
+    returns-2
+    past-of-requires-3
+    returns-3
+    past-of-requires-4
+    returns-4
+    past-of-requires-5
+    returns-5
+    past-of-requires-6
+    returns-6)
