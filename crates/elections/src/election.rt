@@ -1,6 +1,12 @@
 // The election among the routers of a scenario, one of them our own or none, by the Hello that each sends. A router
-// stands in 12 octets, as a sheet has a neighbour: address, priority, 1 if it has a priority, a zero octet, holdtime.
+// stands in the octets of its address and eight more: address, priority, 1 if it has a priority, a zero octet, holdtime.
+use addresses::address_at;
+use addresses::width;
+use format::Address;
+use format::AddressFamily;
+use format::Path;
 use format::Writing;
+use format::is_ipv6;
 use hello::Hello;
 use hello::HelloRead;
 use neighbours::Change;
@@ -9,52 +15,84 @@ use neighbours::Elected;
 use neighbours::Table;
 use octets::Field;
 use printing::front;
-ghost use Prim.Native.Nat.{_<_};
+ghost use Prim.Native.Nat.{_+_, _<_, _≤_};
 ghost use lib.ListN.{length};
 
 // How many octets a router has.
-pub(crate) const ROUTER: usize = 12;
+pub(crate) fn router_size(family: AddressFamily) -> usize
+    ensures { λ r. ⌜ (12 ≤ r) × (r ≤ 24) ⌝ }
+{
+    width(is_ipv6(family)) + 8
+}
 
 // The address of the router at a place.
-pub(crate) fn address(m: &[u8], at: usize) -> u32 {
-    octets::number32(m, at)
+pub(crate) fn address(family: AddressFamily, m: &[u8], at: usize) -> Address {
+    address_at(is_ipv6(family), m, at)
+}
+
+// Where the router at a place has what stands after its address.
+fn rest(family: AddressFamily, m: &[u8], at: usize) -> usize
+    requires { ⌜ at < length (now m) ⌝ }
+    ensures { λ r. ⌜ r ≤ length (now (m .entry)) + 16 ⌝ }
+{
+    at + width(is_ipv6(family))
 }
 
 // Whether the router at a place has a priority.
-pub(crate) fn has_priority(m: &[u8], at: usize) -> bool
+pub(crate) fn has_priority(family: AddressFamily, m: &[u8], at: usize) -> bool
     requires { ⌜ at < length (now m) ⌝ }
 {
-    let f = octets::read8(m, at + 8);
+    let f = octets::read8(m, rest(family, m, at) + 4);
     let Field::Got { value, next: _ } = f else {
         return false;
     };
     value == 1
 }
 
-fn priority(m: &[u8], at: usize) -> u32
+fn priority(family: AddressFamily, m: &[u8], at: usize) -> u32
     requires { ⌜ at < length (now m) ⌝ }
 {
-    octets::number32(m, at + 4)
+    octets::number32(m, rest(family, m, at))
 }
 
 // What the router at a place says.
-fn said(m: &[u8], at: usize) -> Hello
+fn said(family: AddressFamily, m: &[u8], at: usize) -> Hello
     requires { ⌜ at < length (now m) ⌝ }
 {
     Hello {
-        holdtime: octets::number16(m, at + 10) as u16,
-        has_priority: has_priority(m, at),
-        priority: priority(m, at),
+        holdtime: octets::number16(m, rest(family, m, at) + 6) as u16,
+        has_priority: has_priority(family, m, at),
+        priority: priority(family, m, at),
         packing: false,
     }
 }
 
+// A Hello goes from a router to all PIM routers: 224.0.0.13, ff02::d.
+fn to_all(family: AddressFamily, source: Address) -> Path {
+    let mut destination = Address {
+        high: 0,
+        low: 0xe000000d,
+    };
+    if is_ipv6(family) {
+        destination = Address {
+            high: 0xff02_0000_0000_0000,
+            low: 0xd,
+        };
+    }
+    Path {
+        source,
+        destination,
+    }
+}
+
 // The Hello of the router at a place, written, read again and heard; or the first refusal.
-fn heard(table: Table, m: &[u8], at: usize) -> Changed
+fn heard(family: AddressFamily, table: Table, m: &[u8], at: usize) -> Changed
     requires { ⌜ at < length (now m) ⌝ }
 {
+    let from = address(family, m, at);
+    let path = to_all(family, from);
     let mut d = [0; 22];
-    let w = hello::write_hello(said(m, at), &mut d);
+    let w = hello::write_hello(family, path, said(family, m, at), &mut d);
     let n = match w {
         Writing::Wrote(n) => n,
         Writing::Refused(r) => {
@@ -64,9 +102,9 @@ fn heard(table: Table, m: &[u8], at: usize) -> Changed
             };
         }
     };
-    let h = hello::read_hello(front(&d, n));
+    let h = hello::read_hello(family, path, front(&d, n));
     match h {
-        HelloRead::Is(said) => table.hear(address(m, at), said),
+        HelloRead::Is(said) => table.hear(family, from, said),
         HelloRead::Refused(r) => Changed {
             table,
             change: Change::Refused(r),
@@ -75,14 +113,15 @@ fn heard(table: Table, m: &[u8], at: usize) -> Changed
 }
 
 // Every other router is heard, then the router at a place elects; or the first refusal.
-pub(crate) fn elected(m: &[u8], own: usize) -> Elected
+pub(crate) fn elected(family: AddressFamily, m: &[u8], own: usize) -> Elected
     requires { ⌜ own < length (now m) ⌝ }
 {
+    let size = router_size(family);
     let mut table = Table::empty();
     let mut at = 0;
     while at < m.len() {
         if at != own {
-            let heard = heard(table, m, at);
+            let heard = heard(family, table, m, at);
             let change = heard.change;
             match change {
                 Change::Refused(r) => return Elected::Refused(r),
@@ -90,24 +129,25 @@ pub(crate) fn elected(m: &[u8], own: usize) -> Elected
             }
             table = heard.table;
         }
-        at += ROUTER;
+        at += size;
     }
-    table.elect(address(m, own), priority(m, own))
+    table.elect(family, address(family, m, own), priority(family, m, own))
 }
 
 // Every router is heard, then the rows elect, without our own; or the first refusal.
-pub(crate) fn elected_among(m: &[u8]) -> Elected {
+pub(crate) fn elected_among(family: AddressFamily, m: &[u8]) -> Elected {
+    let size = router_size(family);
     let mut table = Table::empty();
     let mut at = 0;
     while at < m.len() {
-        let heard = heard(table, m, at);
+        let heard = heard(family, table, m, at);
         let change = heard.change;
         match change {
             Change::Refused(r) => return Elected::Refused(r),
             _ => {}
         }
         table = heard.table;
-        at += ROUTER;
+        at += size;
     }
     let rows = table.rows;
     neighbours::elect_rows(rows, table.count)

@@ -1,10 +1,12 @@
-// Elections observed on test LANs, from elections.json: FRR pimd 8.4.4 and pimd 2.3.2, with neighbours whose Hellos were
-// injected. No scenario is left out: none has a holdtime of 0 or an address twice. Its octets are its routers, then the address elected.
+// Elections observed on test LANs, from elections.json and elections6.json: FRR pimd 8.4.4, pimd 2.3.2 and FRR pim6d 10.3, with neighbours whose
+// Hellos were injected. No scenario is left out: none has a holdtime of 0 or an address twice. Its octets are its routers, then the address elected.
 use crate::output::show_all;
+use format::AddressFamily;
 
 // Three FRR routers, with priorities and addresses chosen by hand.
 fn chosen() {
     show_all(
+        AddressFamily::Ipv4,
         b"\
 equal priorities, highest address
 0a0700010000000101000012 0a0700020000000101000012 0a0700030000000101000012 0a070003
@@ -37,6 +39,7 @@ and now again without priority
 // Three FRR routers and neighbours drawn at random.
 fn random() {
     show_all(
+        AddressFamily::Ipv4,
         b"\
 random 1 (seed 7761)
 0a0700010000000101000012 0a0700020000000101000012 0a070003ffffffff01000012 0a07005c0000000001000069 a47ea6607fffffff01000069 0a0700e40000000201000e10 4df7fe1a000000010100ffff 0a070003
@@ -69,6 +72,7 @@ random 23 (seed 7761)
 // Three FRR routers and pimd, which is 10.7.0.150.
 fn two_daemons() {
     show_all(
+        AddressFamily::Ipv4,
         b"\
 FRR r1 raised to 9
 0a0700010000000901000012 0a0700020000000101000012 0a0700030000000101000012 0a0700960000000101000069 0a070001
@@ -88,8 +92,26 @@ pimd 4294967294, FRR r1 2147483647
     );
 }
 
+// Three FRR routers over IPv6 and a neighbour whose Hello was injected.
+fn six() {
+    show_all(
+        AddressFamily::Ipv6,
+        b"\
+IPv6: equal priorities, highest address
+fe8000000000000000000000000000010000000101000012 fe8000000000000000000000000000020000000101000012 fe8000000000000000000000000000030000000101000012 fe800000000000000000000000000003
+IPv6: tie at the top is decided by address
+fe8000000000000000000000000000010000000901000012 fe8000000000000000000000000000020000000901000012 fe8000000000000000000000000000030000000101000012 fe800000000000000000000000000002
+IPv6: one router without priority, highest address
+fe8000000000000000000000000000010000000901000012 fe8000000000000000000000000000020000000101000012 fe8000000000000000000000000000030000000101000012 fe8000000000000000000000000000ff0000000000000069 fe8000000000000000000000000000ff
+IPv6: announced priority 0
+fe8000000000000000000000000000010000000101000012 fe8000000000000000000000000000020000000101000012 fe8000000000000000000000000000030000000101000012 fe8000000000000000000000000000ff0000000001000069 fe800000000000000000000000000003
+",
+    );
+}
+
 pub(crate) fn run() {
     chosen();
     random();
     two_daemons();
+    six();
 }

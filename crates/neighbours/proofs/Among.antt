@@ -17,8 +17,8 @@ use Rattle.format.specs.Outcome.{gives, refuses, refuseIf, _>>_}
 use Rattle.neighbours.specs.declared.election.Candidate.{Candidate}
 use Rattle.neighbours.specs.declared.Neighbour.{Neighbour}
 use Rattle.neighbours.specs.declared.election.Scan.{Scan}
-use Rattle.neighbours.specs.Rows.{addressOf, has}
-use Rattle.neighbours.specs.Election.{candidateAddress, allHave, candidate, above, better, best}
+use Rattle.neighbours.specs.Rows.{noAddress, addressOf, has}
+use Rattle.neighbours.specs.Election.{allHave, candidate, above, better, best}
 use Rattle.neighbours.specs.Highest.{candidates, Highest}
 use Rattle.neighbours.proofs.Highest.{best-highest}
 use Rattle.neighbours.specs.Among.{electingAmong, first, looking, seen, chosen, answering}
@@ -71,7 +71,7 @@ by-address-after s (n ∷ l) = by-address-after (looking s n) l
 
 -- a row with an address ranks above nobody
 abbrev nobody : Candidate
-nobody = record { address = 0; priority = 0 }
+nobody = record { address = noAddress; priority = 0 }
 
 up : (p : Bool) (n : Neighbour) → eqb (addressOf n) 0 ≡ false → better p nobody (candidate n) ≡ candidate n
 unfolding better above candidate
@@ -123,6 +123,6 @@ seen-elects (n ∷ l) = answers (seen first (n ∷ l)) _ (none-after (looking fi
 
 -- what is elected is a row, and none ranks above it
 pub among-highest : (n : Neighbour) (l : List Neighbour) → has 0 (n ∷ l) ≡ false
-    → (c : Candidate) × (Highest (allHave (n ∷ l)) (map candidate (n ∷ l)) c × (electingAmong (n ∷ l) ≡ gives (candidateAddress c)))
+    → (c : Candidate) × (Highest (allHave (n ∷ l)) (map candidate (n ∷ l)) c × (electingAmong (n ∷ l) ≡ gives (c .address)))
 unfolding electingAmong refuseIf _>>_ candidates
 among-highest n l e = (best (allHave (n ∷ l)) (candidate n) l, (best-highest (allHave (n ∷ l)) (candidate n) l, rw e refl))

@@ -15,6 +15,7 @@ use borrow.Author.Tests.{eqb-true, not-true}
 use lib.Dec.{eqb}
 use lib.ListN.{length, take, drop, set, replicate, length-append, length-set, length-drop, take-append-drop}
 use lib.Seq.{append-snoc, set-append-left, set-at, take-append-le, drop-append-le, take-at, drop-at, length-take-le}
+use Rattle.format.specs.Family.{Family}
 use Rattle.neighbours.specs.declared.Neighbour.{Neighbour}
 use Rattle.neighbours.specs.declared.Table.{Table}
 use Rattle.neighbours.specs.Rows.{addressOf, most, noRow, isZero, allZero, place, used, tableOf, closedUp}
@@ -36,11 +37,13 @@ is-none n e =
     let r = and-true _ _ (q .1) in
     let s = and-true _ _ (r .1) in
     let a = eqb-true (addressOf n) 0 (p .0) in
+    let g : n .address .high ≡ 0 = omega arith in
+    let l : n .address .low ≡ 0 = omega arith in
     let b = eqb-true (n .priority) 0 (q .0) in
     let c = not-true (n .«has_priority») (r .0) in
     let d = not-true (n .packs) (s .0) in
     let f = eqb-true (n .holdtime) 0 (s .1) in
-    λ i. record { address = a i; priority = b i; «has_priority» = c i; packs = d i; holdtime = f i }
+    λ i. record { address = record { high = g i; low = l i }; priority = b i; «has_priority» = c i; packs = d i; holdtime = f i }
 
 pub all-none : (l : List Neighbour) → allZero l ≡ true → l ≡ replicate (length l) noRow
 unfolding allZero
@@ -52,7 +55,7 @@ all-none (n ∷ l) e =
     λ i. x i ∷ y i
 
 -- the rows of a valid table
-module _ (t : Table) (full : length (t .rows) ≡ most) (v : Valid t) where
+module _ {f : Family} (t : Table) (full : length (t .rows) ≡ most) (v : Valid f t) where
   pub long : length (used t) ≡ t .count
   long = used-long (t .rows) (t .count) (omega (arith, full, v .within))
 
@@ -99,7 +102,7 @@ without-is a (m ∷ l) h = go (eqb (addressOf m) a) h (without-is a l)
 
 -- ---- the array after each
 
-module _ (t : Table) (full : length (t .rows) ≡ most) (v : Valid t) where
+module _ {f : Family} (t : Table) (full : length (t .rows) ≡ most) (v : Valid f t) where
   pub replaces : (n : Neighbour) (at : ℕ) → at ≡ place (addressOf n) (used t) → at < t .count → record { rows = set (t .rows) at n; count = t .count } ≡ tableOf (entered n (used t))
   replaces n at e h =
       let l = used t in

@@ -9,16 +9,17 @@ use native.Mathlib.Omega.{arith}
 use borrow.Author.Tests.{le-leb, lt-leb, lt-ltb}
 use lib.ListN.{length, set}
 use Rattle.format.specs.Outcome.{refuseIf, _>>_}
+use Rattle.format.specs.Family.{Family}
 use Rattle.neighbours.specs.declared.Change.the-variants.{Replaced, Appended, Forgotten, Refused}
 use Rattle.neighbours.specs.declared.Change.{Change}
 use Rattle.neighbours.specs.declared.hearing.Update.{Update}
 use Rattle.neighbours.specs.declared.Neighbour.{Neighbour}
 use Rattle.neighbours.specs.declared.Table.{Table}
-use Rattle.neighbours.specs.Rows.{addressOf, most, noRow, place, has, used, valid}
+use Rattle.neighbours.specs.Rows.{addressOf, most, noRow, place, has, used}
 use Rattle.neighbours.specs.Hearing.{entering, leaving}
 use Rattle.neighbours.specs.Answers.{doneBy, doneOf, tableAfter, Ordered, tableBy}
 use Rattle.neighbours.proofs.Rows.{place-all, has-place, has-none}
-use Rattle.neighbours.proofs.Tables.{valid-parts}
+use Rattle.neighbours.proofs.Tables.{Valid}
 use Rattle.neighbours.proofs.Gaps.{gap-start, gap-end}
 use Rattle.neighbours.proofs.Called.{Answered, answered-refused}
 use Rattle.neighbours.proofs.Changes.{long, replaces, appends, closes}
@@ -34,17 +35,17 @@ module _ (n : Neighbour) (at k : ℕ) (c : Change) where
   in-place : Ordered (record { from = at; to = at; row = n; count = k; change = c })
   in-place = record { order = omega arith; inside = λ h. absurd (omega (arith, h)) }
 
-module _ (t : Table) (full : length (t .rows) ≡ most) (ok : valid t ≡ true) where
+module _ {f : Family} (t : Table) (full : length (t .rows) ≡ most) (v : Valid f t) where
   used-is : length (used t) ≡ t .count
-  used-is = long t full (valid-parts t ok)
+  used-is = long t full v
 
   module _ (n : Neighbour) (at : ℕ) (e : at ≡ place (addressOf n) (used t)) where
     pub enter-old : at < t .count → Answered t (entering n (used t)) (record { from = at; to = at; row = n; count = t .count; change = Replaced })
     unfolding entering tableAfter doneBy doneOf
     enter-old h =
         let y : has (addressOf n) (used t) ≡ true = has-place (addressOf n) (used t) (omega (arith, used-is)) in
-        let x = stored n at (t .count) Replaced t full (omega (arith, valid-parts t ok .within)) in
-        record { table = x ∙ (rw y (replaces t full (valid-parts t ok) n at (omega arith) h)); order = in-place n at (t .count) Replaced; done = rw y }
+        let x = stored n at (t .count) Replaced t full (omega (arith, v .within)) in
+        record { table = x ∙ (rw y (replaces t full v n at (omega arith) h)); order = in-place n at (t .count) Replaced; done = rw y }
 
     module _ (h : t .count ≤ at) where
       absent : has (addressOf n) (used t) ≡ false
@@ -60,7 +61,7 @@ module _ (t : Table) (full : length (t .rows) ≡ most) (ok : valid t ≡ true) 
           let f : at ≡ t .count = omega (arith, used-is, place-all (addressOf n) (used t)) in
           let m = lt-leb most (length (used t)) (omega (arith, used-is)) in
           let x = stored n at (at + 1) Appended t full (omega arith) in
-          record { table = x ∙ (rw (absent, m) (appends t full (valid-parts t ok) n at (omega arith) h f c)); order = in-place n at (at + 1) Appended; done = rw (absent, m) }
+          record { table = x ∙ (rw (absent, m) (appends t full v n at (omega arith) h f c)); order = in-place n at (at + 1) Appended; done = rw (absent, m) }
 
   module _ (a : ℕ) (at : ℕ) (e : at ≡ place a (used t)) where
     pub leave-old : {n : Neighbour} → at < t .count
@@ -69,8 +70,8 @@ module _ (t : Table) (full : length (t .rows) ≡ most) (ok : valid t ≡ true) 
     unfolding leaving refuseIf _>>_ tableAfter tableBy doneBy doneOf
     leave-old h f =
         let y : has a (used t) ≡ true = has-place a (used t) (omega (arith, used-is)) in
-        let w : t .count - 1 < most = omega (arith, valid-parts t ok .within) in
-        record { table = rw (y, f, lt-ltb (t .count - 1) most w) (closes t full (valid-parts t ok) a at (omega arith) h); order = record { order = omega arith; inside = λ g. w }; done = rw y }
+        let w : t .count - 1 < most = omega (arith, v .within) in
+        record { table = rw (y, f, lt-ltb (t .count - 1) most w) (closes t full v a at (omega arith) h); order = record { order = omega arith; inside = λ g. w }; done = rw y }
 
     pub leave-none : {u : Update} → t .count ≤ at → tableBy t u ≡ t → Ordered u → u .change ≡ Refused (record { number = 12; place = 0 }) → Answered t (leaving a (used t)) u
     unfolding leaving refuseIf _>>_

@@ -5,7 +5,7 @@
 --     best-highest, elect-highest   the highest, row after row
 --     elect-by-address, elect-by-priority   the two halves of the sentence
 --     rank-same                     two that are not above each other have one address
---     elect-order                   rows in another order elect the same address
+--     elect-order, elect-same       rows in another order elect the same address: as a number, and in its halves
 -- Assumes nothing.
 use mathlib.Core.Path.{_≡_, refl, sym, ap, subst, _∙_}
 use mathlib.Core.Bool.{Bool, true, false, cond, _&&_, _||_, and-comm, and-assoc}
@@ -16,10 +16,11 @@ use native.Mathlib.Omega.{arith}
 use borrow.Author.Tests.{ltb-true, ltb-false, eqb-true, eqb-false}
 use lib.Dec.{ltb, eqb}
 use Rattle.records.specs.Every.{Every}
+use Rattle.addresses.proofs.Laws.{halves-one}
 use Rattle.neighbours.specs.declared.election.Candidate.{Candidate}
 use Rattle.neighbours.specs.declared.Neighbour.{Neighbour}
 use Rattle.neighbours.specs.Election.{candidateAddress, allHave, candidate, above, better, best, elect}
-use Rattle.neighbours.specs.Highest.{In, candidates, NotAbove, Highest}
+use Rattle.neighbours.specs.Highest.{In, candidates, NotAbove, Highest, Halved}
 
 -- ---- ranking
 
@@ -168,3 +169,13 @@ elect-order ours {l} {m} d =
     let h : NotAbove p c e = every-in (λ x. NotAbove p x e) (candidates ours m) c (none-above p ours m) (in-order ours c d (among p ours l)) in
     let k : NotAbove p e c = every-in (λ x. NotAbove p x c) (candidates ours l) e (none-above p ours l) (in-order ours e (Permᴰ·symm d) (among p ours m)) in
     rw (have-order d) (rank-same p c e h k)
+
+pub elect-same : (ours : Candidate) {l m : List Neighbour} → List·Permᴰ l m → Every Halved (candidates ours l) → elect ours l .address ≡ elect ours m .address
+unfolding elect
+elect-same ours {l} {m} d h =
+    let c = elect ours l in
+    let e = elect ours m in
+    let s : Halved c = every-in Halved (candidates ours l) c h (among (allHave l) ours l) in
+    let t : Halved e = every-in Halved (candidates ours l) e h (in-order ours e (Permᴰ·symm d) (among (allHave m) ours m)) in
+    let p = halves-one (c .address .high) (c .address .low) (e .address .high) (e .address .low) s t (elect-order ours d) in
+    λ i. record { high = p .0 i; low = p .1 i }

@@ -7,7 +7,8 @@ pub mod Among
 pub mod Called
 pub mod Gaps
 pub mod Changes
-pub mod Sums
+pub mod Bits
 pub mod Entering
 pub mod Kept
+pub mod Examples
 pub mod Holding

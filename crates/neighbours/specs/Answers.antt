@@ -5,10 +5,11 @@
 --     Ordered, tableBy          an update that can be done; the table after it
 --     packingBy, electedBy      the answers about packing and election
 -- Assumes nothing: these are definitions.
-use Prim.Native.Nat.{ℕ, _≤_, _<_}
+use Prim.Native.Nat.{_≤_, _<_}
 use mathlib.Core.Bool.{Bool, cond}
 use lib.Dec.{ltb}
 use Rattle.format.specs.Outcome.{Outcome, gives, refuses}
+use Rattle.format.specs.declared.Address.{Address}
 use Rattle.neighbours.specs.Rows.{most, tableOf, movedUp}
 use Rattle.neighbours.specs.Hearing.{Done, replaced, appended, forgotten, After, after}
 use Rattle.neighbours.specs.declared.Table.{Table}
@@ -53,6 +54,6 @@ unfoldable pub packingBy : Allowance → Outcome Bool
 packingBy (Allowed b) = gives b
 packingBy (NoPacking r) = refuses (r .number) (r .place)
 
-unfoldable pub electedBy : Elected → Outcome ℕ
+unfoldable pub electedBy : Elected → Outcome Address
 electedBy (Is a) = gives a
 electedBy (NotElected r) = refuses (r .number) (r .place)

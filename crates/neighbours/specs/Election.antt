@@ -11,6 +11,9 @@ use mathlib.Core.Bool.{Bool, true, false, not, cond, _&&_, _||_}
 use mathlib.Core.List.{List, [], _∷_}
 use lib.Dec.{eqb, ltb}
 use Rattle.format.specs.Outcome.{Outcome, gives, refuseIf, _>>_}
+use Rattle.format.specs.Family.{Family}
+use Rattle.format.specs.Path.{numberOf}
+use Rattle.format.specs.declared.Address.{Address}
 use Rattle.neighbours.specs.Rows.{used, valid}
 use Rattle.neighbours.specs.Hearing.{asked}
 use Rattle.neighbours.specs.declared.election.Candidate.{Candidate}
@@ -21,9 +24,9 @@ unfoldable pub allPack : List Neighbour → Bool
 allPack [] = true
 allPack (n ∷ l) = n .packs && allPack l
 
-unfoldable pub mayPack : Table → Outcome Bool
-mayPack t = do
-  refuseIf (not (valid t)) 14 0
+unfoldable pub mayPack : Family → Table → Outcome Bool
+mayPack f t = do
+  refuseIf (not (valid f t)) 14 0
   gives (allPack (used t))
 
 unfoldable pub allHave : List Neighbour → Bool
@@ -35,7 +38,7 @@ candidate n = record { address = n .address; priority = n .priority }
 
 -- the address of a candidate as a number, as `addressOf` is that of a row
 abbrev pub candidateAddress : Candidate → ℕ
-candidateAddress c = c .address
+candidateAddress c = numberOf (c .address)
 
 -- By address alone, "if any row has no priority"; else (true) by "the highest priority, then address".
 unfoldable pub above : Bool → Candidate → Candidate → Bool
@@ -54,7 +57,7 @@ unfoldable pub elect : Candidate → List Neighbour → Candidate
 elect ours l = best (allHave l) ours l
 
 -- our own router always has a priority; "own address .. not 0": 7
-unfoldable pub electing : Table → ℕ → ℕ → Outcome ℕ
-electing t a p = do
-  asked t a
+unfoldable pub electing : Family → Table → Address → ℕ → Outcome Address
+electing f t a p = do
+  asked f t a
   gives (elect (record { address = a; priority = p }) (used t) .address)

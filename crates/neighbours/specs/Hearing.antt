@@ -7,18 +7,22 @@
 --     hearing, forgetting       the calls
 -- Assumes nothing: these are definitions.
 use Prim.Native.Nat.{ℕ}
-use mathlib.Core.Bool.{not, cond}
+use mathlib.Core.Bool.{not, cond, _&&_}
 use mathlib.Core.List.{List, [], _∷_}
 use lib.ListN.{length}
 use lib.Dec.{eqb, leb}
 use Rattle.format.specs.Outcome.{Outcome, gives, refuseIf, _>>_}
+use Rattle.format.specs.Family.{Family}
+use Rattle.format.specs.Path.{numberOf}
+use Rattle.format.specs.declared.Address.{Address}
+use Rattle.addresses.specs.Addresses.{inFamily}
 use Rattle.hello.specs.declared.Hello.{Hello}
 use Rattle.neighbours.specs.Rows.{addressOf, most, has, used, valid}
 use Rattle.neighbours.specs.declared.Neighbour.{Neighbour}
 use Rattle.neighbours.specs.declared.Table.{Table}
 
 -- "a priority not announced is stored as 0"
-unfoldable pub rowOf : ℕ → Hello → Neighbour
+unfoldable pub rowOf : Address → Hello → Neighbour
 rowOf a h =
     record {
       address = a;
@@ -47,11 +51,12 @@ pub data Done : Type 0 where
 pub data After : Type 0 where
   after : Done → List Neighbour → After
 
--- "Neighbours: 14, 7, then 12 or 11"
-unfoldable pub asked : Table → ℕ → Outcome (Unit {0})
-asked t a = do
-  refuseIf (not (valid t)) 14 0
-  refuseIf (eqb a 0) 7 0
+-- "Neighbours: 14, 7, then 12 or 11". As we read E7: "an address that is none of that family is a row that a sheet may not hold (14). Only address 0 is
+-- refused as an address (7)." So an address that is given to a call is judged as one that stands in the table.
+unfoldable pub asked : Family → Table → Address → Outcome (Unit {0})
+asked f t a = do
+  refuseIf (not (valid f t && inFamily f (numberOf a))) 14 0
+  refuseIf (eqb (numberOf a) 0) 7 0
 
 -- 11: "a new neighbour and 16 rows in use"; E6: "11 comes at 64"
 unfoldable pub entering : Neighbour → List Neighbour → Outcome After
@@ -66,12 +71,12 @@ leaving a l = do
   gives (after forgotten (without a l))
 
 -- "holdtime 0 forgets it"
-unfoldable pub hearing : Table → ℕ → Hello → Outcome After
-hearing t a h = do
-  asked t a
-  cond (eqb (h .holdtime) 0) (leaving a (used t)) (entering (rowOf a h) (used t))
+unfoldable pub hearing : Family → Table → Address → Hello → Outcome After
+hearing f t a h = do
+  asked f t a
+  cond (eqb (h .holdtime) 0) (leaving (numberOf a) (used t)) (entering (rowOf a h) (used t))
 
-unfoldable pub forgetting : Table → ℕ → Outcome After
-forgetting t a = do
-  asked t a
-  leaving a (used t)
+unfoldable pub forgetting : Family → Table → Address → Outcome After
+forgetting f t a = do
+  asked f t a
+  leaving (numberOf a) (used t)

@@ -3,6 +3,7 @@
 --     In, candidates            an element of a list; those that may be elected
 --     NotAbove                  a candidate does not rank above another
 --     Highest                   one of the candidates, above which none ranks
+--     Halved                    a candidate's address as code holds it
 -- Assumes nothing: these are definitions.
 use Prim.Native.Nat.{_≤_, _<_}
 use mathlib.Core.Path.{_≡_}
@@ -26,6 +27,10 @@ candidates ours l = ours ∷ map candidate l
 unfoldable pub NotAbove : Bool → Candidate → Candidate → Type 0
 NotAbove false d c = candidateAddress d ≤ candidateAddress c
 NotAbove true d c = (d .priority < c .priority) ⊎ ((d .priority ≡ c .priority) × (candidateAddress d ≤ candidateAddress c))
+
+-- the low half of its address has 64 bits, so that no other halves are the same number
+abbrev pub Halved : Candidate → Type 0
+Halved c = c .address .low < 18446744073709551616
 
 pub record Highest (p : Bool) (all : List Candidate) (c : Candidate) : Type 0 where
   pub among : In c all

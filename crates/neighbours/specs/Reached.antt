@@ -7,21 +7,22 @@ use mathlib.Core.Path.{_≡_}
 use mathlib.Core.Bool.{true}
 use mathlib.Core.List.{List, [], _∷_}
 use lib.ListN.{length}
+use Rattle.format.specs.Family.{Family}
 use Rattle.hello.specs.declared.Hello.{Hello}
-use Rattle.neighbours.specs.Rows.{addressOf, most, valid}
+use Rattle.neighbours.specs.Rows.{most, valid}
 use Rattle.neighbours.specs.Hearing.{hearing}
 use Rattle.neighbours.specs.Answers.{tableAfter}
 use Rattle.neighbours.specs.declared.Neighbour.{Neighbour}
 use Rattle.neighbours.specs.declared.Table.{Table}
 
 -- the array has all its rows, and row 14 of 01's table lets the table pass
-pub record Sound (t : Table) : Type 0 where
+pub record Sound (f : Family) (t : Table) : Type 0 where
   pub full : length (t .rows) ≡ most
-  pub ok : valid t ≡ true
+  pub ok : valid f t ≡ true
 
 unfoldable pub saidOf : Neighbour → Hello
 saidOf n = record { holdtime = n .holdtime; «has_priority» = n .«has_priority»; priority = n .priority; packing = n .packs }
 
-unfoldable pub heardAll : Table → List Neighbour → Table
-heardAll t [] = t
-heardAll t (n ∷ l) = heardAll (tableAfter t (hearing t (addressOf n) (saidOf n))) l
+unfoldable pub heardAll : Family → Table → List Neighbour → Table
+heardAll f t [] = t
+heardAll f t (n ∷ l) = heardAll f (tableAfter t (hearing f t (n .address) (saidOf n))) l

@@ -7,11 +7,18 @@ use crate::Table;
 use crate::validity::Asked;
 use crate::validity::ask;
 use crate::validity::is_valid;
+use addresses::is_below;
+use addresses::is_zero;
+use format::Address;
+use format::AddressFamily;
 use format::Refusal;
+use format::is_ipv6;
 ghost use mathlib.Core.Path.{_≡_};
 ghost use mathlib.Core.Bool.{true, false, cond};
 ghost use lib.Dec.{eqb};
 ghost use Prim.Native.Nat.{_≤_};
+ghost use Rattle.format.specs.Family.{familyNamed};
+ghost use Rattle.format.specs.Path.{numberOf};
 ghost use Rattle.neighbours.specs.Rows.{most, used};
 ghost use Rattle.neighbours.specs.Election.{allPack, mayPack, better, electing};
 ghost use Rattle.neighbours.specs.Among.{looking, seen, chosen};
@@ -19,7 +26,7 @@ ghost use Rattle.neighbours.specs.Answers.{packingBy, electedBy};
 
 // One that may be elected.
 pub(crate) struct Candidate {
-    pub(crate) address: u32,
+    pub(crate) address: Address,
     pub(crate) priority: u32,
 }
 
@@ -61,17 +68,19 @@ fn better(by_priority: bool, c: Candidate, d: Candidate) -> Candidate
             return c;
         }
     }
-    if c.address < d.address {
+    let a = c.address;
+    let b = d.address;
+    if is_below(a, b) {
         return d;
     }
     c
 }
 
 // Whether an address is 0, or one before it was.
-fn zero_or(address: u32, before: bool) -> bool
-    ensures { λ r. ⌜ r ≡ cond (eqb address 0) true before ⌝ }
+fn zero_or(address: Address, before: bool) -> bool
+    ensures { λ r. ⌜ r ≡ cond (eqb (numberOf address) 0) true before ⌝ }
 {
-    if address == 0 {
+    if is_zero(address) {
         return true;
     }
     before
@@ -91,13 +100,14 @@ fn both(a: bool, b: bool) -> bool
 pub(crate) fn looked(s: Scan, row: Neighbour) -> Scan
     ensures { λ r. ⌜ r ≡ looking s row ⌝ }
 {
+    let address = row.address;
     let c = Candidate {
-        address: row.address,
+        address,
         priority: row.priority,
     };
     let by_priority = better(true, s.by_priority, c);
     let by_address = better(false, s.by_address, c);
-    let zero = zero_or(row.address, s.zero);
+    let zero = zero_or(address, s.zero);
     let all_have = both(row.has_priority, s.all_have);
     Scan {
         none: false,
@@ -124,7 +134,7 @@ pub(crate) fn looked_over(table: Table, before: Scan) -> Scan
 }
 
 // The address that the rows looked at elect.
-pub(crate) fn chosen(s: Scan) -> u32
+pub(crate) fn chosen(s: Scan) -> Address
     ensures { λ r. ⌜ r ≡ chosen s ⌝ }
 {
     if s.all_have {
@@ -135,10 +145,10 @@ pub(crate) fn chosen(s: Scan) -> u32
 
 impl Table {
     // Whether packing is allowed: exactly if every neighbour announced it.
-    pub fn packing_allowed(self) -> Allowance
-        ensures { λ r. ⌜ packingBy r ≡ mayPack self ⌝ }
+    pub fn packing_allowed(self, family: AddressFamily) -> Allowance
+        ensures { λ r. ⌜ packingBy r ≡ mayPack (familyNamed family) self ⌝ }
     {
-        if is_valid(self) {
+        if is_valid(is_ipv6(family), self) {
             return Allowance::Allowed(all_pack(self));
         }
         Allowance::Refused(Refusal {
@@ -148,10 +158,11 @@ impl Table {
     }
 
     // The designated router over the rows and our own router.
-    pub fn elect(self, address: u32, priority: u32) -> Elected
-        ensures { λ r. ⌜ electedBy r ≡ electing self address priority ⌝ }
+    pub fn elect(self, family: AddressFamily, address: Address, priority: u32) -> Elected
+        ensures { λ r. ⌜ electedBy r ≡ electing (familyNamed family) self address priority ⌝ }
     {
-        let a = ask(is_valid(self), address);
+        let ipv6 = is_ipv6(family);
+        let a = ask(is_valid(ipv6, self), ipv6, address);
         match a {
             Asked::Refused(r) => Elected::Refused(r),
             Asked::Fine => {

@@ -11,11 +11,16 @@ use crate::validity::Asked;
 use crate::validity::ask;
 use crate::validity::find;
 use crate::validity::is_valid;
+use format::Address;
+use format::AddressFamily;
 use format::Refusal;
+use format::is_ipv6;
 use hello::Hello;
 ghost use mathlib.Core.Path.{_≡_};
 ghost use mathlib.Core.Bool.{true};
 ghost use mathlib.Core.List.{[]};
+ghost use Rattle.format.specs.Family.{Family, familyOf, familyNamed};
+ghost use Rattle.format.specs.Path.{numberOf};
 ghost use Rattle.neighbours.specs.Rows.{used, valid, tableOf};
 ghost use Rattle.neighbours.specs.Hearing.{entering, leaving, hearing, forgetting};
 ghost use Rattle.neighbours.specs.Answers.{doneBy, doneOf, tableAfter, Ordered, tableBy};
@@ -47,12 +52,13 @@ fn refused(refusal: Refusal) -> Update
 
 // A row stored in place of an earlier one or after the last.
 fn enter(table: Table, row: Neighbour) -> Update
-    requires { ⌜ valid table ≡ true ⌝ }
+    requires { ⌜ ((f : Family) × (valid f table ≡ true)) ⌝ }
     ensures table { λ r. ⌜ tableBy table r ≡ tableAfter table (entering row (used table)) ⌝ }
     ensures order { λ r. ⌜ Ordered r ⌝ }
     ensures done { λ r. ⌜ doneBy (r .change) ≡ doneOf (entering row (used table)) ⌝ }
 {
-    let at = find(table, row.address);
+    let address = row.address;
+    let at = find(table, address);
     let count = table.count;
     if at < count {
         return Update {
@@ -79,11 +85,11 @@ fn enter(table: Table, row: Neighbour) -> Update
 }
 
 // An address is forgotten: the rows after it move up, and the last row in use becomes 0.
-fn leave(table: Table, address: u32) -> Update
-    requires { ⌜ valid table ≡ true ⌝ }
-    ensures table { λ r. ⌜ tableBy table r ≡ tableAfter table (leaving address (used table)) ⌝ }
+fn leave(table: Table, address: Address) -> Update
+    requires { ⌜ ((f : Family) × (valid f table ≡ true)) ⌝ }
+    ensures table { λ r. ⌜ tableBy table r ≡ tableAfter table (leaving (numberOf address) (used table)) ⌝ }
     ensures order { λ r. ⌜ Ordered r ⌝ }
-    ensures done { λ r. ⌜ doneBy (r .change) ≡ doneOf (leaving address (used table)) ⌝ }
+    ensures done { λ r. ⌜ doneBy (r .change) ≡ doneOf (leaving (numberOf address) (used table)) ⌝ }
 {
     let at = find(table, address);
     let count = table.count;
@@ -104,12 +110,12 @@ fn leave(table: Table, address: u32) -> Update
 }
 
 // What hearing does: a row is replaced or goes last; holdtime 0 forgets its address.
-fn heard(table: Table, address: u32, said: Hello) -> Update
-    ensures table { λ r. ⌜ tableBy table r ≡ tableAfter table (hearing table address said) ⌝ }
+fn heard(ipv6: bool, table: Table, address: Address, said: Hello) -> Update
+    ensures table { λ r. ⌜ tableBy table r ≡ tableAfter table (hearing (familyOf ipv6) table address said) ⌝ }
     ensures order { λ r. ⌜ Ordered r ⌝ }
-    ensures done { λ r. ⌜ doneBy (r .change) ≡ doneOf (hearing table address said) ⌝ }
+    ensures done { λ r. ⌜ doneBy (r .change) ≡ doneOf (hearing (familyOf ipv6) table address said) ⌝ }
 {
-    let a = ask(is_valid(table), address);
+    let a = ask(is_valid(ipv6, table), ipv6, address);
     match a {
         Asked::Refused(r) => refused(r),
         Asked::Fine => {
@@ -122,12 +128,12 @@ fn heard(table: Table, address: u32, said: Hello) -> Update
 }
 
 // What forgetting does.
-fn forgotten(table: Table, address: u32) -> Update
-    ensures table { λ r. ⌜ tableBy table r ≡ tableAfter table (forgetting table address) ⌝ }
+fn forgotten(ipv6: bool, table: Table, address: Address) -> Update
+    ensures table { λ r. ⌜ tableBy table r ≡ tableAfter table (forgetting (familyOf ipv6) table address) ⌝ }
     ensures order { λ r. ⌜ Ordered r ⌝ }
-    ensures done { λ r. ⌜ doneBy (r .change) ≡ doneOf (forgetting table address) ⌝ }
+    ensures done { λ r. ⌜ doneBy (r .change) ≡ doneOf (forgetting (familyOf ipv6) table address) ⌝ }
 {
-    let a = ask(is_valid(table), address);
+    let a = ask(is_valid(ipv6, table), ipv6, address);
     match a {
         Asked::Refused(r) => refused(r),
         Asked::Fine => leave(table, address),
@@ -166,11 +172,11 @@ impl Table {
     }
 
     // Hearing a Hello from an address: its row is replaced or goes last; holdtime 0 forgets it.
-    pub fn hear(self, address: u32, said: Hello) -> Changed
-        ensures table { λ r. ⌜ r .table ≡ tableAfter self (hearing self address said) ⌝ }
-        ensures done { λ r. ⌜ doneBy (r .change) ≡ doneOf (hearing self address said) ⌝ }
+    pub fn hear(self, family: AddressFamily, address: Address, said: Hello) -> Changed
+        ensures table { λ r. ⌜ r .table ≡ tableAfter self (hearing (familyNamed family) self address said) ⌝ }
+        ensures done { λ r. ⌜ doneBy (r .change) ≡ doneOf (hearing (familyNamed family) self address said) ⌝ }
     {
-        let u = heard(self, address, said);
+        let u = heard(is_ipv6(family), self, address, said);
         let change = u.change;
         Changed {
             table: updated(self, u),
@@ -179,11 +185,11 @@ impl Table {
     }
 
     // Forgetting an address: the rows after it move up.
-    pub fn forget(self, address: u32) -> Changed
-        ensures table { λ r. ⌜ r .table ≡ tableAfter self (forgetting self address) ⌝ }
-        ensures done { λ r. ⌜ doneBy (r .change) ≡ doneOf (forgetting self address) ⌝ }
+    pub fn forget(self, family: AddressFamily, address: Address) -> Changed
+        ensures table { λ r. ⌜ r .table ≡ tableAfter self (forgetting (familyNamed family) self address) ⌝ }
+        ensures done { λ r. ⌜ doneBy (r .change) ≡ doneOf (forgetting (familyNamed family) self address) ⌝ }
     {
-        let u = forgotten(self, address);
+        let u = forgotten(is_ipv6(family), self, address);
         let change = u.change;
         Changed {
             table: updated(self, u),

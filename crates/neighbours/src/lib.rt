@@ -1,5 +1,5 @@
-// The neighbour table: a state by value with its array inside. Here are the types; the calls are total, and what they
-// answer is a definition of specs/.
+// The neighbour table: a state by value with its array inside, of the family that its caller names. Here are the types;
+// the calls are total, and what they answer is a definition of specs/.
 //
 // row.rt         one row
 // validity.rt    the tests of a whole table, and what every call asks first
@@ -12,6 +12,7 @@ mod list;
 mod row;
 mod validity;
 
+use format::Address;
 use format::Refusal;
 pub use list::elect_among;
 pub use list::elect_rows;
@@ -24,7 +25,7 @@ pub const ROWS: usize = 64;
 // A neighbour: the priority is 0 where none was announced.
 #[repr(C)]
 pub struct Neighbour {
-    pub address: u32,
+    pub address: Address,
     pub priority: u32,
     pub has_priority: bool,
     pub packs: bool,
@@ -60,6 +61,6 @@ pub enum Allowance {
 
 // The address that is elected.
 pub enum Elected {
-    Is(u32),
+    Is(Address),
     Refused(Refusal),
 }

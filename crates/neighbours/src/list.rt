@@ -15,14 +15,16 @@ use crate::election::Scan;
 use crate::election::chosen;
 use crate::election::looked;
 use crate::election::looked_over;
+use format::Address;
 use format::Refusal;
 
 // No row was looked at: both candidates are 0.
 fn start() -> Scan
     ensures { λ r. ⌜ r ≡ first ⌝ }
 {
+    let address = Address { high: 0, low: 0 };
     let nobody = Candidate {
-        address: 0,
+        address,
         priority: 0,
     };
     Scan {

@@ -1,9 +1,14 @@
-// One row of the table: one that is not in use, what a row has as one number, whether a sheet may hold it, and the row that a Hello gives.
+// One row of the table: one that is not in use, what a row has besides its address as one number, whether a sheet may hold it, and the row that a
+// Hello gives.
 use crate::Neighbour;
+use addresses::is_in_family;
+use addresses::is_zero;
+use format::Address;
 use hello::Hello;
 ghost use mathlib.Core.Path.{_≡_};
 ghost use mathlib.Core.Bool.{cond};
 ghost use Prim.Native.Nat.{_≤_};
+ghost use Rattle.format.specs.Family.{familyOf};
 ghost use Rattle.neighbours.specs.Rows.{noRow, restOf, allowed};
 ghost use Rattle.neighbours.specs.Hearing.{rowOf};
 
@@ -11,20 +16,14 @@ ghost use Rattle.neighbours.specs.Hearing.{rowOf};
 pub(crate) fn no_row() -> Neighbour
     ensures { λ r. ⌜ r ≡ noRow ⌝ }
 {
+    let address = Address { high: 0, low: 0 };
     Neighbour {
-        address: 0,
+        address,
         priority: 0,
         has_priority: false,
         packs: false,
         holdtime: 0,
     }
-}
-
-// A number of 32 bits as one of 64.
-pub(crate) fn wide(n: u32) -> u64
-    ensures { λ r. ⌜ (r ≡ n) × (r ≤ 4294967295) ⌝ }
-{
-    n as u64
 }
 
 // A number, or 0.
@@ -37,19 +36,26 @@ fn number_if(b: bool, n: u64) -> u64
     0
 }
 
-// What a row has besides its two numbers of 32 bits, as one: it is 0 exactly if they all are. They stand as in the row's octets, so that the
-// compiler reads them at once.
-pub(crate) fn rest_of_row(has_priority: bool, packs: bool, holdtime: u16) -> u64
-    ensures { λ r. ⌜ (r ≡ restOf «has_priority» packs holdtime) × (r ≤ 4294967295) ⌝ }
+// What a row has besides its address, as one number: it is 0 exactly if they all are. They stand as in the row's octets, so that the compiler reads
+// them at once.
+pub(crate) fn rest_of_row(priority: u32, has_priority: bool, packs: bool, holdtime: u16) -> u64
+    ensures { λ r. ⌜ r ≡ restOf priority «has_priority» packs holdtime ⌝ }
 {
-    number_if(has_priority, 1) + number_if(packs, 256) + holdtime as u64 * 65536
+    priority as u64
+        + number_if(has_priority, 4294967296)
+        + number_if(packs, 1099511627776)
+        + holdtime as u64 * 281474976710656
 }
 
-// Whether a sheet may hold a row.
-pub fn is_allowed(row: Neighbour) -> bool
-    ensures { λ r. ⌜ r ≡ allowed row ⌝ }
+// Whether a sheet of a family may hold a row.
+pub fn is_allowed(ipv6: bool, row: Neighbour) -> bool
+    ensures { λ r. ⌜ r ≡ allowed (familyOf ipv6) row ⌝ }
 {
-    if row.address == 0 {
+    let address = row.address;
+    if !is_in_family(ipv6, address) {
+        return false;
+    }
+    if is_zero(address) {
         return false;
     }
     if row.holdtime == 0 {
@@ -62,7 +68,7 @@ pub fn is_allowed(row: Neighbour) -> bool
 }
 
 // The row of an address and what its Hello said.
-pub(crate) fn row_of(address: u32, said: Hello) -> Neighbour
+pub(crate) fn row_of(address: Address, said: Hello) -> Neighbour
     ensures { λ r. ⌜ r ≡ rowOf address said ⌝ }
 {
     let mut row = Neighbour {

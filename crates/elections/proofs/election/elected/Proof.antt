@@ -8,14 +8,14 @@ use Rattle.elections.proofs.election.elected.Statement.{statement}
 use Rattle.elections.proofs.election.elected.Tie as tie
 
 abbrev Inv-loop : tie.InvT-loop
-Inv-loop m own table₀ at₀ table at = Unit {0}
+Inv-loop family m own size table₀ at₀ table at = Unit {0}
 
 abbrev μ-loop : tie.MeasureT-loop
-μ-loop m own table₀ at₀ table at = length m - at
+μ-loop family m own size table₀ at₀ table at = length m - at
 
 pub elected-spec : {M : Type 1} → statement M
 elected-spec =
     tie.close
-    (tie.spec Inv-loop μ-loop (λ c κs. search needs) (λ c. search needs) (λ c κs. search needs)
+    (tie.spec Inv-loop μ-loop (λ c κs. search needs) (λ c κs. search needs) (λ c. search needs) (λ c κs. search needs)
     (λ c. search needs) (λ c. search needs) (λ c. search needs) (λ c. search needs) (λ c. search needs) (λ c κs. search needs) (λ c κs. search needs)
     (λ c κs. search needs) (λ c. search needs))

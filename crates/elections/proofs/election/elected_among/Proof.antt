@@ -8,13 +8,13 @@ use Rattle.elections.proofs.election.elected_among.Statement.{statement
 use Rattle.elections.proofs.election.elected_among.Tie as tie
 
 abbrev Inv-loop : tie.InvT-loop
-Inv-loop m table₀ at₀ table at = Unit {0}
+Inv-loop family m size table₀ at₀ table at = Unit {0}
 
 abbrev μ-loop : tie.MeasureT-loop
-μ-loop m table₀ at₀ table at = length m - at
+μ-loop family m size table₀ at₀ table at = length m - at
 
 pub elected-among-spec : {M : Type 1} → statement M
 elected-among-spec =
     tie.close
-    (tie.spec Inv-loop μ-loop (λ c κs. search needs) (λ c. search needs) (λ c κs. search needs)
+    (tie.spec Inv-loop μ-loop (λ c κs. search needs) (λ c κs. search needs) (λ c. search needs) (λ c κs. search needs)
     (λ c. search needs) (λ c. search needs) (λ c. search needs) (λ c. search needs) (λ c. search needs) (λ c κs. search needs) (λ c. search needs))

@@ -9,11 +9,12 @@ use borrow.Author.Needs.{needs}
 use Rattle.elections.proofs.election.said.Statement.{statement}
 use Rattle.elections.proofs.election.said.Tie as tie
 
-cast-t5 : tie.Need-cast-t5
-cast-t5 c =
-    let a = c .before .before .args in
-    let small : numberAt 2 (now (a .m)) (a .at + 10) < 65536 = numberAt-lt 2 (now (a .m)) (a .at + 10) (λ i. c .before .shared-slice-known .given i .fits) in
+cast-t7 : tie.Need-cast-t7
+cast-t7 c =
+    let m = now (c .before .before .before .args .m) in
+    let place = c .before .rest .result + 6 in
+    let small : numberAt 2 m place < 65536 = numberAt-lt 2 m place (λ i. c .before .before .shared-slice-known .given i .fits) in
     record { fits = subst (λ n. n < 65536) (sym (c .number16 .ensures)) small }
 
 pub said-spec : {M : Type 1} → statement M
-said-spec = tie.close (tie.spec (λ c. search needs) (λ c κs. search needs) cast-t5 (λ c κs. search needs) (λ c κs. search needs) (λ c. search needs))
+said-spec = tie.close (tie.spec (λ c κs. search needs) (λ c. search needs) (λ c κs. search needs) cast-t7 (λ c κs. search needs) (λ c κs. search needs) (λ c. search needs))

@@ -10,10 +10,10 @@ use Rattle.elections.proofs.output.show_all.Statement.{statement}
 use Rattle.elections.proofs.output.show_all.Tie as tie
 
 abbrev Inv-loop : tie.InvT-loop
-Inv-loop table o₀ at₀ o at = length o ≡ 256
+Inv-loop family table o₀ at₀ o at = length o ≡ 256
 
 abbrev μ-loop : tie.MeasureT-loop
-μ-loop table o₀ at₀ o at = length table - at
+μ-loop family table o₀ at₀ o at = length table - at
 
 pub show-all-spec : {M : Type 1} → statement M
 show-all-spec =

@@ -1,7 +1,11 @@
 -- `neighbours::Table::forget` meets its contract: the table is updated, as the update says what was done.
 -- Assumes nothing.
-use mathlib.Core.Path.{_∙_}
+use mathlib.Core.Path.{ap, _∙_}
+use mathlib.Core.Bool.{Bool}
 use borrow.Author.Needs.{needs}
+use Rattle.format.specs.Family.{familyOf}
+use Rattle.neighbours.specs.Hearing.{forgetting}
+use Rattle.neighbours.specs.Answers.{doneOf, tableAfter}
 use Rattle.neighbours.proofs.Table.forget.Statement.{statement}
 use Rattle.neighbours.proofs.Table.forget.Tie as tie
 
@@ -9,7 +13,10 @@ updated-requires : tie.Need-updated-requires
 updated-requires c κs = c .forgotten .ensures .1 .0
 
 returns : tie.Need-returns
-returns c = (c .updated .ensures ∙ c .before .forgotten .ensures .0, c .before .forgotten .ensures .1 .1)
+returns c =
+    let a = c .before .before .before .args in
+    let e = ap (λ (b : Bool). forgetting (familyOf b) (a .self) (a .address)) (c .before .before .is-ipv6 .ensures) in
+    (c .updated .ensures ∙ (c .before .forgotten .ensures .0 ∙ ap (tableAfter (a .self)) e), c .before .forgotten .ensures .1 .1 ∙ ap doneOf e)
 
 pub forget-spec : {M : Type 1} → statement M
-forget-spec = tie.close (tie.spec (λ c κs. search needs) updated-requires returns)
+forget-spec = tie.close (tie.spec (λ c κs. search needs) (λ c κs. search needs) updated-requires returns)

@@ -1,9 +1,9 @@
 -- `neighbours::election::better` meets its contract, test by test.
 -- Assumes nothing.
-use mathlib.Core.Path.{_≡_, refl, _∙_}
+use mathlib.Core.Path.{_≡_, refl, sym, _∙_}
 use mathlib.Core.Bool.{false}
 use mathlib.Core.Logic.{⊎-elim}
-use borrow.Author.Tests.{lt-ltb, le-ltb}
+use borrow.Author.Needs.{needs}
 use Rattle.neighbours.specs.Election.{above, better}
 use Rattle.neighbours.proofs.Ranks.{better-up, better-down, better-even}
 use Rattle.neighbours.proofs.election.better.Statement.{statement}
@@ -27,11 +27,11 @@ returns-2 c =
 
 returns-3 : tie.Need-returns-3
 unfolding better above
-returns-3 c = (rw (lt-ltb _ _ (c .if4 .taken))) ∙ even (c .before .before .before)
+returns-3 c = (rw (sym (c .before .is-below .ensures) ∙ c .if4 .taken)) ∙ even (c .before .before .before .before)
 
 returns-4 : tie.Need-returns-4
 unfolding better above
-returns-4 c = (rw (le-ltb _ _ (c .if4 .left))) ∙ even (c .before .before .before)
+returns-4 c = (rw (sym (c .before .is-below .ensures) ∙ c .if4 .left)) ∙ even (c .before .before .before .before)
 
 pub better-spec : {M : Type 1} → statement M
-better-spec = tie.close (tie.spec returns returns-2 returns-3 returns-4)
+better-spec = tie.close (tie.spec returns returns-2 (λ c κs. search needs) returns-3 returns-4)

@@ -127,7 +127,7 @@ record Turn (ys : List Neighbour) : Type 0 where
   pub is : Is S.the-row s (mach-s s ∷ [])
   pub left : seen s (dropN i ys) ≡ seen first ys
 
-byte-fits : (i n : ℕ) → i < n → n * 12 < 2 ^ 63 → i * 12 < 2 ^ 64
+byte-fits : (i n : ℕ) → i < n → n * 24 < 2 ^ 63 → i * 24 < 2 ^ 64
 byte-fits i n l m = omega arith
 
 module _ {M : Type 1} (𝓤 : URA M) (H : Heap 𝓤) (A : Atoms 𝓤) (at-mem : Memory → SProp 𝓤) (run : Routine → Fun 𝓤) where
@@ -234,7 +234,7 @@ module _ {M : Type 1} (𝓤 : URA M) (H : Heap 𝓤) (A : Atoms 𝓤) (W : Given
         (λ less. skips ! $ exec ! C Λ En more (anyQ (Turned t)) $
         assigns ! (bin ! (load ! (from ! (stop !)) (look ! 13 refl)) (lit ! tt) (record { fits = bytes less })) (from ! (stop !)) (store ! 11 refl (tt, record { fits = bytes less })) $
         assigns ! (bin ! (load ! (from ! (fld ! refl (stop !))) (look-in ! 17 (sub ! 0 refl (whole !)))) (load ! (from ! (stop !)) (look ! 11 refl)) tt) (from ! (stop !)) (init ! 7 refl (tt, tt)) $
-        rewrite ! 7 (λ (p : ℕ). ‵ (fat fullShare tyPtr l₆ 0 (vptr b p))) (sym (place-is 12 o (t .i))) refl $
+        rewrite ! 7 (λ (p : ℕ). ‵ (fat fullShare tyPtr l₆ 0 (vptr b p))) (sym (place-is 24 o (t .i))) refl $
         elem-out ! N.the-row (Is N.the-row) (shows 𝓤 H A N.the-row) (LL.vals N.the-type N′.the-laws) (LL.tells N.the-type N′.the-laws) q′ ys (t .i) noRow b o (under less) (λ n-is.
         -- [the row; what it owns; the others; the open borrow; …; _7; …; _6; …; _5; …; _4; …; _3; …; _2; …; _1; …; _0; …]
         assigns ! (of-opd ! (load ! (from ! (hop ! (look ! 9 refl) (stop !))) (look-raw ! 0 refl))) (from ! (stop !)) (init ! 7 refl (LL.lawful N.the-type N′.the-laws 𝓤 H A W .typed n _ n-is .0)) $
@@ -266,7 +266,7 @@ module _ {M : Type 1} (𝓤 : URA M) (H : Heap 𝓤) (A : Atoms 𝓤) (W : Given
         under : Holds (ltb (t .i) (length ys)) → t .i < length ys
         under less = ltb→lt (t .i) (length ys) less
 
-        bytes : Holds (ltb (t .i) (length ys)) → t .i * 12 < 2 ^ 64
+        bytes : Holds (ltb (t .i) (length ys)) → t .i * 24 < 2 ^ 64
         bytes less = byte-fits (t .i) (length ys) (under less) (room .1)
 
         fits : Holds (ltb (t .i) (length ys)) → t .i + 1 < 2 ^ 64
