@@ -2,16 +2,20 @@
 --     sections-asserts, sections-pairs, sections-rows     the first section at fault, or the last
 --     header-gives                                        what the answer about a header says
 --     sheet-header, sheet-fault, sheet-sound              the whole sheet
+--     form-other, form-ours, form-named                   by its form and the family that is named
 -- Assumes nothing.
 use mathlib.Core.Path.{_≡_, refl, sym, ap, _∙_}
+use mathlib.Core.Bool.{Bool, true, false, not}
 use mathlib.Core.List.{List, []}
 use Prim.Native.Nat.{ℕ}
-use Rattle.format.specs.Outcome.{Outcome, gives, refuses, _>>=_, _>>_}
-use Rattle.format.specs.Family.{Family}
+use Rattle.format.specs.Outcome.{Outcome, gives, refuses, refuseIf, _>>=_, _>>_}
+use Rattle.format.specs.Family.{Family, isIpv6}
+use Rattle.format.specs.declared.AddressFamily.{AddressFamily}
 use Rattle.format.specs.declared.Refusal.{Refusal}
-use Rattle.sections.specs.Layout.{Layout, assertsIn, pairsIn, headerSize, pairsFrom, rowsFrom}
-use Rattle.sections.specs.Checking.{checkHeader, checkEntries, checkRows, checking, checkedBy}
+use Rattle.sections.specs.Layout.{Layout, layoutOf, formOf, familyIn, isOf, assertsIn, pairsIn, headerSize, pairsFrom, rowsFrom}
+use Rattle.sections.specs.Checking.{fault, checkHeader, checkEntries, checkRows, checking, checkForm, checkSheet, checkedBy}
 use Rattle.sections.specs.Sections.{checkSections, sectionBy}
+use Rattle.sections.specs.declared.layout.Form.{Form}
 use Rattle.sections.specs.declared.Counts.{Counts}
 use Rattle.sections.specs.declared.Verdict.{Verdict}
 use Rattle.sections.specs.declared.Verdict.the-variants.{Valid, Refused}
@@ -66,3 +70,18 @@ module _ (L : Layout) (f : Family) (o : List ℕ) {x : Verdict} (header : checke
     pub sheet-sound : {s : Section} → sectionBy s ≡ checkSections L f o c → s ≡ Sound → gives c ≡ checking L f o
     unfolding sectionBy _>>_
     sheet-sound found e = sym (then-all ∙ rw (← found, e) refl)
+
+-- ---- the family
+
+-- a sheet of another family, and one of the family that is named
+module _ (ipv6 : Bool) (k : Form) (o : List ℕ) {b : Bool} (told : b ≡ isOf ipv6 k) where
+  pub form-other : not b ≡ true → checkForm ipv6 k o ≡ refuses 14 0
+  unfolding fault refuseIf _>>_
+  form-other e = rw (← told, e)
+
+  pub form-ours : not b ≡ false → checkForm ipv6 k o ≡ checking (layoutOf k) (familyIn k) o
+  unfolding fault refuseIf _>>_
+  form-ours e = rw (← told, e)
+
+pub form-named : (a : AddressFamily) (o : List ℕ) {six : Bool} {k : Form} → six ≡ isIpv6 a → k ≡ formOf o → checkForm six k o ≡ checkSheet a o
+form-named a o e g = rw (e, g)

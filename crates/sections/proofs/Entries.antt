@@ -7,19 +7,19 @@ use mathlib.Core.Path.{_≡_, refl, sym, ap, _∙_}
 use mathlib.Core.Bool.{Bool, true, false, not, cond}
 use mathlib.Core.List.{List}
 use Prim.Native.Nat.{ℕ, zero, suc, _+_, _-_, _*_, _≤_, _<_}
-use native.Mathlib.Nat.{add-assoc, mul-suc, mul-zero, mul-le-mul-left, mul-div-cancel-left}
+use native.Mathlib.Nat.{mul-suc, mul-zero, mul-le-mul-left, mul-div-cancel-left}
 use native.Mathlib.Omega.{arith}
 use lib.ListN.{length, take, drop, length-drop}
 use lib.Seq.{length-take-le}
 use Rattle.octets.proofs.Laws.{number-part}
 use Rattle.format.specs.Outcome.{Outcome, gives, refuses, refuseIf, _>>_}
-use Rattle.format.specs.Family.{Family, familyOf}
+use Rattle.format.specs.Family.{Family}
 use Rattle.format.specs.Entry.{Entries, frontSize, hasFront, assertAt, pairAt, count}
 use Rattle.format.specs.Packing.{firstBadAt, firstBad}
 use Rattle.format.specs.declared.Kind.{Kind}
 use Rattle.format.proofs.Outcomes.{no-refusal}
-use Rattle.entries.specs.Kinds.{isAssert, isStop, entriesBy, entriesFor, listedBy}
-use Rattle.entries.proofs.ByKind.{size-range}
+use Rattle.entries.specs.Kinds.{isAssert, isStop, familyWith, entriesBy, entriesWith, listedBy}
+use Rattle.entries.proofs.ByKind.{with-range}
 use Rattle.entries.specs.declared.Listed.{Listed}
 use Rattle.entries.specs.declared.Listed.the-variants.{Allowed, Bad}
 use Rattle.sections.specs.Checking.{fault, checkEntries}
@@ -27,34 +27,34 @@ use Rattle.sections.specs.Checking.{fault, checkEntries}
 -- ---- a part
 
 module _ (o : List ℕ) (from n : ℕ) (there : from + n ≤ length o) where
-  front-part : (f : Family) (at : ℕ) → at + frontSize f ≤ n → hasFront f (take n (drop from o)) at ≡ hasFront f o (from + at)
+  front-part : (f : Family) (at p : ℕ) → p ≡ from + at → at + frontSize f ≤ n → hasFront f (take n (drop from o)) at ≡ hasFront f o p
   unfolding hasFront
-  front-part f at h = rw (number-part o from n there (frontSize f) at (from + at) refl (omega arith))
+  front-part f at p e h = rw (number-part o from n there (frontSize f) at p e h)
 
-  assert-part : (f : Family) (at : ℕ) → at + (2 * f .width + 8) ≤ n → assertAt f (take n (drop from o)) at ≡ assertAt f o (from + at)
+  assert-part : (f : Family) (at p : ℕ) → p ≡ from + at → at + (2 * f .width + 8) ≤ n → assertAt f (take n (drop from o)) at ≡ assertAt f o p
   unfolding assertAt
-  assert-part f at h =
+  assert-part f at p e h =
       rw (
-        number-part o from n there (f .width) at (from + at) refl (omega arith),
-        number-part o from n there (f .width) (at + f .width) (from + at + f .width) (omega arith) (omega arith),
-        number-part o from n there 4 (at + 2 * f .width) (from + at + 2 * f .width) (omega arith) (omega arith),
-        number-part o from n there 4 (at + 2 * f .width + 4) (from + at + 2 * f .width + 4) (omega arith) (omega arith),
+        number-part o from n there (f .width) at p e (omega arith),
+        number-part o from n there (f .width) (at + f .width) (p + f .width) (omega arith) (omega arith),
+        number-part o from n there 4 (at + 2 * f .width) (p + 2 * f .width) (omega arith) (omega arith),
+        number-part o from n there 4 (at + 2 * f .width + 4) (p + 2 * f .width + 4) (omega arith) (omega arith),
       )
 
-  pair-part : (f : Family) (at : ℕ) → at + 2 * f .width ≤ n → pairAt f (take n (drop from o)) at ≡ pairAt f o (from + at)
+  pair-part : (f : Family) (at p : ℕ) → p ≡ from + at → at + 2 * f .width ≤ n → pairAt f (take n (drop from o)) at ≡ pairAt f o p
   unfolding pairAt
-  pair-part f at h =
+  pair-part f at p e h =
       rw (
-        number-part o from n there (f .width) at (from + at) refl (omega arith),
-        number-part o from n there (f .width) (at + f .width) (from + at + f .width) (omega arith) (omega arith),
+        number-part o from n there (f .width) at p e (omega arith),
+        number-part o from n there (f .width) (at + f .width) (p + f .width) (omega arith) (omega arith),
       )
 
   pub allowed-part : (f : Family) (asserts stop : Bool) (at : ℕ) → at + entriesBy f asserts stop .size ≤ n
       → entriesBy f asserts stop .allowedAt (take n (drop from o)) at ≡ entriesBy f asserts stop .allowedAt o (from + at)
   allowed-part f true stop at h =
-      rw (front-part f at (omega arith), assert-part f (at + frontSize f) (omega arith), add-assoc from at (frontSize f))
+      rw (front-part f at (from + at) refl (omega arith), assert-part f (at + frontSize f) (from + at + frontSize f) (omega arith) (omega arith))
   allowed-part f false stop at h =
-      rw (front-part f at (omega arith), pair-part f (at + frontSize f) (omega arith), add-assoc from at (frontSize f))
+      rw (front-part f at (from + at) refl (omega arith), pair-part f (at + frontSize f) (from + at + frontSize f) (omega arith) (omega arith))
 
 -- ---- the first bad entry
 
@@ -92,45 +92,45 @@ module _ (E : Entries) (o s : List ℕ) (from n : ℕ) (same : (at : ℕ) → at
 -- ---- what code finds in a part
 
 -- the octets of so many entries from a place on
-abbrev section : Bool → Kind → List ℕ → ℕ → ℕ → List ℕ
-section ipv6 k o from m = take (entriesFor ipv6 k .size * m) (drop from o)
+abbrev section : Bool → Bool → Kind → List ℕ → ℕ → ℕ → List ℕ
+section ipv6 prefixed k o from m = take (entriesWith ipv6 prefixed k .size * m) (drop from o)
 
 -- what `first_bad` promises of them
-abbrev pub Found : Bool → Kind → List ℕ → ℕ → ℕ → Listed → Type 0
-Found ipv6 k o from m x = listedBy x ≡ firstBad (entriesFor ipv6 k) (section ipv6 k o from m) 0
+abbrev pub Found : Bool → Bool → Kind → List ℕ → ℕ → ℕ → Listed → Type 0
+Found ipv6 prefixed k o from m x = listedBy x ≡ firstBad (entriesWith ipv6 prefixed k) (section ipv6 prefixed k o from m) 0
 
-module _ (ipv6 : Bool) (k : Kind) (o : List ℕ) (from m : ℕ) (there : from + entriesFor ipv6 k .size * m ≤ length o) where
-  part-count : count (entriesFor ipv6 k) (section ipv6 k o from m) ≡ m
+module _ (ipv6 prefixed : Bool) (k : Kind) (o : List ℕ) (from m : ℕ) (there : from + entriesWith ipv6 prefixed k .size * m ≤ length o) where
+  part-count : count (entriesWith ipv6 prefixed k) (section ipv6 prefixed k o from m) ≡ m
   unfolding count
   part-count =
-      let full : length (section ipv6 k o from m) ≡ entriesFor ipv6 k .size * m =
-      length-take-le (entriesFor ipv6 k .size * m) (drop from o) (simp length-drop (omega arith)) in
-      rw full (mul-div-cancel-left m (omega (arith, size-range ipv6 k)))
+      let full : length (section ipv6 prefixed k o from m) ≡ entriesWith ipv6 prefixed k .size * m =
+      length-take-le (entriesWith ipv6 prefixed k .size * m) (drop from o) (simp length-drop (omega arith)) in
+      rw full (mul-div-cancel-left m (omega (arith, with-range ipv6 prefixed k)))
 
-  section-is : checkEntries (entriesFor ipv6 k) o from m ≡ placed from (entriesFor ipv6 k .size) (firstBad (entriesFor ipv6 k) (section ipv6 k o from m) 0)
+  section-is : checkEntries (entriesWith ipv6 prefixed k) o from m ≡ placed from (entriesWith ipv6 prefixed k .size) (firstBad (entriesWith ipv6 prefixed k) (section ipv6 prefixed k o from m) 0)
   unfolding firstBad
   section-is =
-      let none : entriesFor ipv6 k .size * 0 ≡ 0 = mul-zero (entriesFor ipv6 k .size) in
-      let all : count (entriesFor ipv6 k) (section ipv6 k o from m) - 0 ≡ m = omega (arith, part-count) in
+      let none : entriesWith ipv6 prefixed k .size * 0 ≡ 0 = mul-zero (entriesWith ipv6 prefixed k .size) in
+      let all : count (entriesWith ipv6 prefixed k) (section ipv6 prefixed k o from m) - 0 ≡ m = omega (arith, part-count) in
       rw all
-      (check-part (entriesFor ipv6 k) o (section ipv6 k o from m) from (entriesFor ipv6 k .size * m) (allowed-part o from (entriesFor ipv6 k .size * m) there (familyOf ipv6) (isAssert k) (isStop k))
-      m 0 from (entriesFor ipv6 k .size * 0) refl (omega arith) (omega arith))
+      (check-part (entriesWith ipv6 prefixed k) o (section ipv6 prefixed k o from m) from (entriesWith ipv6 prefixed k .size * m) (allowed-part o from (entriesWith ipv6 prefixed k .size * m) there (familyWith ipv6 prefixed) (isAssert k) (isStop k))
+      m 0 from (entriesWith ipv6 prefixed k .size * 0) refl (omega arith) (omega arith))
 
-  module _ {x : Listed} (found : Found ipv6 k o from m x) where
-    pub entries-sound : x ≡ Allowed → gives tt ≡ checkEntries (entriesFor ipv6 k) o from m
+  module _ {x : Listed} (found : Found ipv6 prefixed k o from m x) where
+    pub entries-sound : x ≡ Allowed → gives tt ≡ checkEntries (entriesWith ipv6 prefixed k) o from m
     unfolding listedBy
-    entries-sound e = sym (section-is ∙ ap (placed from (entriesFor ipv6 k .size)) (sym (rw e at found)))
+    entries-sound e = sym (section-is ∙ ap (placed from (entriesWith ipv6 prefixed k .size)) (sym (rw e at found)))
 
-    pub entries-bad : {i : ℕ} → x ≡ Bad i → refuses 14 (from + entriesFor ipv6 k .size * i) ≡ checkEntries (entriesFor ipv6 k) o from m
+    pub entries-bad : {i : ℕ} → x ≡ Bad i → refuses 14 (from + entriesWith ipv6 prefixed k .size * i) ≡ checkEntries (entriesWith ipv6 prefixed k) o from m
     unfolding listedBy
-    entries-bad e = sym (section-is ∙ ap (placed from (entriesFor ipv6 k .size)) (sym (rw e at found)))
+    entries-bad e = sym (section-is ∙ ap (placed from (entriesWith ipv6 prefixed k .size)) (sym (rw e at found)))
 
     -- the place of a bad entry is in the section
-    pub bad-there : {i : ℕ} → x ≡ Bad i → from + entriesFor ipv6 k .size * i ≤ length o
+    pub bad-there : {i : ℕ} → x ≡ Bad i → from + entriesWith ipv6 prefixed k .size * i ≤ length o
     unfolding listedBy firstBad
     bad-there {i} e =
-        let below : i < 0 + (count (entriesFor ipv6 k) (section ipv6 k o from m) - 0) =
-        bad-within (entriesFor ipv6 k) (section ipv6 k o from m) _ 0 _ (rw e at found) in
+        let below : i < 0 + (count (entriesWith ipv6 prefixed k) (section ipv6 prefixed k o from m) - 0) =
+        bad-within (entriesWith ipv6 prefixed k) (section ipv6 prefixed k o from m) _ 0 _ (rw e at found) in
         let few : i ≤ m = omega (arith, part-count) in
-        let less : entriesFor ipv6 k .size * i ≤ entriesFor ipv6 k .size * m = mul-le-mul-left (entriesFor ipv6 k .size) few in
+        let less : entriesWith ipv6 prefixed k .size * i ≤ entriesWith ipv6 prefixed k .size * m = mul-le-mul-left (entriesWith ipv6 prefixed k .size) few in
         omega arith

@@ -3,7 +3,8 @@
 --     no-more-rows                                                a sheet has no more rows than a table
 --     counts-are, few                                             the counts as code reads them; their products are small
 --     no-places, are-places, asserts-place, pairs-place, rows-place, end-place   where the sections are
---     agree-is, places-are                                        the offsets, and the places in IPv4, by the numbers that code has
+--     agree-is, places-are                                        the offsets, and the places, by the numbers that code has
+--     named-family, places-code                                   the family of a form, as code names it, and the places by it
 --     header-short, header-front, header-counts, header-offsets, header-fine    what a header comes to
 --     Offsets, InOrder, in-order, agreed                          what a header in order says of the counts, the offsets and the end
 -- Assumes nothing.
@@ -17,16 +18,17 @@ use borrow.Author.Tests.{lt-ltb, le-ltb, leb-true, ltb-false, eqb-true, not-fals
 use lib.ListN.{length}
 use lib.Dec.{lit≤, eqb, leb}
 use Rattle.format.specs.Outcome.{gives, refuses, refuseIf, _>>_}
-use Rattle.format.specs.Family.{Family, ipv4}
+use Rattle.format.specs.Family.{Family}
 use Rattle.format.proofs.Outcomes.{gives-same, unless-gives}
+use Rattle.entries.specs.Kinds.{familyWith}
 use Rattle.neighbours.specs.Rows.{most}
 use Rattle.neighbours.proofs.Tables.{and-true}
-use Rattle.sections.specs.Layout.{Layout, layoutOf, headerSize, pairsFrom, rowsFrom, end}
+use Rattle.sections.specs.Layout.{Layout, layoutOf, ipv6In, prefixedIn, familyIn, assertsIn, pairsIn, rowSize, headerSize, pairsFrom, rowsFrom, end}
 use Rattle.sections.specs.Checking.{fault, begins, numberIn, countsIn, countsAllowed, offsetsAgree, checkHeader}
 use Rattle.sections.specs.Sections.{placesOf}
 use Rattle.sections.specs.declared.Counts.{Counts}
 use Rattle.sections.specs.declared.layout.Form.{Form}
-use Rattle.sections.specs.declared.layout.Form.the-variants.{Base, Large}
+use Rattle.sections.specs.declared.layout.Form.the-variants.{Base, Large, Ipv4 as Sheet4, Ipv6 as Sheet6}
 use Rattle.sections.specs.declared.layout.Places.{Places}
 
 pub counts-within : (L : Layout) (c : Counts) → countsAllowed L c ≡ true
@@ -37,14 +39,18 @@ counts-within L c e =
     let second = and-true (leb (c .pairs) (L .limits .pairs)) _ (first .1) in
     (leb-true _ _ (first .0), leb-true _ _ (second .0), leb-true _ _ (second .1))
 
--- of either form
+-- of any form
 pub few-entries : (k : Form) (c : Counts) → countsAllowed (layoutOf k) c ≡ true → (c .asserts ≤ 8192) × (c .pairs ≤ 8192) × (c .neighbours ≤ most)
 few-entries Base c e = let w = counts-within (layoutOf Base) c e in (omega (arith, w), omega (arith, w), omega (arith, w))
 few-entries Large c e = counts-within (layoutOf Large) c e
+few-entries Sheet4 c e = counts-within (layoutOf Sheet4) c e
+few-entries Sheet6 c e = counts-within (layoutOf Sheet6) c e
 
 pub no-more-rows : (k : Form) → layoutOf k .limits .neighbours ≤ most
 no-more-rows Base = lit≤ tt
 no-more-rows Large = lit≤ tt
+no-more-rows Sheet4 = lit≤ tt
+no-more-rows Sheet6 = lit≤ tt
 
 pub counts-are : (L : Layout) (o : List ℕ) {x y z : ℕ} → x ≡ numberIn L o 0 → y ≡ numberIn L o 2 → z ≡ numberIn L o 4
     → record { asserts = x; pairs = y; neighbours = z } ≡ countsIn L o
@@ -86,15 +92,39 @@ pub agree-is : (L : Layout) (f : Family) (o : List ℕ) (c : Counts) {p : Places
 unfolding offsetsAgree
 agree-is L f o c ok e ex ey ez = rw (ex, ey, ez, asserts-place L f c ok e, pairs-place L f c ok e, rows-place L f c ok e, end-place L f c ok e)
 
--- in IPv4, as code reckons with them
-pub places-are : (L : Layout) (c : Counts) {p : Places} → countsAllowed L c ≡ true → p ≡ placesOf L ipv4 c
-    → (p .asserts ≡ headerSize L) × (p .pairs ≡ p .asserts + 16 * c .asserts) × (p .rows ≡ p .pairs + 8 * c .pairs) × (p .end ≡ p .rows + 12 * c .neighbours)
+-- as code reckons with them
+pub places-are : (L : Layout) (f : Family) (c : Counts) {p : Places} → countsAllowed L c ≡ true → p ≡ placesOf L f c
+    → (p .asserts ≡ headerSize L) × (p .pairs ≡ p .asserts + assertsIn f .size * c .asserts) × (p .rows ≡ p .pairs + pairsIn f .size * c .pairs)
+    × (p .end ≡ p .rows + rowSize f * c .neighbours)
 unfolding pairsFrom rowsFrom end
-places-are L c ok e =
-    let a = asserts-place L ipv4 c ok e in
-    let p = pairs-place L ipv4 c ok e in
-    let r = rows-place L ipv4 c ok e in
-    (a, p ∙ ap (λ n. n + 16 * c .asserts) (sym a), r ∙ ap (λ n. n + 8 * c .pairs) (sym p), end-place L ipv4 c ok e ∙ ap (λ n. n + 12 * c .neighbours) (sym r))
+places-are L f c ok e =
+    let a = asserts-place L f c ok e in
+    let p = pairs-place L f c ok e in
+    let r = rows-place L f c ok e in (
+      a,
+      p ∙ ap (λ n. n + assertsIn f .size * c .asserts) (sym a),
+      r ∙ ap (λ n. n + pairsIn f .size * c .pairs) (sym p),
+      end-place L f c ok e ∙ ap (λ n. n + rowSize f * c .neighbours) (sym r),
+    )
+
+-- ---- the family of a form
+
+-- as code names it
+pub named-family : (k : Form) {six prefixed : Bool} → six ≡ ipv6In k → prefixed ≡ prefixedIn k → familyWith six prefixed ≡ familyIn k
+named-family k e g = rw (e, g)
+
+-- the places by the sizes of that family
+pub places-code : (L : Layout) {f g : Family} (c : Counts) → f ≡ g → countsAllowed L c ≡ true → {h a p r : ℕ}
+    → h ≡ headerSize L → a ≡ assertsIn f .size → p ≡ pairsIn f .size → r ≡ rowSize f
+    → record {
+      asserts = h;
+      pairs = h + a * c .asserts;
+      rows = h + a * c .asserts + p * c .pairs;
+      end = h + a * c .asserts + p * c .pairs + r * c .neighbours;
+    }
+    ≡ placesOf L g c
+unfolding pairsFrom rowsFrom end
+places-code L {f} c same allowed eh ea ep er = rw (eh, ea, ep, er) (sym (are-places L f c allowed)) ∙ ap (λ x. placesOf L x c) same
 
 -- ---- test by test
 

@@ -6,7 +6,8 @@
 --     checkHeader                      the header: its counts
 --     checkEntries                     n entries from a place on
 --     rowForm, rowFits, checkRows      n rows from a place on, of which none has the address of an earlier one
---     checking, checkSheet             a sheet of a layout, and the call: of the layout that the sheet has
+--     checking                         a sheet of a layout
+--     checkForm, checkSheet            a sheet of a form, whose family the caller names, and the call: of the form that the sheet has
 --     checkedBy                        01's number and values for each case of an answer
 -- Assumes nothing: these are definitions.
 use Prim.Native.Nat.{ℕ, zero, suc, _+_}
@@ -16,12 +17,14 @@ use lib.ListN.{length}
 use lib.Dec.{eqb, leb, ltb}
 use Rattle.octets.specs.Octets.{numberAt, value}
 use Rattle.format.specs.Outcome.{Outcome, gives, refuses, refuseIf, _>>=_, _>>_}
-use Rattle.format.specs.Family.{Family}
-use Rattle.format.specs.Entry.{Entries}
+use Rattle.format.specs.Family.{Family, isIpv6}
+use Rattle.format.specs.Entry.{Entries, frontSize, hasFront}
+use Rattle.format.specs.declared.AddressFamily.{AddressFamily}
 use Rattle.neighbours.specs.Rows.{addressOf, allowed, has}
 use Rattle.neighbours.specs.declared.Neighbour.{Neighbour}
-use Rattle.sections.specs.Layout.{Layout, layoutOf, formOf, assertsIn, pairsIn, rowSize, numberPlace, headerSize, pairsFrom, rowsFrom, end}
+use Rattle.sections.specs.Layout.{Layout, layoutOf, formOf, familyIn, isOf, assertsIn, pairsIn, rowSize, numberPlace, headerSize, pairsFrom, rowsFrom, end}
 use Rattle.sections.specs.Contents.{flagsAt, rowAt}
+use Rattle.sections.specs.declared.layout.Form.{Form}
 use Rattle.sections.specs.declared.Counts.{Counts}
 use Rattle.sections.specs.declared.Verdict.{Verdict}
 use Rattle.sections.specs.declared.Verdict.the-variants.{Valid, Refused}
@@ -31,7 +34,7 @@ fault test place = refuseIf test 14 place
 
 -- ---- the header
 
--- E6: "14 also for a number other than 2, before the offsets"
+-- E6: "14 also for a number other than 2, before the offsets", or, since E7, than 3 or 4
 unfoldable pub begins : Layout → List ℕ → Bool
 begins L o = eqb (numberAt (length (L .front)) o 0) (value (L .front))
 
@@ -70,13 +73,14 @@ checkEntries E o at (suc n) = do
   fault (not (E .allowedAt o at)) at
   checkEntries E o (at + E .size) n
 
--- "Other flags are refused", "a zero octet"
+-- "Other flags are refused", "a zero octet"; from the place of the address on
 unfoldable pub rowForm : Family → List ℕ → ℕ → Bool
 rowForm f o at = ltb (flagsAt f o at) 4 && eqb (numberAt 1 o (at + f .width + 5)) 0
 
 -- "no neighbour address 0 or twice": of two rows the later is at fault
 unfoldable pub rowFits : Family → List ℕ → ℕ → List Neighbour → Bool
-rowFits f o at earlier = rowForm f o at && (allowed (rowAt f o at) && not (has (addressOf (rowAt f o at)) earlier))
+rowFits f o at earlier =
+    hasFront f o at && (rowForm f o (at + frontSize f) && (allowed f (rowAt f o at) && not (has (addressOf (rowAt f o at)) earlier)))
 
 unfoldable pub checkRows : Family → List ℕ → List Neighbour → ℕ → ℕ → Outcome (Unit {0})
 checkRows f o earlier at zero = gives tt
@@ -92,8 +96,12 @@ checking L f o = do
   checkRows f o [] (rowsFrom L f c) (c .neighbours)
   gives c
 
-abbrev pub checkSheet : Family → List ℕ → Outcome Counts
-checkSheet f o = checking (layoutOf (formOf o)) f o
+-- E7: "14 for a sheet of another family or number, before the offsets"
+abbrev pub checkForm : Bool → Form → List ℕ → Outcome Counts
+checkForm ipv6 k o = fault (not (isOf ipv6 k)) 0 >> checking (layoutOf k) (familyIn k) o
+
+abbrev pub checkSheet : AddressFamily → List ℕ → Outcome Counts
+checkSheet a o = checkForm (isIpv6 a) (formOf o) o
 
 unfoldable pub checkedBy : Verdict → Outcome Counts
 checkedBy (Valid c) = gives c

@@ -1,5 +1,6 @@
--- What a sheet holds, and its octets (01, "The sheet").
---     rowAt, rowsAt, rowOctets         a neighbour's 12 octets, read and written
+-- What a sheet holds, and its octets (01, "The sheet", and E7).
+--     addressFrom                      an address by its number
+--     neighbourAt, rowAt, rowsAt, rowOctets     a neighbour's row, read and written
 --     Contents                         the two entry lists and the rows of the table
 --     countsOf, contentsAt             how many there are, and the contents that octets hold
 --     sheetOctets                      the one sheet of some contents
@@ -12,7 +13,9 @@ use lib.Dec.{eqb}
 use Rattle.octets.specs.Octets.{numberAt, be, _&_}
 use Rattle.format.specs.Family.{Family}
 use Rattle.format.specs.Record.{each}
-use Rattle.format.specs.Entry.{count}
+use Rattle.format.specs.Entry.{frontSize, count}
+use Rattle.format.specs.declared.Address.{Address}
+use Rattle.addresses.specs.Addresses.{addressAt}
 use Rattle.neighbours.specs.Rows.{addressOf}
 use Rattle.neighbours.specs.declared.Neighbour.{Neighbour}
 use Rattle.sections.specs.Layout.{Layout, assertsIn, pairsIn, rowSize, headerSize, pairsFrom, rowsFrom, headerOctets}
@@ -20,18 +23,27 @@ use Rattle.sections.specs.declared.Counts.{Counts}
 
 -- ---- rows
 
--- "flags (1 has priority, 2 packs)"
+-- an address by its number: two halves of 64 bits
+unfoldable pub addressFrom : ℕ → Address
+addressFrom n = record { high = n / 18446744073709551616; low = n % 18446744073709551616 }
+
+-- "flags (1 has priority, 2 packs)"; from the place of the address on
 unfoldable pub flagsAt : Family → List ℕ → ℕ → ℕ
 flagsAt f o at = numberAt 1 o (at + f .width + 4)
 
-unfoldable pub rowAt : Family → List ℕ → ℕ → Neighbour
-rowAt f o at = record {
-  address = numberAt (f .width) o at;
+-- the neighbour whose address stands at a place
+unfoldable pub neighbourAt : Family → List ℕ → ℕ → Neighbour
+neighbourAt f o at = record {
+  address = addressFrom (addressAt f o at);
   priority = numberAt 4 o (at + f .width);
   «has_priority» = eqb (flagsAt f o at % 2) 1;
   packs = eqb (flagsAt f o at / 2 % 2) 1;
   holdtime = numberAt 2 o (at + f .width + 6);
 }
+
+-- the row at a place: the address stands past the front
+abbrev pub rowAt : Family → List ℕ → ℕ → Neighbour
+rowAt f o at = neighbourAt f o (at + frontSize f)
 
 -- n rows from a place on
 unfoldable pub rowsAt : Family → List ℕ → ℕ → ℕ → List Neighbour
@@ -40,7 +52,7 @@ rowsAt f o at (suc n) = rowAt f o at ∷ rowsAt f o (at + rowSize f) n
 
 unfoldable pub rowOctets : Family → Neighbour → List ℕ
 rowOctets f n =
-    be (f .width) (addressOf n) & be 4 (n .priority)
+    f .front & be (f .width) (addressOf n) & be 4 (n .priority)
     & be 1 (cond (n .«has_priority») 1 0 + cond (n .packs) 2 0) & be 1 0 & be 2 (n .holdtime)
 
 -- ---- contents

@@ -11,17 +11,18 @@ use octets::number32;
 ghost use mathlib.Core.Path.{_≡_};
 ghost use mathlib.Core.Bool.{true};
 ghost use Prim.Native.Nat.{_≤_};
-ghost use Rattle.format.specs.Family.{familyOf};
-ghost use Rattle.sections.specs.Layout.{layoutOf};
+ghost use Rattle.sections.specs.Layout.{layoutOf, familyIn};
 ghost use Rattle.sections.specs.Checking.{begins, numberIn, countsIn, countsAllowed, offsetsAgree, checkHeader, checkedBy};
 
-// Whether the octets before the counts are those of the form: 0xFFFF and 2, or none.
+// Whether the octets before the counts are those of the form: 0xFFFF and its number, or none.
 fn begins(form: Form, o: &[u8]) -> bool
     ensures { λ r. ⌜ r ≡ begins (layoutOf form) (now (o .entry)) ⌝ }
 {
     match form {
         Form::Base => true,
         Form::Large => number32(o, 0) == 0xffff_0002,
+        Form::Ipv4 => number32(o, 0) == 0xffff_0003,
+        Form::Ipv6 => number32(o, 0) == 0xffff_0004,
     }
 }
 
@@ -33,6 +34,8 @@ fn number_in(form: Form, o: &[u8], k: usize) -> usize
     match form {
         Form::Base => number16(o, 2 * k),
         Form::Large => number32(o, 4 + 4 * k) as usize,
+        Form::Ipv4 => number32(o, 4 + 4 * k) as usize,
+        Form::Ipv6 => number32(o, 4 + 4 * k) as usize,
     }
 }
 
@@ -48,11 +51,11 @@ fn counts_in(form: Form, o: &[u8]) -> Counts
 }
 
 // Whether the sections follow one another without gaps, to the end.
-fn offsets_agree(form: Form, ipv6: bool, o: &[u8], c: Counts) -> bool
+fn offsets_agree(form: Form, o: &[u8], c: Counts) -> bool
     requires { ⌜ countsAllowed (layoutOf form) c ≡ true ⌝ }
-    ensures { λ r. ⌜ r ≡ offsetsAgree (layoutOf form) (familyOf ipv6) (now (o .entry)) c ⌝ }
+    ensures { λ r. ⌜ r ≡ offsetsAgree (layoutOf form) (familyIn form) (now (o .entry)) c ⌝ }
 {
-    let due = places_of(form, ipv6, c);
+    let due = places_of(form, c);
     if number_in(form, o, 1) != due.asserts {
         return false;
     }
@@ -66,8 +69,8 @@ fn offsets_agree(form: Form, ipv6: bool, o: &[u8], c: Counts) -> bool
 }
 
 // The header, how it begins, the counts, the offsets and the end.
-pub(crate) fn check_header(form: Form, ipv6: bool, o: &[u8]) -> Verdict
-    ensures { λ r. ⌜ checkedBy r ≡ checkHeader (layoutOf form) (familyOf ipv6) (now (o .entry)) ⌝ }
+pub(crate) fn check_header(form: Form, o: &[u8]) -> Verdict
+    ensures { λ r. ⌜ checkedBy r ≡ checkHeader (layoutOf form) (familyIn form) (now (o .entry)) ⌝ }
 {
     if o.len() < header_size(form) {
         return refused(0);
@@ -79,7 +82,7 @@ pub(crate) fn check_header(form: Form, ipv6: bool, o: &[u8]) -> Verdict
     if !counts_allowed(form, c) {
         return refused(0);
     }
-    if !offsets_agree(form, ipv6, o, c) {
+    if !offsets_agree(form, o, c) {
         return refused(0);
     }
     Verdict::Valid(c)

@@ -1,4 +1,4 @@
-// The two forms of a sheet: which one a sheet has, which counts it allows, and where its sections begin.
+// The forms of a sheet: which one a sheet has, of which family its entries are, which counts it allows, and where its sections begin.
 use crate::Counts;
 use crate::row::row_size;
 use entries::entry_size;
@@ -7,15 +7,18 @@ use neighbours::ROWS;
 use octets::number16;
 ghost use mathlib.Core.Path.{_≡_};
 ghost use Prim.Native.Nat.{_≤_};
-ghost use Rattle.format.specs.Family.{familyOf};
-ghost use Rattle.sections.specs.Layout.{layoutOf, formOf, headerSize};
+ghost use Rattle.sections.specs.Layout.{layoutOf, formOf, ipv6In, prefixedIn, familyIn, isOf, formBy, headerSize};
+ghost use Rattle.sections.specs.declared.layout.Form.the-variants.{Large};
 ghost use Rattle.sections.specs.Checking.{countsAllowed};
 ghost use Rattle.sections.specs.Sections.{placesOf};
 
-// The form of a sheet: that of 01, with numbers of 16 bits, or the one that is written since, with numbers of 32.
+// The form of a sheet: that of 01, with numbers of 16 bits, that of E6, with numbers of 32, and those of the two families. The first two are IPv4's, and
+// their entries have no front.
 pub enum Form {
     Base,
     Large,
+    Ipv4,
+    Ipv6,
 }
 
 // Where the three sections begin, and where the last ends.
@@ -26,14 +29,65 @@ pub struct Places {
     pub end: usize,
 }
 
-// The form that a sheet has, by its first 16 bits.
+// The form that a sheet has, by its first 32 bits. A number that is none of a form's is left to the header's check.
 pub fn form_of(o: &[u8]) -> Form
     ensures { λ r. ⌜ r ≡ formOf (now (o .entry)) ⌝ }
 {
-    if number16(o, 0) == 0xffff {
-        return Form::Large;
+    if number16(o, 0) != 0xffff {
+        return Form::Base;
     }
-    Form::Base
+    let number = number16(o, 2);
+    if number == 3 {
+        return Form::Ipv4;
+    }
+    if number == 4 {
+        return Form::Ipv6;
+    }
+    Form::Large
+}
+
+// The form that is written.
+pub fn form_for(ipv6: bool) -> Form
+    ensures { λ r. ⌜ r ≡ formBy ipv6 ⌝ }
+{
+    if ipv6 {
+        return Form::Ipv6;
+    }
+    Form::Ipv4
+}
+
+// Whether the addresses of a form's sheets are IPv6's.
+pub fn ipv6_in(form: Form) -> bool
+    ensures { λ r. ⌜ r ≡ ipv6In form ⌝ }
+{
+    match form {
+        Form::Base => false,
+        Form::Large => false,
+        Form::Ipv4 => false,
+        Form::Ipv6 => true,
+    }
+}
+
+// Whether their entries and rows begin with the front of the family.
+pub fn prefixed_in(form: Form) -> bool
+    ensures { λ r. ⌜ r ≡ prefixedIn form ⌝ }
+{
+    match form {
+        Form::Base => false,
+        Form::Large => false,
+        Form::Ipv4 => true,
+        Form::Ipv6 => true,
+    }
+}
+
+// Whether a sheet of a form is of a family.
+pub(crate) fn is_of(ipv6: bool, form: Form) -> bool
+    ensures { λ r. ⌜ r ≡ isOf ipv6 form ⌝ }
+{
+    if ipv6 {
+        return ipv6_in(form);
+    }
+    !ipv6_in(form)
 }
 
 // The octets of a header.
@@ -43,6 +97,19 @@ pub(crate) fn header_size(form: Form) -> usize
     match form {
         Form::Base => 12,
         Form::Large => 28,
+        Form::Ipv4 => 28,
+        Form::Ipv6 => 28,
+    }
+}
+
+// The most entries of each section since E6.
+fn newer_limits() -> Counts
+    ensures { λ r. ⌜ r ≡ layoutOf Large .limits ⌝ }
+{
+    Counts {
+        asserts: 8192,
+        pairs: 8192,
+        neighbours: ROWS,
     }
 }
 
@@ -56,11 +123,9 @@ fn limits(form: Form) -> Counts
             pairs: 1024,
             neighbours: 16,
         },
-        Form::Large => Counts {
-            asserts: 8192,
-            pairs: 8192,
-            neighbours: ROWS,
-        },
+        Form::Large => newer_limits(),
+        Form::Ipv4 => newer_limits(),
+        Form::Ipv6 => newer_limits(),
     }
 }
 
@@ -79,8 +144,8 @@ pub fn counts_allowed(form: Form, c: Counts) -> bool
 }
 
 // The places of a sheet with so many entries. Counts over a limit have none.
-pub fn places_of(form: Form, ipv6: bool, c: Counts) -> Places
-    ensures { λ r. ⌜ r ≡ placesOf (layoutOf form) (familyOf ipv6) c ⌝ }
+pub fn places_of(form: Form, c: Counts) -> Places
+    ensures { λ r. ⌜ r ≡ placesOf (layoutOf form) (familyIn form) c ⌝ }
 {
     if !counts_allowed(form, c) {
         return Places {
@@ -90,10 +155,12 @@ pub fn places_of(form: Form, ipv6: bool, c: Counts) -> Places
             end: 0,
         };
     }
+    let ipv6 = ipv6_in(form);
+    let prefixed = prefixed_in(form);
     let asserts = header_size(form);
-    let pairs = asserts + entry_size(ipv6, Kind::Simple) * c.asserts;
-    let rows = pairs + entry_size(ipv6, Kind::RegisterStop) * c.pairs;
-    let end = rows + row_size(ipv6) * c.neighbours;
+    let pairs = asserts + entry_size(ipv6, prefixed, Kind::Simple) * c.asserts;
+    let rows = pairs + entry_size(ipv6, prefixed, Kind::RegisterStop) * c.pairs;
+    let end = rows + row_size(ipv6, prefixed) * c.neighbours;
     Places {
         asserts,
         pairs,

@@ -10,9 +10,9 @@ use native.Mathlib.Nat.{mul-suc}
 use native.Mathlib.Omega.{arith}
 use mathlib.Core.Path.{_≡_, refl, sym, ap, _∙_}
 use mathlib.Core.Bool.{true, not, _&&_}
-use lib.Dec.{eqb}
 use mathlib.Core.List.{List, _++_}
 use borrow.Author.Tests.{not-false}
+use lib.Dec.{eqb}
 use lib.ListN.{length, take, drop, length-drop, take-append-drop}
 use lib.Seq.{take-take, length-take-le, drop-drop}
 use Rattle.octets.specs.Octets.{Octets, numberAt, value, be}
@@ -62,11 +62,11 @@ unfolding hasFront pairAt
 pairs-local f = record {
   same = λ {o} {at} e h j {p} q fits.
       let w : ℕ = f .width in
-      let n : ℕ = frontSize f in
-      let z : numberAt n o p ≡ numberAt n e j = number-inside e h j n q (omega arith) in
-      let a : numberAt w o (p + n) ≡ numberAt w e (j + n) = number-inside e h (j + n) w (omega arith) (omega arith) in
-      let b : numberAt w o (p + n + w) ≡ numberAt w e (j + n + w) = number-inside e h (j + n + w) w (omega arith) (omega arith) in
-      λ i. eqb (z i) (value (f .front)) && allowedPair f true (pair (a i) (b i));
+      let k : ℕ = frontSize f in
+      let x : numberAt k o p ≡ numberAt k e j = number-inside e h j k q (omega arith) in
+      let a : numberAt w o (p + k) ≡ numberAt w e (j + k) = number-inside e h (j + k) w (omega arith) (omega arith) in
+      let b : numberAt w o (p + k + w) ≡ numberAt w e (j + k + w) = number-inside e h (j + k + w) w (omega arith) (omega arith) in
+      λ i. eqb (x i) (value (f .front)) && allowedPair f true (pair (a i) (b i));
 }
 
 pub asserts-local : (f : Family) → Local (assertsIn f)
@@ -74,13 +74,13 @@ unfolding hasFront assertAt
 asserts-local f = record {
   same = λ {o} {at} e h j {p} q fits.
       let w : ℕ = f .width in
-      let n : ℕ = frontSize f in
-      let z : numberAt n o p ≡ numberAt n e j = number-inside e h j n q (omega arith) in
-      let a : numberAt w o (p + n) ≡ numberAt w e (j + n) = number-inside e h (j + n) w (omega arith) (omega arith) in
-      let b : numberAt w o (p + n + w) ≡ numberAt w e (j + n + w) = number-inside e h (j + n + w) w (omega arith) (omega arith) in
-      let c : numberAt 4 o (p + n + 2 * w) ≡ numberAt 4 e (j + n + 2 * w) = number-inside e h (j + n + 2 * w) 4 (omega arith) (omega arith) in
-      let d : numberAt 4 o (p + n + 2 * w + 4) ≡ numberAt 4 e (j + n + 2 * w + 4) = number-inside e h (j + n + 2 * w + 4) 4 (omega arith) (omega arith) in
-      λ i. eqb (z i) (value (f .front)) && allowedAssert f (assert (a i) (b i) (c i) (d i));
+      let k : ℕ = frontSize f in
+      let x : numberAt k o p ≡ numberAt k e j = number-inside e h j k q (omega arith) in
+      let a : numberAt w o (p + k) ≡ numberAt w e (j + k) = number-inside e h (j + k) w (omega arith) (omega arith) in
+      let b : numberAt w o (p + k + w) ≡ numberAt w e (j + k + w) = number-inside e h (j + k + w) w (omega arith) (omega arith) in
+      let c : numberAt 4 o (p + k + 2 * w) ≡ numberAt 4 e (j + k + 2 * w) = number-inside e h (j + k + 2 * w) 4 (omega arith) (omega arith) in
+      let d : numberAt 4 o (p + k + 2 * w + 4) ≡ numberAt 4 e (j + k + 2 * w + 4) = number-inside e h (j + k + 2 * w + 4) 4 (omega arith) (omega arith) in
+      λ i. eqb (x i) (value (f .front)) && allowedAssert f (assert (a i) (b i) (c i) (d i));
 }
 
 module _ (E : Entries) (loc : Local E) {o : List ℕ} {at : ℕ} (e : List ℕ) (h : At o at e) where

@@ -1,23 +1,22 @@
--- The sheet of contents that writing accepts: it passes the check, it reads back, and no two contents have one sheet. What this says of calls
+-- The sheet of contents that writing accepts: it passes the check, it holds them, and no two contents have one sheet. What this says of calls
 -- is in RoundTrip.antt.
 --     Accepted, accepted, asked-is        what writing asked of contents that it accepts, and the octets it writes
 --     length-header                       the length of a header
 --     header-checks                       a header that stands at the start of a sheet of its length passes the check
 --     written-checks                      the sheet passes the check, with the counts of its contents
 --     written-contents                    and holds them
---     written-reads-back, written-short   so reading it gives the two lists and the table, or 8
+--     same-table                          whose rows are those of the table
 --     sheets-differ                       two contents of one sheet are the same
 -- Assumes nothing.
 use Prim.Native.Nat.{ℕ, _+_, _*_, _^_, _≤_, _<_}
 use native.Mathlib.Nat.{zero-add}
 use native.Mathlib.Omega.{arith}
-use native.Mathlib.Decide.{decLe}
 use mathlib.Core.Path.{_≡_, refl, sym, ap, _∙_}
 use mathlib.Core.Bool.{true, false}
 use mathlib.Core.List.{List, [], _∷_, _++_}
-use borrow.Author.Tests.{not-false, ltb-false, lt-ltb, le-ltb, eq-eqb}
+use borrow.Author.Tests.{not-false, ltb-false, le-ltb, eq-eqb}
 use lib.ListN.{length, take, drop, length-append}
-use Rattle.octets.specs.Octets.{numberAt, value, be, put}
+use Rattle.octets.specs.Octets.{numberAt, value, be}
 use Rattle.octets.proofs.Laws.{length-be}
 use Rattle.records.specs.Every.{Every}
 use Rattle.format.specs.Outcome
@@ -40,10 +39,10 @@ use Rattle.sections.specs.Contents.{Contents, rowOctets, countsOf, contentsAt, 
 use Rattle.sections.specs.Checking.{fault, begins, numberIn, countsIn, countsAllowed, offsetsAgree, checkHeader, checkEntries, checkRows, checking}
 use Rattle.sections.specs.declared.Counts.{Counts}
 use Rattle.sections.proofs.Header.{Offsets}
-use Rattle.sheet.specs.Calls.{contentsOf, atZero, asked, roomFor, delivered, reading}
+use Rattle.sheet.specs.Calls.{contentsOf, atZero, asked}
 use Rattle.sheet.specs.Valid.{Roomy, Held}
 use Rattle.sheet.proofs.Places.{number-at, rest-at, asserts-local, pairs-local, check-fine}
-use Rattle.sheet.proofs.Rows.{length-rows, rows-at, check-rows}
+use Rattle.sheet.proofs.Rows.{Stored, all-stored, length-rows, rows-at, check-rows}
 
 -- ---- what writing asked
 
@@ -51,7 +50,7 @@ pub record Accepted (L : Layout) (f : Family) (ea ep : List ℕ) (t : Table) : T
   pub asserts : whole (assertsIn f) ea ≡ true
   pub pairs : whole (pairsIn f) ep ≡ true
   pub counts : countsAllowed L (countsOf f (contentsOf ea ep t)) ≡ true
-  pub table : valid t ≡ true
+  pub table : valid f t ≡ true
   pub assertsFine : firstBad (assertsIn f) ea 0 ≡ gives tt
   pub pairsFine : firstBad (pairsIn f) ep 0 ≡ gives tt
 
@@ -147,7 +146,7 @@ unfolding has Every
 every-nothing [] = tt
 every-nothing (n ∷ l) = (refl, every-nothing l)
 
-module _ (L : Layout) (f : Family) (roomy : Roomy L f) (ea ep : List ℕ) (t : Table) (was : Accepted L f ea ep t) (held : Held f t) where
+module _ (L : Layout) (f : Family) (roomy : Roomy L f) (ea ep : List ℕ) (t : Table) (was : Accepted L f ea ep t) (held : Held t) where
   abbrev these : Contents
   these = contentsOf ea ep t
 
@@ -199,6 +198,9 @@ module _ (L : Layout) (f : Family) (roomy : Roomy L f) (ea ep : List ℕ) (t : T
   unfolding sheetOctets contentsOf pairsFrom rowsFrom end
   long = simp (length-append, header-long, asserts-long, pairs-long, rows-long) (omega arith)
 
+  stored : Every (Stored f) (used t)
+  stored = all-stored f (used t) (valid-parts f t (was .table) .sheet) (held .fits)
+
   -- the counts that the header gives are those of the contents
   pub written-checks : checking L f octets ≡ gives counts
   unfolding checking contentsOf countsOf entriesOf Outcome._>>=_ Outcome._>>_
@@ -210,7 +212,7 @@ module _ (L : Layout) (f : Family) (roomy : Roomy L f) (ea ep : List ℕ) (t : T
       check-fine (pairsIn f) (pairs-local f) ep pairs-at (counts .pairs) 0 (omega arith) (omega (arith, pairs-long))
       (list-allowed (pairsIn f) ep (was .pairsFine)) in
       let rows : checkRows f octets [] (rowsFrom L f counts) (counts .neighbours) ≡ gives tt =
-      check-rows f (used t) [] (rowsFrom L f counts) rows-stand (held .fits) (valid-parts t (was .table) .sheet) (every-nothing (used t)) in
+      check-rows f (used t) [] (rowsFrom L f counts) rows-stand stored (valid-parts f t (was .table) .sheet) (every-nothing (used t)) in
       rw (header-checks L f roomy counts (was .counts) header-at long, asserts, pairs, rows)
 
   pub written-contents : contentsAt L f octets counts ≡ contentsOf ea ep t
@@ -218,41 +220,16 @@ module _ (L : Layout) (f : Family) (roomy : Roomy L f) (ea ep : List ℕ) (t : T
   written-contents =
       let a : take (assertsIn f .size * counts .asserts) (drop (headerSize L) octets) ≡ ea = rw (← asserts-long) (asserts-at .stands) in
       let p : take (pairsIn f .size * counts .pairs) (drop (pairsFrom L f counts) octets) ≡ ep = rw (← pairs-long) (pairs-at .stands) in
-      let r = rows-at f (used t) (rowsFrom L f counts) rows-stand (held .fits) in
+      let r = rows-at f (used t) (rowsFrom L f counts) rows-stand stored in
       λ i. record { asserts = a i; pairs = p i; rows = r i }
 
   pub same-table : tableOf (used t) ≡ t
-  same-table = sym (valid-table t (held .full) (valid-parts t (was .table)))
-
-  written-delivered : (da dp : List ℕ)
-      → delivered L f octets da dp (gives counts) ≡ record { answer = gives counts; asserts = put da 0 ea; pairs = put dp 0 ep; table = t }
-  unfolding delivered contentsOf
-  written-delivered da dp = rw (written-contents, same-table)
-
-  -- into buffers with room
-  pub written-reads-back : (da dp : List ℕ) → length ea ≤ length da → length ep ≤ length dp
-      → reading L f octets da dp ≡ record { answer = gives counts; asserts = put da 0 ea; pairs = put dp 0 ep; table = t }
-  unfolding reading roomFor contentsOf refuseIf Outcome._>>=_ Outcome._>>_
-  written-reads-back da dp ra rp =
-      rw (written-checks, written-contents, le-ltb (length da) (length ea) ra, le-ltb (length dp) (length ep) rp) (written-delivered da dp)
-
-  -- and into others
-  pub written-short : (da dp : List ℕ) → ((length ea ≤ length da) × (length ep ≤ length dp) → ⊥)
-      → reading L f octets da dp ≡ record { answer = refuses 8 0; asserts = da; pairs = dp; table = tableOf [] }
-  unfolding reading roomFor delivered contentsOf refuseIf Outcome._>>=_ Outcome._>>_
-  written-short da dp less = go (decLe (length ea) (length da))
-    where
-      go : Dec (length ea ≤ length da) → reading L f octets da dp ≡ record { answer = refuses 8 0; asserts = da; pairs = dp; table = tableOf [] }
-      go (yes enough) =
-          let more : length ep ≤ length dp → ⊥ = λ k. less (enough, k) in
-          let short : length dp < length ep = omega arith in
-          rw (written-checks, written-contents, le-ltb (length da) (length ea) enough, lt-ltb (length dp) (length ep) short)
-      go (no short) = rw (written-checks, written-contents, lt-ltb (length da) (length ea) (omega arith))
+  same-table = sym (valid-table t (held .full) (valid-parts f t (was .table)))
 
 -- ---- two contents
 
-module _ (L : Layout) (f : Family) (roomy : Roomy L f) (ea ep : List ℕ) (t : Table) (was : Accepted L f ea ep t) (held : Held f t)
-    (ea′ ep′ : List ℕ) (t′ : Table) (was′ : Accepted L f ea′ ep′ t′) (held′ : Held f t′) where
+module _ (L : Layout) (f : Family) (roomy : Roomy L f) (ea ep : List ℕ) (t : Table) (was : Accepted L f ea ep t) (held : Held t)
+    (ea′ ep′ : List ℕ) (t′ : Table) (was′ : Accepted L f ea′ ep′ t′) (held′ : Held t′) where
   pub sheets-differ : sheetOctets L f (contentsOf ea ep t) ≡ sheetOctets L f (contentsOf ea′ ep′ t′) → (ea ≡ ea′) × (ep ≡ ep′) × (t ≡ t′)
   unfolding contentsOf
   sheets-differ e =

@@ -1,32 +1,52 @@
--- Reading and writing a sheet (01, "The sheet", and E6).
---     ReadingCall, delivered, reading      "Reading one gives its two entry lists, copied, and the table; 8 last": of a layout
+-- Reading and writing a sheet (01, "The sheet", E6 and E7).
+--     fronted, lacking                     entries each after a front, and what the entries of a form lack of their family's
+--     heldBy                               what a sheet of a form holds, its entries in the form of its family
+--     ReadingCall, delivered, readChecked, readForm     "Reading one gives its two entry lists, copied, and the table; 8 last": of a form
 --     roomFor                              whether lent room is enough for both lists
---     readSheet                            the call: of the layout that the sheet has
+--     readSheet                            the call: of the form that the sheet has
 --     foundBy                              01's number and values for each case of a reading's answer
 --     atZero, contentsOf, counted, asked   what writing refuses: "by 10, 14 .. , 8, 7, at place 0"
---     writing, writeSheet                  a sheet of a layout, and the call: of E6's alone
+--     writing, writeSheet                  a sheet of a layout, and the call: of the form of the family
 -- Checking is in `sections`. Assumes nothing: these are definitions.
-use Prim.Native.Nat.{ℕ}
-use mathlib.Core.Bool.{not, _&&_, _||_}
+use Prim.Native.Nat.{ℕ, zero, suc, _+_}
+use mathlib.Core.Bool.{Bool, not, cond, _&&_, _||_}
 use mathlib.Core.List.{List, []}
-use lib.ListN.{length}
+use lib.ListN.{length, take, drop}
 use lib.Dec.{ltb}
-use Rattle.octets.specs.Octets.{put}
+use Rattle.octets.specs.Octets.{put, _&_}
 use Rattle.format.specs.Outcome.{Outcome, gives, refuses, refuseIf, _>>=_, _>>_}
-use Rattle.format.specs.Family.{Family}
+use Rattle.format.specs.Family.{Family, familyOf, isIpv6, familyNamed}
 use Rattle.format.specs.Entry.{count, whole}
 use Rattle.format.specs.Packing.{firstBad}
 use Rattle.format.specs.Writing.{WritingCall, intoBuffer}
+use Rattle.format.specs.declared.AddressFamily.{AddressFamily}
 use Rattle.neighbours.specs.Rows.{used, valid, tableOf}
 use Rattle.neighbours.specs.declared.Table.{Table}
-use Rattle.sections.specs.Layout.{Layout, large, layoutOf, formOf, assertsIn, pairsIn}
-use Rattle.sections.specs.Contents.{Contents, countsOf, contentsAt, sheetOctets}
-use Rattle.sections.specs.Checking.{countsAllowed, checking}
+use Rattle.sections.specs.Layout.{Layout, layoutOf, formOf, ipv6In, prefixedIn, familyIn, formFor, assertsIn, pairsIn, headerSize, pairsFrom, rowsFrom}
+use Rattle.sections.specs.Contents.{Contents, rowsAt, countsOf, sheetOctets}
+use Rattle.sections.specs.Checking.{countsAllowed, checkForm}
 use Rattle.sections.specs.declared.Counts.{Counts}
+use Rattle.sections.specs.declared.layout.Form.{Form}
 use Rattle.sheet.specs.declared.Found.{Found}
 use Rattle.sheet.specs.declared.Found.the-variants.{Entries as Copied, Refused as NotFound}
 
 -- ---- reading
+
+-- n entries from a place on, each of a size and after some octets
+unfoldable pub fronted : List ℕ → ℕ → List ℕ → ℕ → ℕ → List ℕ
+fronted x size o at zero = []
+fronted x size o at (suc n) = (x & take size (drop at o)) & fronted x size o (at + size) n
+
+-- E7: "Every assert, pair and neighbour entry begins from now on with its family and three zero octets"; entries of older sheets do not
+abbrev pub lacking : Form → List ℕ
+lacking k = cond (prefixedIn k) [] (familyOf (ipv6In k) .front)
+
+unfoldable pub heldBy : Form → List ℕ → Counts → Contents
+heldBy k o c = record {
+  asserts = fronted (lacking k) (assertsIn (familyIn k) .size) o (headerSize (layoutOf k)) (c .asserts);
+  pairs = fronted (lacking k) (pairsIn (familyIn k) .size) o (pairsFrom (layoutOf k) (familyIn k) c) (c .pairs);
+  rows = rowsAt (familyIn k) o (rowsFrom (layoutOf k) (familyIn k) c) (c .neighbours);
+}
 
 pub record ReadingCall : Type 0 where
   pub answer : Outcome Counts
@@ -37,23 +57,27 @@ pub record ReadingCall : Type 0 where
   pub table : Table
 
 unfoldable pub roomFor : Contents → List ℕ → List ℕ → Outcome (Unit {0})
-roomFor c da dp = refuseIf (ltb (length da) (length (c .asserts)) || ltb (length dp) (length (c .pairs))) 8 0
+roomFor s da dp = refuseIf (ltb (length da) (length (s .asserts)) || ltb (length dp) (length (s .pairs))) 8 0
 
-unfoldable pub delivered : Layout → Family → List ℕ → List ℕ → List ℕ → Outcome Counts → ReadingCall
-delivered L f o da dp (gives c) =
-    let s = contentsAt L f o c in
+unfoldable pub delivered : Form → List ℕ → List ℕ → List ℕ → Outcome Counts → ReadingCall
+delivered k o da dp (gives c) =
+    let s = heldBy k o c in
     record { answer = gives c; asserts = put da 0 (s .asserts); pairs = put dp 0 (s .pairs); table = tableOf (s .rows) }
-delivered L f o da dp (refuses n p) = record { answer = refuses n p; asserts = da; pairs = dp; table = tableOf [] }
+delivered k o da dp (refuses n p) = record { answer = refuses n p; asserts = da; pairs = dp; table = tableOf [] }
 
-unfoldable pub reading : Layout → Family → List ℕ → List ℕ → List ℕ → ReadingCall
-reading L f o da dp = delivered L f o da dp do
-  c ← checking L f o
-  roomFor (contentsAt L f o c) da dp
+-- of a sheet that was checked
+unfoldable pub readChecked : Form → List ℕ → List ℕ → List ℕ → Outcome Counts → ReadingCall
+readChecked k o da dp checked = delivered k o da dp do
+  c ← checked
+  roomFor (heldBy k o c) da dp
   gives c
 
--- E6: "An old sheet .. is still read with its old limits"
-abbrev pub readSheet : Family → List ℕ → List ℕ → List ℕ → ReadingCall
-readSheet f o da dp = reading (layoutOf (formOf o)) f o da dp
+unfoldable pub readForm : Bool → Form → List ℕ → List ℕ → List ℕ → ReadingCall
+readForm ipv6 k o da dp = readChecked k o da dp (checkForm ipv6 k o)
+
+-- E6: "An old sheet .. is still read with its old limits"; E7: "older sheets are still read"
+abbrev pub readSheet : AddressFamily → List ℕ → List ℕ → List ℕ → ReadingCall
+readSheet a o da dp = readForm (isIpv6 a) (formOf o) o da dp
 
 unfoldable pub foundBy : Found → Outcome Counts
 foundBy (Copied c) = gives c
@@ -76,7 +100,7 @@ counted f ea ep n = record { asserts = count (assertsIn f) ea; pairs = count (pa
 unfoldable pub asked : Layout → Family → List ℕ → List ℕ → Table → ℕ → Outcome (List ℕ)
 asked L f ea ep t room = do
   refuseIf (not (whole (assertsIn f) ea && whole (pairsIn f) ep)) 10 0
-  refuseIf (not (countsAllowed L (countsOf f (contentsOf ea ep t)) && valid t)) 14 0
+  refuseIf (not (countsAllowed L (countsOf f (contentsOf ea ep t)) && valid f t)) 14 0
   refuseIf (ltb room (length (sheetOctets L f (contentsOf ea ep t)))) 8 0
   atZero (firstBad (assertsIn f) ea 0)
   atZero (firstBad (pairsIn f) ep 0)
@@ -85,6 +109,6 @@ asked L f ea ep t room = do
 unfoldable pub writing : Layout → Family → List ℕ → List ℕ → Table → List ℕ → WritingCall
 writing L f ea ep t d = intoBuffer d (asked L f ea ep t (length d))
 
--- E6: "it is never written again"
-abbrev pub writeSheet : Family → List ℕ → List ℕ → Table → List ℕ → WritingCall
-writeSheet f ea ep t d = writing large f ea ep t d
+-- E6: "it is never written again"; E7: "A new sheet holds one family and has 3 (IPv4) or 4 (IPv6) where E6 has 2"
+abbrev pub writeSheet : AddressFamily → List ℕ → List ℕ → Table → List ℕ → WritingCall
+writeSheet a ea ep t d = writing (layoutOf (formFor a)) (familyNamed a) ea ep t d

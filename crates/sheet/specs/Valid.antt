@@ -8,7 +8,7 @@ use Prim.Native.Nat.{_^_, _<_}
 use lib.ListN.{length}
 use Rattle.records.specs.Every.{Every}
 use Rattle.format.specs.Family.{Family}
-use Rattle.neighbours.specs.Rows.{addressOf, most, used}
+use Rattle.neighbours.specs.Rows.{most, used}
 use Rattle.neighbours.specs.declared.Neighbour.{Neighbour}
 use Rattle.neighbours.specs.declared.Table.{Table}
 use Rattle.sections.specs.Layout.{Layout, rowsFrom}
@@ -22,12 +22,13 @@ pub record Roomy (L : Layout) (f : Family) : Type 0 where
   pub neighbours : (c : Counts) → countsAllowed L c ≡ true → c .neighbours < 256 ^ L .width
   pub offsets : (c : Counts) → countsAllowed L c ≡ true → rowsFrom L f c < 256 ^ L .width
 
-pub record RowFits (f : Family) (n : Neighbour) : Type 0 where
-  pub address : addressOf n < 256 ^ f .width
+-- the low half of its address has 64 bits; that the address is one of the family is for the table's own test
+pub record RowFits (n : Neighbour) : Type 0 where
+  pub low : n .address .low < 18446744073709551616
   pub priority : n .priority < 256 ^ 4
   pub holdtime : n .holdtime < 256 ^ 2
 
 -- the array has all its rows, and the numbers of a row are of their width
-pub record Held (f : Family) (t : Table) : Type 0 where
+pub record Held (t : Table) : Type 0 where
   pub full : length (t .rows) ≡ most
-  pub fits : Every (RowFits f) (used t)
+  pub fits : Every RowFits (used t)

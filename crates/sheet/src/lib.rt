@@ -1,7 +1,7 @@
-// The stored sheet: reading one, of either form, into two lent entry buffers and a table, and writing one in the newest form. Checking is in
+// The stored sheet: reading one, of any form, into two lent entry buffers and a table, and writing one in the newest form of its family. Checking is in
 // `sections`.
 //
-// copy.rt        octets of one slice copied into another
+// copy.rt        octets of one slice copied into another, and entries with their front
 // put.rt         a header and rows, written into a lent buffer
 // read.rt        reading a sheet
 // write.rt       writing a sheet

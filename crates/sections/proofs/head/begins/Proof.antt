@@ -15,5 +15,26 @@ returns-2 : tie.Need-returns-2
 unfolding begins value
 returns-2 c = rw (c .before .enum-told2 .given .1, c .number32 .ensures) refl
 
+returns-3 : tie.Need-returns-3
+unfolding begins value
+returns-3 c = rw (c .before .enum-told3 .given .1, c .number322 .ensures) refl
+
+returns-4 : tie.Need-returns-4
+unfolding begins value
+returns-4 c = rw (c .before .enum-told4 .given .1, c .number323 .ensures) refl
+
 pub begins-spec : {M : Type 1} → statement M
-begins-spec = tie.close (tie.spec (λ c. search needs) (λ c. search needs) (λ c κs. search needs) returns returns-2)
+begins-spec =
+    tie.close
+    (tie.spec
+    (λ c. search needs)
+    (λ c. search needs)
+    (λ c κs. search needs)
+    (λ c. search needs)
+    (λ c κs. search needs)
+    (λ c. search needs)
+    (λ c κs. search needs)
+    returns
+    returns-2
+    returns-3
+    returns-4)

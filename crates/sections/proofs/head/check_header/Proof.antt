@@ -7,8 +7,7 @@ use lib.ListN.{length}
 use denote.Ref.{now}
 use borrow.Author.Tests.{not-false}
 use borrow.Author.Needs.{needs}
-use Rattle.format.specs.Family.{familyOf}
-use Rattle.sections.specs.Layout.{layoutOf, headerSize}
+use Rattle.sections.specs.Layout.{layoutOf, familyIn, headerSize}
 use Rattle.sections.specs.Checking.{checkedBy}
 use Rattle.sections.proofs.Header.{header-short, header-front, header-counts, header-offsets, header-fine}
 use Rattle.sections.proofs.head.check_header.Statement.{statement}
@@ -21,19 +20,19 @@ long c = omega (arith, c .before .header-size .ensures, c .if1 .left)
 returns : tie.Need-returns
 returns c =
     let a = c .before .before .before .before .args in
-    c .refused .ensures ∙ sym (header-short (layoutOf (a .form)) (familyOf (a .ipv6)) (now (a .o)) (omega (arith, c .before .before .header-size .ensures, c .before .if1 .taken)))
+    c .refused .ensures ∙ sym (header-short (layoutOf (a .form)) (familyIn (a .form)) (now (a .o)) (omega (arith, c .before .before .header-size .ensures, c .before .if1 .taken)))
 
 returns-2 : tie.Need-returns-2
 returns-2 c =
     let a = c .before .before .before .before .before .before .args in
     c .refused2 .ensures
-    ∙ sym (header-front (layoutOf (a .form)) (familyOf (a .ipv6)) (now (a .o)) (long (c .before .before .before)) (c .before .before .begins .ensures) (c .before .if2 .taken))
+    ∙ sym (header-front (layoutOf (a .form)) (familyIn (a .form)) (now (a .o)) (long (c .before .before .before)) (c .before .before .begins .ensures) (c .before .if2 .taken))
 
 returns-3 : tie.Need-returns-3
 returns-3 c =
     let a = c .before .before .before .before .before .before .before .before .before .args in
     c .refused3 .ensures
-    ∙ sym (header-counts (layoutOf (a .form)) (familyOf (a .ipv6)) (now (a .o)) (long (c .before .before .before .before .before .before)) (c .before .before .before .before .before .begins .ensures) (c .before .before .before .before .if2 .left)
+    ∙ sym (header-counts (layoutOf (a .form)) (familyIn (a .form)) (now (a .o)) (long (c .before .before .before .before .before .before)) (c .before .before .before .before .before .begins .ensures) (c .before .before .before .before .if2 .left)
     (c .before .before .before .counts-in .ensures) (c .before .before .counts-allowed .ensures) (c .before .if3 .taken))
 
 offsets-agree-requires : tie.Need-offsets-agree-requires
@@ -43,14 +42,14 @@ returns-4 : tie.Need-returns-4
 returns-4 c =
     let a = c .before .before .before .before .before .before .before .before .before .before .before .args in
     c .refused4 .ensures
-    ∙ sym (header-offsets (layoutOf (a .form)) (familyOf (a .ipv6)) (now (a .o)) (long (c .before .before .before .before .before .before .before .before)) (c .before .before .before .before .before .before .before .begins .ensures) (c .before .before .before .before .before .before .if2 .left)
+    ∙ sym (header-offsets (layoutOf (a .form)) (familyIn (a .form)) (now (a .o)) (long (c .before .before .before .before .before .before .before .before)) (c .before .before .before .before .before .before .before .begins .ensures) (c .before .before .before .before .before .before .if2 .left)
     (c .before .before .before .before .before .counts-in .ensures) (c .before .before .before .before .counts-allowed .ensures) (c .before .before .before .if3 .left) (c .before .before .offsets-agree .ensures) (c .before .if4 .taken))
 
 returns-5 : tie.Need-returns-5
 unfolding checkedBy
 returns-5 c =
     let a = c .before .before .before .before .before .before .before .before .before .before .args in
-    sym (header-fine (layoutOf (a .form)) (familyOf (a .ipv6)) (now (a .o)) (long (c .before .before .before .before .before .before .before)) (c .before .before .before .before .before .before .begins .ensures) (c .before .before .before .before .before .if2 .left)
+    sym (header-fine (layoutOf (a .form)) (familyIn (a .form)) (now (a .o)) (long (c .before .before .before .before .before .before .before)) (c .before .before .before .before .before .before .begins .ensures) (c .before .before .before .before .before .if2 .left)
     (c .before .before .before .before .counts-in .ensures) (c .before .before .before .counts-allowed .ensures) (c .before .before .if3 .left) (c .before .offsets-agree .ensures) (c .if4 .left))
 
 pub check-header-spec : {M : Type 1} → statement M

@@ -17,6 +17,14 @@ returns-2 : tie.Need-returns-2
 unfolding numberIn
 returns-2 c = rw (c .before .enum-told2 .given .1) (c .number32 .ensures ∙ ap (numberAt 4 (now (c .before .before .before .before .args .o))) (omega arith))
 
+returns-3 : tie.Need-returns-3
+unfolding numberIn
+returns-3 c = rw (c .before .enum-told3 .given .1) (c .number322 .ensures ∙ ap (numberAt 4 (now (c .before .before .before .before .args .o))) (omega arith))
+
+returns-4 : tie.Need-returns-4
+unfolding numberIn
+returns-4 c = rw (c .before .enum-told4 .given .1) (c .number323 .ensures ∙ ap (numberAt 4 (now (c .before .before .before .before .args .o))) (omega arith))
+
 pub number-in-spec : {M : Type 1} → statement M
 number-in-spec =
     tie.close
@@ -29,5 +37,17 @@ number-in-spec =
     (λ c. search needs)
     (λ c κs. search needs)
     (λ c. search needs)
+    (λ c. search needs)
+    (λ c. search needs)
+    (λ c. search needs)
+    (λ c κs. search needs)
+    (λ c. search needs)
+    (λ c. search needs)
+    (λ c. search needs)
+    (λ c. search needs)
+    (λ c κs. search needs)
+    (λ c. search needs)
     returns
-    returns-2)
+    returns-2
+    returns-3
+    returns-4)

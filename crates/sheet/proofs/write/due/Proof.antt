@@ -14,16 +14,19 @@ use Rattle.format.specs.Writing.{lengthBy}
 use Rattle.neighbours.specs.Rows.{most, valid}
 use Rattle.neighbours.specs.declared.Table.{Table}
 use Rattle.neighbours.proofs.Rows.{all-rows}
-use Rattle.sections.specs.Layout.{large, assertsIn, pairsIn}
+use Rattle.sections.specs.Layout.{Layout, layoutOf, formBy, assertsIn, pairsIn}
 use Rattle.sections.specs.Contents.{countsOf, sheetOctets}
 use Rattle.sections.specs.Checking.{countsAllowed}
 use Rattle.sheet.specs.Calls.{contentsOf}
-use Rattle.sheet.proofs.Asks.{storable-is, due-long, seven-not, seven-fine, due-10, due-14, due-8, due-7, due-7-pairs, due-fine}
+use Rattle.sheet.proofs.Asks.{storable-is, due-long, seven-not, seven-fine, due-10, due-14, due-8, due-7, due-7-pairs, due-fine, written-places}
 use Rattle.sheet.proofs.write.due.Statement.{statement}
 use Rattle.sheet.proofs.write.due.Tie as tie
 
 abbrev start : tie.After-counts-of → tie.Start
 start c = c .before .before .before .before .before
+
+abbrev layout : tie.After-counts-of → Layout
+layout c = layoutOf (formBy (start c .args .ipv6))
 
 abbrev family : tie.After-counts-of → Family
 family c = familyOf (start c .args .ipv6)
@@ -48,69 +51,56 @@ both c = sym (c .before .before .are-whole .ensures) ∙ not-false _ (c .before 
 
 -- what the second test asked
 kept : (c : tie.After-are-storable)
-    → c .are-storable .result ≡ (countsAllowed large (countsOf (family (c .before)) (contentsOf (asserts (c .before)) (pairs (c .before)) (table (c .before)))) && valid (table (c .before)))
-kept c = storable-is _ (asserts (c .before)) (pairs (c .before)) (table (c .before)) (full (start (c .before))) (c .before .counts-of .ensures) (c .are-storable .ensures)
+    → c .are-storable .result ≡ (countsAllowed (layout (c .before)) (countsOf (family (c .before)) (contentsOf (asserts (c .before)) (pairs (c .before)) (table (c .before)))) && valid (family (c .before)) (table (c .before)))
+kept c = storable-is (layout (c .before)) (family (c .before)) (asserts (c .before)) (pairs (c .before)) (table (c .before)) (full (start (c .before))) (c .before .counts-of .ensures) (c .are-storable .ensures)
 
 fine : (c : tie.Else2)
-    → (countsAllowed large (countsOf (family (c .before .before)) (contentsOf (asserts (c .before .before)) (pairs (c .before .before)) (table (c .before .before)))) && valid (table (c .before .before))) ≡ true
+    → (countsAllowed (layout (c .before .before)) (countsOf (family (c .before .before)) (contentsOf (asserts (c .before .before)) (pairs (c .before .before)) (table (c .before .before)))) && valid (family (c .before .before)) (table (c .before .before))) ≡ true
 fine c = sym (kept (c .before)) ∙ not-false _ (c .if2 .left)
 
 -- the length as code has it
 long : (c : tie.After-places-of)
-    → length (sheetOctets large (family (c .before .before .before)) (contentsOf (asserts (c .before .before .before)) (pairs (c .before .before .before)) (table (c .before .before .before)))) ≡ c .places-of .result .end
+    → length (sheetOctets (layout (c .before .before .before .before)) (family (c .before .before .before .before)) (contentsOf (asserts (c .before .before .before .before)) (pairs (c .before .before .before .before)) (table (c .before .before .before .before)))) ≡ c .places-of .result .end
 long c =
-    let k = c .before .before .before in
-    due-long (family k) (asserts k) (pairs k) (table k) (full (start k)) (k .counts-of .ensures) (both k)
-    (sym (c .before .before .are-storable .ensures) ∙ not-false _ (c .before .if2 .left)) (c .places-of .ensures)
+    let k = c .before .before .before .before in
+    due-long (layout k) (family k) (asserts k) (pairs k) (table k) (full (start k)) (k .counts-of .ensures) (both k)
+    (sym (c .before .before .before .are-storable .ensures) ∙ not-false _ (c .before .before .if2 .left)) (written-places (start k .args .ipv6) (k .counts-of .result) (c .before .form-for .ensures) (c .places-of .ensures))
 
 returns : tie.Need-returns
 returns c =
-    let a = c .before .before .before .before .before .args in
     c .refused .ensures
-    ∙ sym (due-10 (familyOf (a .ipv6)) (now (a .asserts)) (now (a .pairs)) (a .table) (a .room) (sym (c .before .before .are-whole .ensures) ∙ not-true _ (c .before .if1 .taken)))
+    ∙ sym (due-10 (layoutOf (formBy (c .before .before .before .before .before .args .ipv6))) (familyOf (c .before .before .before .before .before .args .ipv6)) (now (c .before .before .before .before .before .args .asserts)) (now (c .before .before .before .before .before .args .pairs)) (c .before .before .before .before .before .args .table) (c .before .before .before .before .before .args .room) (sym (c .before .before .are-whole .ensures) ∙ not-true _ (c .before .if1 .taken)))
 
 returns-2 : tie.Need-returns-2
 returns-2 c =
     let k = c .before .before .before in
     c .refused2 .ensures
-    ∙ sym (due-14 (family k) (asserts k) (pairs k) (table k) (room k) (both k) (sym (kept (c .before .before)) ∙ not-true _ (c .before .if2 .taken)))
+    ∙ sym (due-14 (layout k) (family k) (asserts k) (pairs k) (table k) (room k) (both k) (sym (kept (c .before .before)) ∙ not-true _ (c .before .if2 .taken)))
 
 returns-3 : tie.Need-returns-3
 returns-3 c =
-    let p = c .before .before in
-    let k = p .before .before .before in
-    c .refused3 .ensures ∙ sym (due-8 (family k) (asserts k) (pairs k) (table k) (room k) (both k) (fine (p .before)) (long p) (c .before .if3 .taken))
+    let k = c .before .before .before .before .before .before in
+    c .refused3 .ensures ∙ sym (due-8 (layout k) (family k) (asserts k) (pairs k) (table k) (room k) (both k) (fine (c .before .before .before .before)) (long (c .before .before)) (c .before .if3 .taken))
 
 returns-4 : tie.Need-returns-4
 returns-4 c =
-    let e = c .before .before .before in
-    let p = e .before in
-    let k = p .before .before .before in
-    let y = c .before .before .all-allowed in
+    let k = c .before .before .before .before .before .before .before .before in
     c .refused4 .ensures
-    ∙ sym (due-7 (family k) (asserts k) (pairs k) (table k) (room k) (both k) (fine (p .before)) (long p) (e .if3 .left) (seven-not (y .result) (y .ensures) (c .before .if4 .taken)))
+    ∙ sym (due-7 (layout k) (family k) (asserts k) (pairs k) (table k) (room k) (both k) (fine (c .before .before .before .before .before .before)) (long (c .before .before .before .before)) (c .before .before .before .if3 .left) (seven-not (c .before .before .all-allowed .result) (c .before .before .all-allowed .ensures) (c .before .if4 .taken)))
 
 returns-5 : tie.Need-returns-5
 returns-5 c =
-    let a = c .before .before .before .before in
-    let e = a .before in
-    let p = e .before in
-    let k = p .before .before .before in
-    let z = c .before .before .all-allowed2 in
+    let k = c .before .before .before .before .before .before .before .before .before .before in
     c .refused5 .ensures
-    ∙ sym (due-7-pairs (family k) (asserts k) (pairs k) (table k) (room k) (both k) (fine (p .before)) (long p) (e .if3 .left)
-    (seven-fine (a .all-allowed .result) (a .all-allowed .ensures) (c .before .before .before .if4 .left)) (seven-not (z .result) (z .ensures) (c .before .if5 .taken)))
+    ∙ sym (due-7-pairs (layout k) (family k) (asserts k) (pairs k) (table k) (room k) (both k) (fine (c .before .before .before .before .before .before .before .before)) (long (c .before .before .before .before .before .before)) (c .before .before .before .before .before .if3 .left)
+    (seven-fine (c .before .before .before .before .all-allowed .result) (c .before .before .before .before .all-allowed .ensures) (c .before .before .before .if4 .left)) (seven-not (c .before .before .all-allowed2 .result) (c .before .before .all-allowed2 .ensures) (c .before .if5 .taken)))
 
 returns-6 : tie.Need-returns-6
 unfolding lengthBy
 returns-6 c =
-    let a = c .before .before .before in
-    let e = a .before in
-    let p = e .before in
-    let k = p .before .before .before in
-    let z = c .before .all-allowed2 in
-    sym (due-fine (family k) (asserts k) (pairs k) (table k) (room k) (both k) (fine (p .before)) (long p) (e .if3 .left)
-    (seven-fine (a .all-allowed .result) (a .all-allowed .ensures) (c .before .before .if4 .left)) (seven-fine (z .result) (z .ensures) (c .if5 .left)))
+    let k = c .before .before .before .before .before .before .before .before .before in
+    sym (due-fine (layout k) (family k) (asserts k) (pairs k) (table k) (room k) (both k) (fine (c .before .before .before .before .before .before .before)) (long (c .before .before .before .before .before)) (c .before .before .before .before .if3 .left)
+    (seven-fine (c .before .before .before .all-allowed .result) (c .before .before .before .all-allowed .ensures) (c .before .before .if4 .left)) (seven-fine (c .before .all-allowed2 .result) (c .before .all-allowed2 .ensures) (c .if5 .left)))
 
 pub due-spec : {M : Type 1} → statement M
 due-spec =
@@ -123,6 +113,7 @@ due-spec =
     (λ c κs. search needs)
     (λ c κs. search needs)
     returns-2
+    (λ c κs. search needs)
     (λ c κs. search needs)
     (λ c κs. search needs)
     returns-3
