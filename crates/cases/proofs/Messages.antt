@@ -8,8 +8,8 @@ use Rattle.cases.specs.Messages.{IsRead, IsWritten, IsGood, IsAccepted, 
 pub good-right : Every IsGood goodMessages
 unfolding computed Every IsRead IsWritten IsGood goodMessages
 good-right =
-    ((refl, refl), ((refl, refl), ((refl, refl), ((refl, refl), ((refl, refl), ((refl, refl), ((refl, refl), tt)))))))
+    ((refl, refl), ((refl, refl), ((refl, refl), ((refl, refl), ((refl, refl), ((refl, refl), ((refl, refl), ((refl, refl), ((refl, refl), ((refl, refl), ((refl, refl), ((refl, refl), ((refl, refl), ((refl, refl), ((refl, refl), ((refl, refl), ((refl, refl), ((refl, refl), tt))))))))))))))))))
 
 pub accepted-right : Every IsAccepted acceptedMessages
 unfolding computed Every IsRead IsAccepted acceptedMessages
-accepted-right = (refl, (refl, (refl, (refl, (refl, (refl, tt))))))
+accepted-right = (refl, (refl, (refl, (refl, (refl, (refl, (refl, (refl, (refl, (refl, (refl, (refl, (refl, (refl, (refl, tt)))))))))))))))

@@ -32,6 +32,7 @@ use Rattle.reporting.specs.Fraction.{euclid, gcd, lowest, together as bothKinds
 use Rattle.reporting.specs.Report.{reportOf}
 use Rattle.counters.specs.Counting.{sum as counterSum}
 use Rattle.format.specs.Values.{kindNumber}
+use Rattle.addresses.specs.Addresses.{inFamily}
 use Rattle.neighbours.specs.Rows.{noRow, isZero, allZero as zeroRows, allowed, has, sheetRows, valid, tableOf}
 use Rattle.neighbours.specs.Hearing.{asked as askedOf}
 use Rattle.neighbours.specs.Election.{allHave, candidate, above, better, best, elect, electing}
@@ -39,5 +40,5 @@ use Rattle.format.specs.Outcome
 use Rattle.format.specs.Reader
 
 unfoldable pub computed : Unit {0}
-unfolding value be put words add sumFrom sum checksumFrom holdsFrom together sameGroup allZero groupRecords allGroupRecords recordOf joined most groupEntries allGroupEntries entries allEntries ofRun glue runs groupForm groupField groupOctets sourceForm sourceField sourceOctets zeroReserved assertsBody pairsBody plainBody simpleBody aggregatedBody pairBody nowhere pseudoHeader numberAt hasFront assertAt assertEntryOctets allowedAssert pairAt pairEntryOctets allowedPair count whole entriesAt entriesOf entriesOctets mayBeSource assertKind registerKind kindOf octet0 octet1 summedBefore sums header bodyOf body message Outcome._>>=_ Outcome._>>_ Outcome.refuseIf usualLimit leastLimit readLimit messageSize canonical firstBadAt firstBad asked taken pack written packDue packing prefersAggregated chosenOf octetsOf tookOf bothWritten choiceOf choice Reader.continue Reader._>>=_ Reader._>>_ Reader.give Reader.here Reader.octets Reader.number Reader.must Reader.refuse Reader.times Reader.toEnd Reader.records Reader.nothingMore Reader.outcome Reader.from roomFor delivered reading readAsserts readPairs each assertRecord assertOctets pairRecord pairOctets positive groupRecord groupRecordOctets sourceAggregated rpAggregated aggregatedRecord aggregatedOctets recordAt takenBy messageOf calls takenOf messagesOf roomOf train unpackAsserts unpackPairs intoBuffer nothing typeOf among named lengthOf isSome given hear numberOctets valueOf against optionValue option options optionOctets optionsOctets holdtimeOf helloOf helloOptions helloBody readHello saidIn helloMessage writeHello bitOf sizeOf hasBit present sizeIn sizes unallocated isPopCount hasE lengthAgrees optional values attribute byRecord byField handUp placed assertsBodyBy pairsBodyBy optionsBy unpackBy helloBodyBy readHelloBy entriesIn judgedAs judged noMessage before lengthIn split fileOf recordsBy messagesBy refusalsBy total totalsOf byKind countsFrom tallyOf euclid gcd lowest bothKinds packedTotals meanOf reportOf counterSum kindNumber noRow isZero zeroRows allowed has sheetRows valid tableOf askedOf allHave candidate above better best elect electing
+unfolding value be put words add sumFrom sum checksumFrom holdsFrom together sameGroup allZero groupRecords allGroupRecords recordOf joined most groupEntries allGroupEntries entries allEntries ofRun glue runs groupForm groupField groupOctets sourceForm sourceField sourceOctets zeroReserved assertsBody pairsBody plainBody simpleBody aggregatedBody pairBody nowhere pseudoHeader numberAt hasFront assertAt assertEntryOctets allowedAssert pairAt pairEntryOctets allowedPair count whole entriesAt entriesOf entriesOctets mayBeSource assertKind registerKind kindOf octet0 octet1 summedBefore sums header bodyOf body message Outcome._>>=_ Outcome._>>_ Outcome.refuseIf usualLimit leastLimit readLimit messageSize canonical firstBadAt firstBad asked taken pack written packDue packing prefersAggregated chosenOf octetsOf tookOf bothWritten choiceOf choice Reader.continue Reader._>>=_ Reader._>>_ Reader.give Reader.here Reader.octets Reader.number Reader.must Reader.refuse Reader.times Reader.toEnd Reader.records Reader.nothingMore Reader.outcome Reader.from roomFor delivered reading readAsserts readPairs each assertRecord assertOctets pairRecord pairOctets positive groupRecord groupRecordOctets sourceAggregated rpAggregated aggregatedRecord aggregatedOctets recordAt takenBy messageOf calls takenOf messagesOf roomOf train unpackAsserts unpackPairs intoBuffer nothing typeOf among named lengthOf isSome given hear numberOctets valueOf against optionValue option options optionOctets optionsOctets holdtimeOf helloOf helloOptions helloBody readHello saidIn helloMessage writeHello bitOf sizeOf hasBit present sizeIn sizes unallocated isPopCount hasE lengthAgrees optional values attribute byRecord byField handUp placed assertsBodyBy pairsBodyBy optionsBy unpackBy helloBodyBy readHelloBy entriesIn judgedAs judged noMessage before lengthIn split fileOf recordsBy messagesBy refusalsBy total totalsOf byKind countsFrom tallyOf euclid gcd lowest bothKinds packedTotals meanOf reportOf counterSum kindNumber inFamily noRow isZero zeroRows allowed has sheetRows valid tableOf askedOf allHave candidate above better best elect electing
 computed = tt

@@ -1,9 +1,12 @@
 pub mod Computed
+pub mod Paths
 pub mod Marked
 pub mod Messages
 pub mod Faults
+pub mod Faults6
 pub mod Cuts
 pub mod Sources
 pub mod Calls
+pub mod Calls6
 pub mod Hellos
 pub mod Reports
