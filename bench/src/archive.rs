@@ -1,5 +1,33 @@
 //! The archive's functions, declared as in include/pim.h, each behind a safe function over slices.
 
+use second::Family;
+
+#[repr(C)]
+#[derive(Clone, Copy, Debug, Default, PartialEq, Eq)]
+pub struct Address {
+    pub high: u64,
+    pub low: u64,
+}
+
+impl From<second::Address> for Address {
+    fn from(address: second::Address) -> Address {
+        Address { high: address.high, low: address.low }
+    }
+}
+
+#[repr(C)]
+#[derive(Clone, Copy)]
+pub struct Path {
+    pub source: Address,
+    pub destination: Address,
+}
+
+impl From<second::Path> for Path {
+    fn from(path: second::Path) -> Path {
+        Path { source: path.source.into(), destination: path.destination.into() }
+    }
+}
+
 #[repr(C)]
 #[derive(Clone, Copy, Debug, Default, PartialEq, Eq)]
 pub struct Refusal {
@@ -47,7 +75,7 @@ pub const ROWS: usize = 64;
 #[repr(C)]
 #[derive(Clone, Copy, Debug, Default, PartialEq, Eq)]
 pub struct Neighbour {
-    pub address: u32,
+    pub address: Address,
     pub priority: u32,
     pub has_priority: bool,
     pub packs: bool,
@@ -80,7 +108,7 @@ pub struct AllowedAnswer {
 #[derive(Debug, PartialEq, Eq)]
 pub struct ElectAnswer {
     pub refusal: Refusal,
-    pub address: u32,
+    pub address: Address,
 }
 
 #[repr(C)]
@@ -153,14 +181,16 @@ pub struct ReportAnswer {
     pub whole: bool,
 }
 
-type Pack = unsafe extern "C" fn(*const u8, usize, usize, usize, *mut u8, usize) -> PackAnswer;
+type Pack = unsafe extern "C" fn(u8, Path, *const u8, usize, usize, usize, *mut u8, usize) -> PackAnswer;
 
 extern "C" {
-    fn pim_read_asserts(m: *const u8, n: usize, entries: *mut u8, room: usize) -> ReadAnswer;
-    fn pim_read_pairs(m: *const u8, n: usize, entries: *mut u8, room: usize) -> ReadAnswer;
-    fn pim_read_hello(m: *const u8, n: usize) -> HelloAnswer;
-    fn pim_write_hello(said: Hello, b: *mut u8, room: usize) -> LengthAnswer;
+    fn pim_read_asserts(f: u8, p: Path, m: *const u8, n: usize, entries: *mut u8, room: usize) -> ReadAnswer;
+    fn pim_read_pairs(f: u8, p: Path, m: *const u8, n: usize, entries: *mut u8, room: usize) -> ReadAnswer;
+    fn pim_read_hello(f: u8, p: Path, m: *const u8, n: usize) -> HelloAnswer;
+    fn pim_write_hello(f: u8, p: Path, said: Hello, b: *mut u8, room: usize) -> LengthAnswer;
     fn pim_pack_simple(
+        f: u8,
+        p: Path,
         e: *const u8,
         size: usize,
         at: usize,
@@ -169,6 +199,8 @@ extern "C" {
         room: usize,
     ) -> PackAnswer;
     fn pim_pack_aggregated(
+        f: u8,
+        p: Path,
         e: *const u8,
         size: usize,
         at: usize,
@@ -177,6 +209,8 @@ extern "C" {
         room: usize,
     ) -> PackAnswer;
     fn pim_pack_null_register(
+        f: u8,
+        p: Path,
         e: *const u8,
         size: usize,
         at: usize,
@@ -185,6 +219,8 @@ extern "C" {
         room: usize,
     ) -> PackAnswer;
     fn pim_pack_register_stop(
+        f: u8,
+        p: Path,
         e: *const u8,
         size: usize,
         at: usize,
@@ -192,10 +228,11 @@ extern "C" {
         b: *mut u8,
         room: usize,
     ) -> PackAnswer;
-    fn pim_hear(table: Table, address: u32, said: Hello) -> TableAnswer;
-    fn pim_forget(table: Table, address: u32) -> TableAnswer;
-    fn pim_packing_allowed(table: Table) -> AllowedAnswer;
-    fn pim_elect(table: Table, address: u32, priority: u32) -> ElectAnswer;
+    fn pim_hear(f: u8, table: Table, address: Address, said: Hello) -> TableAnswer;
+    fn pim_forget(f: u8, table: Table, address: Address) -> TableAnswer;
+    fn pim_packing_allowed(f: u8, table: Table) -> AllowedAnswer;
+    fn pim_elect(f: u8, table: Table, address: Address, priority: u32) -> ElectAnswer;
+    fn pim_elect_among(rows: *const Neighbour, count: usize) -> ElectAnswer;
     fn pim_report(file: *const u8, n: usize) -> ReportAnswer;
     fn pim_popcount_read(o: *const u8, n: usize, at: usize) -> PopcountReadAnswer;
     fn pim_popcount_merge(
@@ -206,8 +243,9 @@ extern "C" {
         b: *mut u8,
         room: usize,
     ) -> LengthAnswer;
-    fn pim_check_sheet(o: *const u8, n: usize) -> CheckAnswer;
+    fn pim_check_sheet(f: u8, o: *const u8, n: usize) -> CheckAnswer;
     fn pim_read_sheet(
+        f: u8,
         o: *const u8,
         n: usize,
         asserts: *mut u8,
@@ -216,6 +254,7 @@ extern "C" {
         pair_room: usize,
     ) -> SheetAnswer;
     fn pim_write_sheet(
+        f: u8,
         asserts: *const u8,
         assert_size: usize,
         pairs: *const u8,
@@ -226,73 +265,120 @@ extern "C" {
     ) -> LengthAnswer;
     fn pim_checksum(m: *const u8, n: usize) -> u16;
     fn pim_checksum_holds(m: *const u8, n: usize) -> bool;
+    fn pim_checksum_ipv6(p: Path, m: *const u8, n: usize) -> u16;
+    fn pim_checksum_ipv6_holds(p: Path, m: *const u8, n: usize) -> bool;
 }
 
 // Each call lends slices that are alive and do not overlap, as the header asks.
 
 #[inline(always)]
-pub fn read_asserts(m: &[u8], entries: &mut [u8]) -> ReadAnswer {
-    unsafe { pim_read_asserts(m.as_ptr(), m.len(), entries.as_mut_ptr(), entries.len()) }
+pub fn read_asserts(family: Family, path: second::Path, m: &[u8], entries: &mut [u8]) -> ReadAnswer {
+    let (to, room) = (entries.as_mut_ptr(), entries.len());
+    unsafe { pim_read_asserts(family.number(), path.into(), m.as_ptr(), m.len(), to, room) }
 }
 
 #[inline(always)]
-pub fn read_pairs(m: &[u8], entries: &mut [u8]) -> ReadAnswer {
-    unsafe { pim_read_pairs(m.as_ptr(), m.len(), entries.as_mut_ptr(), entries.len()) }
+pub fn read_pairs(family: Family, path: second::Path, m: &[u8], entries: &mut [u8]) -> ReadAnswer {
+    let (to, room) = (entries.as_mut_ptr(), entries.len());
+    unsafe { pim_read_pairs(family.number(), path.into(), m.as_ptr(), m.len(), to, room) }
 }
 
 #[inline(always)]
-pub fn read_hello(m: &[u8]) -> HelloAnswer {
-    unsafe { pim_read_hello(m.as_ptr(), m.len()) }
+pub fn read_hello(family: Family, path: second::Path, m: &[u8]) -> HelloAnswer {
+    unsafe { pim_read_hello(family.number(), path.into(), m.as_ptr(), m.len()) }
 }
 
 #[inline(always)]
-pub fn write_hello(said: Hello, buffer: &mut [u8]) -> LengthAnswer {
-    unsafe { pim_write_hello(said, buffer.as_mut_ptr(), buffer.len()) }
+pub fn write_hello(family: Family, path: second::Path, said: Hello, buffer: &mut [u8]) -> LengthAnswer {
+    unsafe { pim_write_hello(family.number(), path.into(), said, buffer.as_mut_ptr(), buffer.len()) }
 }
 
 #[inline(always)]
-fn pack(call: Pack, entries: &[u8], start: usize, limit: usize, buffer: &mut [u8]) -> PackAnswer {
-    unsafe { call(entries.as_ptr(), entries.len(), start, limit, buffer.as_mut_ptr(), buffer.len()) }
+fn pack(
+    call: Pack,
+    family: Family,
+    path: second::Path,
+    entries: &[u8],
+    start: usize,
+    limit: usize,
+    buffer: &mut [u8],
+) -> PackAnswer {
+    let (list, size) = (entries.as_ptr(), entries.len());
+    let (to, room) = (buffer.as_mut_ptr(), buffer.len());
+    unsafe { call(family.number(), path.into(), list, size, start, limit, to, room) }
 }
 
 #[inline(always)]
-pub fn pack_simple(entries: &[u8], start: usize, limit: usize, buffer: &mut [u8]) -> PackAnswer {
-    pack(pim_pack_simple, entries, start, limit, buffer)
+pub fn pack_simple(
+    family: Family,
+    path: second::Path,
+    entries: &[u8],
+    start: usize,
+    limit: usize,
+    buffer: &mut [u8],
+) -> PackAnswer {
+    pack(pim_pack_simple, family, path, entries, start, limit, buffer)
 }
 
 #[inline(always)]
-pub fn pack_aggregated(entries: &[u8], start: usize, limit: usize, buffer: &mut [u8]) -> PackAnswer {
-    pack(pim_pack_aggregated, entries, start, limit, buffer)
+pub fn pack_aggregated(
+    family: Family,
+    path: second::Path,
+    entries: &[u8],
+    start: usize,
+    limit: usize,
+    buffer: &mut [u8],
+) -> PackAnswer {
+    pack(pim_pack_aggregated, family, path, entries, start, limit, buffer)
 }
 
 #[inline(always)]
-pub fn pack_null_register(entries: &[u8], start: usize, limit: usize, buffer: &mut [u8]) -> PackAnswer {
-    pack(pim_pack_null_register, entries, start, limit, buffer)
+pub fn pack_null_register(
+    family: Family,
+    path: second::Path,
+    entries: &[u8],
+    start: usize,
+    limit: usize,
+    buffer: &mut [u8],
+) -> PackAnswer {
+    pack(pim_pack_null_register, family, path, entries, start, limit, buffer)
 }
 
 #[inline(always)]
-pub fn pack_register_stop(entries: &[u8], start: usize, limit: usize, buffer: &mut [u8]) -> PackAnswer {
-    pack(pim_pack_register_stop, entries, start, limit, buffer)
+pub fn pack_register_stop(
+    family: Family,
+    path: second::Path,
+    entries: &[u8],
+    start: usize,
+    limit: usize,
+    buffer: &mut [u8],
+) -> PackAnswer {
+    pack(pim_pack_register_stop, family, path, entries, start, limit, buffer)
 }
 
 #[inline(always)]
-pub fn hear(table: Table, address: u32, said: Hello) -> TableAnswer {
-    unsafe { pim_hear(table, address, said) }
+pub fn hear(family: Family, table: Table, address: Address, said: Hello) -> TableAnswer {
+    unsafe { pim_hear(family.number(), table, address, said) }
 }
 
 #[inline(always)]
-pub fn forget(table: Table, address: u32) -> TableAnswer {
-    unsafe { pim_forget(table, address) }
+pub fn forget(family: Family, table: Table, address: Address) -> TableAnswer {
+    unsafe { pim_forget(family.number(), table, address) }
 }
 
 #[inline(always)]
-pub fn packing_allowed(table: Table) -> AllowedAnswer {
-    unsafe { pim_packing_allowed(table) }
+pub fn packing_allowed(family: Family, table: Table) -> AllowedAnswer {
+    unsafe { pim_packing_allowed(family.number(), table) }
 }
 
 #[inline(always)]
-pub fn elect(table: Table, address: u32, priority: u32) -> ElectAnswer {
-    unsafe { pim_elect(table, address, priority) }
+pub fn elect(family: Family, table: Table, address: Address, priority: u32) -> ElectAnswer {
+    unsafe { pim_elect(family.number(), table, address, priority) }
+}
+
+#[inline(always)]
+pub fn elect_among(rows: &[Neighbour]) -> ElectAnswer {
+    unsafe { pim_elect_among(rows.as_ptr(), rows.len()) }
 }
 
 #[inline(always)]
@@ -320,14 +406,15 @@ pub fn popcount_merge(own: PopcountOwn, e: bool, contributors: &[u8], buffer: &m
 }
 
 #[inline(always)]
-pub fn check_sheet(sheet: &[u8]) -> CheckAnswer {
-    unsafe { pim_check_sheet(sheet.as_ptr(), sheet.len()) }
+pub fn check_sheet(family: Family, sheet: &[u8]) -> CheckAnswer {
+    unsafe { pim_check_sheet(family.number(), sheet.as_ptr(), sheet.len()) }
 }
 
 #[inline(always)]
-pub fn read_sheet(sheet: &[u8], asserts: &mut [u8], pairs: &mut [u8]) -> SheetAnswer {
+pub fn read_sheet(family: Family, sheet: &[u8], asserts: &mut [u8], pairs: &mut [u8]) -> SheetAnswer {
     unsafe {
         pim_read_sheet(
+            family.number(),
             sheet.as_ptr(),
             sheet.len(),
             asserts.as_mut_ptr(),
@@ -339,9 +426,16 @@ pub fn read_sheet(sheet: &[u8], asserts: &mut [u8], pairs: &mut [u8]) -> SheetAn
 }
 
 #[inline(always)]
-pub fn write_sheet(asserts: &[u8], pairs: &[u8], table: Table, buffer: &mut [u8]) -> LengthAnswer {
+pub fn write_sheet(
+    family: Family,
+    asserts: &[u8],
+    pairs: &[u8],
+    table: Table,
+    buffer: &mut [u8],
+) -> LengthAnswer {
     unsafe {
         pim_write_sheet(
+            family.number(),
             asserts.as_ptr(),
             asserts.len(),
             pairs.as_ptr(),
@@ -361,4 +455,14 @@ pub fn checksum(m: &[u8]) -> u16 {
 #[inline(always)]
 pub fn checksum_holds(m: &[u8]) -> bool {
     unsafe { pim_checksum_holds(m.as_ptr(), m.len()) }
+}
+
+#[inline(always)]
+pub fn checksum_ipv6(path: second::Path, m: &[u8]) -> u16 {
+    unsafe { pim_checksum_ipv6(path.into(), m.as_ptr(), m.len()) }
+}
+
+#[inline(always)]
+pub fn checksum_ipv6_holds(path: second::Path, m: &[u8]) -> bool {
+    unsafe { pim_checksum_ipv6_holds(path.into(), m.as_ptr(), m.len()) }
 }

@@ -16,11 +16,11 @@ pub fn text(measured: &Measured) -> String {
 
 fn lines<'a>(part: &'a str, row: &'a Row) -> impl Iterator<Item = String> + 'a {
     let looked_at = row.looked_at.map_or(NOTHING.to_string(), |entries| entries.to_string());
-    let Row { family, size, octets, records, .. } = row;
+    let Row { series, size, octets, records, .. } = row;
     row.passes.iter().map(move |times| {
         let Times { archive, second, turns: [first, other] } = times;
         format!(
-            "{part}\t{family}\t{size}\t{octets}\t{records}\t{looked_at}\t{archive}\t{second}\t{first}\t{other}\n"
+            "{part}\t{series}\t{size}\t{octets}\t{records}\t{looked_at}\t{archive}\t{second}\t{first}\t{other}\n"
         )
     })
 }
@@ -42,14 +42,14 @@ pub fn read(text: &str) -> Option<Measured> {
 }
 
 fn row(fields: &[&str]) -> Option<Row> {
-    let [family, size, octets, records, looked_at, archive, second, first, other] = *fields else {
+    let [series, size, octets, records, looked_at, archive, second, first, other] = *fields else {
         return None;
     };
     let looked_at = if looked_at == NOTHING { None } else { Some(number(looked_at)?) };
     let turns = [number(first)?, number(other)?];
     let times = Times { archive: number(archive)?, second: number(second)?, turns };
     Some(Row {
-        family: family.to_string(),
+        series: series.to_string(),
         size: size.to_string(),
         octets: number(octets)?,
         records: number(records)?,

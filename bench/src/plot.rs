@@ -52,7 +52,7 @@ pub fn svg(rows: &[Row]) -> String {
 fn head(width: f64, height: f64) -> String {
     format!(
         "<svg xmlns=\"http://www.w3.org/2000/svg\" viewBox=\"0 0 {width} {height}\" width=\"{width}\" \
-         height=\"{height}\" font-family=\"sans-serif\" font-size=\"11\" role=\"img\">\n\
+         height=\"{height}\" font-series=\"sans-serif\" font-size=\"11\" role=\"img\">\n\
          <title>Time of the second program divided by time of the archive</title>\n\
          <rect width=\"{width}\" height=\"{height}\" fill=\"#ffffff\"/>\n\
          <text x=\"12\" y=\"20\" font-size=\"14\" fill=\"#222222\">Time of the second program divided by time of the \
@@ -66,11 +66,11 @@ fn head(width: f64, height: f64) -> String {
     )
 }
 
-/// A grey band behind every other family, so that its rows are seen together.
+/// A grey band behind every other series, so that its rows are seen together.
 fn bands(svg: &mut String, rows: &[Row], width: f64) {
     let mut y = TOP;
-    for (i, family) in rows.chunk_by(|a, b| a.family == b.family).enumerate() {
-        let height = STEP * family.len() as f64;
+    for (i, series) in rows.chunk_by(|a, b| a.series == b.series).enumerate() {
+        let height = STEP * series.len() as f64;
         if i % 2 == 0 {
             put(
                 svg,

@@ -45,11 +45,13 @@ fn how_measured(run: &Run, passes: usize) -> String {
          its octets are those of all its messages. At limit {} its calls pass 0, which is read as that \
          limit; any other limit they pass as it is. In a row named refuse the last field of the octets, the last \
          entry of a list or the last pair of a sheet is at fault, so that all before it is read and its place is \
-         found; multicast says that it is a source in 224.0.0.0/4. In a row of seldom sources they are from \
-         240.0.0.0 to 247.255.255.255, and 0 in every other 32 records of the simple message; elsewhere they are \
-         from 1.0.0.0 to 223.255.255.255, and seldom 0. A row with a number of rows is a call on a table with so \
-         many in use, its records; the table goes to both sides by value, whole. A full sheet has as many entries as \
-         its form allows, and no form is named where it is the one that is written. A row named report reads a file \
+         found; multicast says that it is a source in 224.0.0.0/4, or in ff00::/8. In a row of seldom sources they \
+         are from 240.0.0.0 to 247.255.255.255, and 0 in every other 32 records of the simple message; elsewhere \
+         they are from 1.0.0.0 to 223.255.255.255, or of 2001:db8::/32, and seldom 0. Rows of IPv6 are named so, \
+         all others are IPv4 or of no family; the checksums of IPv6 include the pseudo-header. A row with a number \
+         of rows is a call on a table with so many in use, its records; the table goes to both sides by value, \
+         whole. A full sheet has as many entries as its form allows, and no form is named where it is the one that \
+         is written. A row named report reads a file \
          in memory, of good messages, each after its length; 1,000 divided by its ns/octet is megabytes a second.\n",
         run.date,
         machine(),
@@ -162,14 +164,14 @@ fn deferred_part(rows: &[Row]) -> String {
     )
 }
 
-/// A line for each two neighbouring sizes of a family.
+/// A line for each two neighbouring sizes of a series.
 fn growth_part(rows: &[Row]) -> String {
     let cells: Vec<Vec<String>> =
-        rows.windows(2).filter(|pair| pair[0].family == pair[1].family).map(growth_cells).collect();
-    let columns = ["family", "from", "to", "octets", "entries looked at", "archive time", "second time"];
+        rows.windows(2).filter(|pair| pair[0].series == pair[1].series).map(growth_cells).collect();
+    let columns = ["series", "from", "to", "octets", "entries looked at", "archive time", "second time"];
     format!(
         "## How time grows with size\n\n\
-         Each line goes from one size of a family to the next, and each number says how many times as much \
+         Each line goes from one size of a series to the next, and each number says how many times as much \
          the larger row has. A single call looks at each octet a fixed number of times, so its time should \
          grow as its octets do, or less where the fixed part of a call still counts; more, with mixed runs, \
          is likely the branch predictor, which learns a short message by heart and a long one not. A train \
@@ -188,7 +190,7 @@ fn growth_cells(pair: &[Row]) -> Vec<String> {
         _ => "–".to_string(),
     };
     vec![
-        from.family.clone(),
+        from.series.clone(),
         from.size.clone(),
         to.size.clone(),
         times(to.octets as f64 / from.octets as f64),

@@ -1,7 +1,8 @@
 //! Reading and writing of Hello messages.
 
+use crate::family::{of_family, Addresses, Family, Path};
 use crate::pack::{put_header, seal};
-use crate::read::header;
+use crate::read::header_of;
 use crate::{fault, refuse, Answer, Fault, Kind};
 
 /// What a Hello says. A priority not announced is `None`.
@@ -33,8 +34,12 @@ pub(crate) struct Seen {
     packing: bool,
 }
 
-pub fn read_hello(m: &[u8]) -> Answer<Hello> {
-    if header(m)? != Kind::Hello {
+pub fn read_hello(family: Family, path: Path, m: &[u8]) -> Answer<Hello> {
+    of_family!(family, read_of(path, m))
+}
+
+fn read_of<F: Addresses>(path: Path, m: &[u8]) -> Answer<Hello> {
+    if header_of::<F>(path, m)? != Kind::Hello {
         return refuse(4, 0);
     }
     let seen = check_options(m)?;
@@ -94,7 +99,11 @@ fn allowed(option_type: u16, length: u16, seen: &Seen) -> bool {
 
 /// Writes a Hello; its length. The holdtime is written also where it is the
 /// default, so that nothing depends on what a reader takes for none.
-pub fn write_hello(said: Hello, buffer: &mut [u8]) -> Answer<usize> {
+pub fn write_hello(family: Family, path: Path, said: Hello, buffer: &mut [u8]) -> Answer<usize> {
+    of_family!(family, write_of(path, said, buffer))
+}
+
+fn write_of<F: Addresses>(path: Path, said: Hello, buffer: &mut [u8]) -> Answer<usize> {
     let length = length(&said);
     let Some(message) = buffer.get_mut(..length) else {
         return refuse(8, 0);
@@ -108,7 +117,7 @@ pub fn write_hello(said: Hello, buffer: &mut [u8]) -> Answer<usize> {
     if said.packing {
         put_option(rest, PACKED_ASSERT, []);
     }
-    seal(message);
+    seal::<F>(path, message);
     Ok(length)
 }
 

@@ -1,9 +1,10 @@
-//! PIM packed asserts and packed registers for IPv4: an independent second
-//! implementation, for comparison. This file holds what all modules share.
+//! PIM packed asserts and packed registers for IPv4 and IPv6: an independent
+//! second implementation, for comparison. This file holds what all modules share.
 
 pub mod brute;
 pub mod checksum;
 pub mod counters;
+pub mod family;
 pub mod hello;
 pub mod neighbours;
 pub mod pack;
@@ -12,6 +13,9 @@ pub mod read;
 pub mod report;
 pub mod rng;
 pub mod sheet;
+
+pub use family::{Address, Family, Path};
+use family::{Addresses, Octets};
 
 /// The longest message, which is also the largest limit.
 pub const MESSAGE_MOST: usize = 65_515;
@@ -58,10 +62,10 @@ impl Fault {
     }
 }
 
-/// The first `N` octets as a field, and what follows them; 6 if it is cut.
+/// The first octets as a field, and what follows them; 6 if it is cut.
 #[inline(always)]
-pub(crate) fn field<const N: usize>(octets: &[u8]) -> Result<(&[u8; N], &[u8]), Fault> {
-    octets.split_first_chunk::<N>().ok_or(fault(6, octets))
+pub(crate) fn field<T: Octets>(octets: &[u8]) -> Result<(&T, &[u8]), Fault> {
+    T::first(octets).ok_or(fault(6, octets))
 }
 
 /// The six kinds of message, numbered from 0 in the rule book's order.
@@ -88,49 +92,42 @@ impl Kind {
     }
 }
 
-/// A group address lies in 224.0.0.0/4; this is its first octet.
-#[inline]
-pub(crate) fn is_group(first: u8) -> bool {
-    first >> 4 == 14
-}
-
-/// Whether an address may be a source: not in 224.0.0.0/4, not 255.255.255.255,
-/// and 0 only where `zero` says so. The first octet is asked first, since it
-/// decides for nearly all.
+/// Group and source of an entry, behind its prefix.
 #[inline(always)]
-pub(crate) fn is_source(address: [u8; 4], zero: bool) -> bool {
-    matches!(address[0], 1..=223) || is_seldom_source(address, zero)
+pub(crate) fn addresses_ok<F: Addresses>(both: &[u8], zero: bool) -> bool {
+    F::is_group(F::Address::at(both, 0)) && F::is_source(F::Address::at(both, F::WIDTH), zero)
 }
 
-/// The same for an address that does not begin with 1 to 223.
+/// An assert entry without its prefix (group, source, R with preference,
+/// metric); source 0 is allowed with R=1.
 #[inline(always)]
-fn is_seldom_source(address: [u8; 4], zero: bool) -> bool {
-    match address {
-        [0, 0, 0, 0] => zero,
-        [255, 255, 255, 255] => false,
-        [first, ..] => !is_group(first),
-    }
+pub(crate) fn assert_ok<F: Addresses>(rest: &[u8]) -> bool {
+    addresses_ok::<F>(rest, rest[2 * F::WIDTH] & 0x80 != 0)
 }
 
-/// An assert entry (group, source, R with preference, metric); source 0 is
-/// allowed with R=1.
-#[inline]
-pub(crate) fn assert_entry_ok(entry: &[u8; 16]) -> bool {
-    let [group, _, _, _, a, b, c, d, r, ..] = *entry;
-    is_group(group) && is_source([a, b, c, d], r & 0x80 != 0)
+#[inline(always)]
+fn prefix_ok<F: Addresses>(entry: &[u8]) -> bool {
+    entry[..4] == F::PREFIX
 }
 
-/// A pair entry (group, source).
-#[inline]
-pub(crate) fn pair_entry_ok(entry: &[u8; 8], zero: bool) -> bool {
-    let [group, _, _, _, a, b, c, d] = *entry;
-    is_group(group) && is_source([a, b, c, d], zero)
+/// An assert entry.
+#[inline(always)]
+pub(crate) fn assert_entry_ok<F: Addresses>(entry: &F::AssertEntry) -> bool {
+    let entry = entry.as_ref();
+    prefix_ok::<F>(entry) && assert_ok::<F>(&entry[4..])
+}
+
+/// A pair entry.
+#[inline(always)]
+pub(crate) fn pair_entry_ok<F: Addresses>(entry: &F::PairEntry, zero: bool) -> bool {
+    let entry = entry.as_ref();
+    prefix_ok::<F>(entry) && addresses_ok::<F>(&entry[4..], zero)
 }
 
 /// The number of the first entry that is not good. Four are asked in a turn of
 /// the loop: most lists are long and good.
 #[inline]
-pub(crate) fn first_bad<const N: usize>(list: &[[u8; N]], good: impl Fn(&[u8; N]) -> bool) -> Option<usize> {
+pub(crate) fn first_bad<T>(list: &[T], good: impl Fn(&T) -> bool) -> Option<usize> {
     let (fours, _) = list.as_chunks::<4>();
     let before = 4 * fours.iter().take_while(|four| four.iter().all(&good)).count();
     list[before..].iter().position(|entry| !good(entry)).map(|bad| before + bad)

@@ -1,10 +1,12 @@
 //! The report of a file of messages, each preceded by its length in 16 bits.
 //! A message is accepted exactly if the call that reads its kind accepts it
-//! with room enough. Its records are counted, and no entry is written.
+//! with room enough. Its records are counted, and no entry is written. A file has
+//! no addresses for a pseudo-header, so its messages are IPv4.
 
 use crate::counters::Count;
+use crate::family::{Ipv4, Path};
 use crate::hello::check_options;
-use crate::read::{check_aggregated, check_pairs, check_plain, check_simple, header};
+use crate::read::{check_aggregated, check_pairs, check_plain, check_simple, header_of};
 use crate::{Answer, Kind};
 
 /// What came of messages. Each number stays at its maximum.
@@ -72,14 +74,14 @@ pub fn add_message(tally: &mut Tally, m: &[u8]) {
 
 /// The kind of a message and the number of its records, all of it checked.
 fn records(m: &[u8]) -> Answer<(Kind, usize)> {
-    let kind = header(m)?;
+    let kind = header_of::<Ipv4>(Path::default(), m)?;
     let records = match kind {
         Kind::Hello => check_options(m).map(|_| 0),
-        Kind::Assert => check_plain(m),
-        Kind::Simple => check_simple(m),
-        Kind::Aggregated => check_aggregated(m),
-        Kind::NullRegister => check_pairs(m, false),
-        Kind::RegisterStop => check_pairs(m, true),
+        Kind::Assert => check_plain::<Ipv4>(m),
+        Kind::Simple => check_simple::<Ipv4>(m),
+        Kind::Aggregated => check_aggregated::<Ipv4>(m),
+        Kind::NullRegister => check_pairs::<Ipv4>(m, false),
+        Kind::RegisterStop => check_pairs::<Ipv4>(m, true),
     }?;
     Ok((kind, records))
 }

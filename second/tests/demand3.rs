@@ -1,9 +1,7 @@
 //! Demand 3: the train of aggregated packing calls against all trains.
 mod common;
+use common::v4::*;
 use common::*;
-use second::brute::least_messages;
-use second::pack::pack_aggregated;
-use second::read::read_asserts;
 use second::rng::Rng;
 
 /// Packs a list to its end, the limits passed by turns, and hands each message
@@ -11,7 +9,7 @@ use second::rng::Rng;
 fn pack_all(list: &[u8], limits: &[usize], buffer: &mut [u8], mut each: impl FnMut(&[u8])) {
     let mut start = 0;
     for limit in limits.iter().cycle() {
-        if 16 * start >= list.len() {
+        if ASSERT_ENTRY * start >= list.len() {
             break;
         }
         let (length, taken) = pack_aggregated(list, start, *limit, buffer).unwrap();
@@ -136,9 +134,9 @@ fn train(list: &[u8], limits: &[usize]) -> Vec<Vec<u8>> {
 fn unpacked(train: &[Vec<u8>]) -> Vec<u8> {
     let mut list = Vec::new();
     for message in train {
-        let mut entries = [0; 16 * 100];
+        let mut entries = [0; ASSERT_ENTRY * 100];
         let (_, count) = read_asserts(message, &mut entries).unwrap();
-        list.extend_from_slice(&entries[..16 * count]);
+        list.extend_from_slice(&entries[..ASSERT_ENTRY * count]);
     }
     list
 }
@@ -180,6 +178,6 @@ fn what_is_tried() {
     assert_eq!(least_messages(&[], 38), Some(0));
     assert_eq!(least_messages(&entry(0xE000_0001, 7, R, 1), 37), None);
     assert_eq!(least_messages(&entry(0xE000_0001, 0, R, 1), 32), Some(1));
-    assert_eq!(least_messages(&[0; 15], 38), None);
+    assert_eq!(least_messages(&[0; 19], 38), None);
     assert_eq!(least_messages(&entry(0xE000_0001, 7, R, 1).repeat(7), 38), None);
 }

@@ -1,10 +1,10 @@
 //! The eight examples of the rule book.
 mod common;
+use common::v4::*;
 use common::*;
 use second::hello::Hello;
-use second::neighbours::*;
-use second::pack::*;
-use second::read::*;
+use second::neighbours::Table;
+use second::read::{AssertRecord, Record};
 use second::Kind;
 
 fn example() -> Vec<u8> {
@@ -13,16 +13,21 @@ fn example() -> Vec<u8> {
 
 #[test]
 fn one_simple_record() {
-    let mut entries = [0xAA; 20];
+    let mut entries = [0xAA; 24];
     assert_eq!(header(&example()), Ok(Kind::Simple));
     assert_eq!(read_asserts(&example(), &mut entries), Ok((Kind::Simple, 1)));
-    assert_eq!(entries[..16], entry(0xE801_0101, 0x0A00_0001, 110, 20));
-    assert_eq!(entries[16..], [0xAA; 4]);
+    assert_eq!(entries[..20], entry(0xE801_0101, 0x0A00_0001, 110, 20));
+    assert_eq!(entries[20..], [0xAA; 4]);
     assert_eq!(body(&example()), &example()[4..]);
-    let record = AssertRecord { group: 0xE801_0101, source: 0x0A00_0001, r_preference: 110, metric: 20 };
+    let record = AssertRecord {
+        group: 0xE801_0101u32.into(),
+        source: 0x0A00_0001u32.into(),
+        r_preference: 110,
+        metric: 20,
+    };
     assert_eq!(read_record(&example(), 8, Kind::Simple), Ok((Record::Assert(record), 30)));
     let mut buffer = [0xBB; 40];
-    assert_eq!(pack_simple(&entries[..16], 0, 38, &mut buffer), Ok((30, 1)));
+    assert_eq!(pack_simple(&entries[..20], 0, 38, &mut buffer), Ok((30, 1)));
     assert_eq!(buffer[..30], example());
     assert_eq!(buffer[30..], [0xBB; 10]);
 }
@@ -32,7 +37,7 @@ fn last_octet_changed() {
     let mut m = example();
     m[29] = 0x15;
     assert_eq!(header(&m), refusal(3, 0));
-    assert_eq!(read_asserts(&m, &mut [0; 16]), refusal(3, 0));
+    assert_eq!(read_asserts(&m, &mut [0; 20]), refusal(3, 0));
     assert!(body(&m).is_empty());
 }
 
@@ -61,7 +66,7 @@ fn one_rp_entry() {
     let mut buffer = [0; 64];
     let zero = entry(0xE801_0101, 0, R | 5, 6);
     assert_eq!(pack_aggregated(&zero, 0, 38, &mut buffer), Ok((32, 1)));
-    let mut back = [0; 16];
+    let mut back = [0; 20];
     assert_eq!(read_asserts(&buffer[..32], &mut back), Ok((Kind::Aggregated, 1)));
     assert_eq!(back[..], zero);
     let other = entry(0xE801_0101, 7, R | 5, 6);

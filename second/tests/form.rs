@@ -2,12 +2,12 @@
 //! the message of the first k entries, for the greatest k that fits. That of a
 //! Hello, worked out by hand and against one put together.
 mod common;
+use common::v4::*;
 use common::*;
-use second::hello::{write_hello, Hello};
-use second::pack::{pack_aggregated, pack_simple};
+use second::hello::Hello;
 use second::rng::Rng;
 
-type Entry = [u8; 16];
+type Entry = [u8; 20];
 
 /// Consecutive entries that are alike under `alike`.
 fn runs(list: &[Entry], alike: fn(&Entry, &Entry) -> bool) -> Vec<&[Entry]> {
@@ -15,19 +15,19 @@ fn runs(list: &[Entry], alike: fn(&Entry, &Entry) -> bool) -> Vec<&[Entry]> {
 }
 
 fn same_record(a: &Entry, b: &Entry) -> bool {
-    a[8..] == b[8..] && (a[8] >= 0x80 || a[4..8] == b[4..8])
+    a[12..] == b[12..] && (a[12] >= 0x80 || a[8..12] == b[8..12])
 }
 
 fn same_group(a: &Entry, b: &Entry) -> bool {
-    a[..4] == b[..4]
+    a[4..8] == b[4..8]
 }
 
 fn group(entry: &Entry) -> Vec<u8> {
-    [&[1, 0, 0, 32], &entry[..4]].concat()
+    [&[1, 0, 0, 32], &entry[4..8]].concat()
 }
 
 fn source(entry: &Entry) -> Vec<u8> {
-    [&[1, 0], &entry[4..8]].concat()
+    [&[1, 0], &entry[8..12]].concat()
 }
 
 fn count(n: usize) -> Vec<u8> {
@@ -35,7 +35,7 @@ fn count(n: usize) -> Vec<u8> {
 }
 
 fn group_record(run: &[Entry]) -> Vec<u8> {
-    if run.len() == 1 && run[0][4..8] == [0; 4] {
+    if run.len() == 1 && run[0][8..12] == [0; 4] {
         return [group(&run[0]), count(0)].concat();
     }
     let sources: Vec<u8> = run.iter().flat_map(source).collect();
@@ -43,8 +43,8 @@ fn group_record(run: &[Entry]) -> Vec<u8> {
 }
 
 fn record(run: &[Entry]) -> Vec<u8> {
-    let numbers = run[0][8..].to_vec();
-    if run[0][8] >= 0x80 {
+    let numbers = run[0][12..].to_vec();
+    if run[0][12] >= 0x80 {
         let groups = runs(run, same_group);
         let records: Vec<u8> = groups.iter().flat_map(|run| group_record(run)).collect();
         return [numbers, count(groups.len()), records].concat();
@@ -59,7 +59,7 @@ fn aggregated(list: &[Entry]) -> Vec<u8> {
 }
 
 fn simple(list: &[Entry]) -> Vec<u8> {
-    let numbers = |entry: &Entry| entry[8..].to_vec();
+    let numbers = |entry: &Entry| entry[12..].to_vec();
     let records: Vec<u8> = list.iter().flat_map(|e| [group(e), source(e), numbers(e)].concat()).collect();
     message(0x25, 1, &[vec![0; 4], records].concat())
 }
@@ -78,7 +78,7 @@ fn greatest_number_that_fits() {
         for _ in 0..60 {
             let number = 1 + rng.below(20);
             let octets = random_entries(&mut rng, number);
-            let (list, _) = octets.as_chunks::<16>();
+            let (list, _) = octets.as_chunks::<20>();
             let start = rng.below(number);
             let (m, k) = most(&list[start..], limit, aggregated);
             assert_eq!(pack_aggregated(&octets, start, limit, &mut buffer), Ok((m.len(), k)));

@@ -1,11 +1,11 @@
 //! Every number of the refusal table, with its place, and the order of the
 //! checks. For 6 and 7 in reading, places.rs has them.
 mod common;
+use common::v4::*;
 use common::*;
 use second::counters::*;
-use second::hello::*;
-use second::pack::*;
-use second::read::*;
+use second::hello::Hello;
+use second::read::{AssertRecord, PairRecord, Record};
 use second::Kind;
 
 const G: u32 = 0xE801_0101;
@@ -99,8 +99,8 @@ fn body_of_each_kind() {
 #[test]
 fn a_record_read_singly() {
     let record = [assert_record(G, S, 110, 20), vec![0xFF; 3]].concat();
-    let found = AssertRecord { group: G, source: S, r_preference: 110, metric: 20 };
-    let pair = Record::Pair(PairRecord { group: G, source: S });
+    let found = AssertRecord { group: G.into(), source: S.into(), r_preference: 110, metric: 20 };
+    let pair = Record::Pair(PairRecord { group: G.into(), source: S.into() });
     for kind in [Kind::Assert, Kind::Simple] {
         assert_eq!(read_record(&record, 0, kind), Ok((Record::Assert(found), 22)));
     }
@@ -122,7 +122,7 @@ fn number_5_zero_and_no_record() {
     pairs_refused(&message(0x2D, 0x10, &[]), 5, 4);
     // Reserved is ignored.
     let m = message(0x25, 1, &[vec![0, 1, 2, 3], assert_record(G, S, 1, 2)].concat());
-    assert_eq!(read_asserts(&m, &mut [0; 16]), Ok((Kind::Simple, 1)));
+    assert_eq!(read_asserts(&m, &mut [0; 20]), Ok((Kind::Simple, 1)));
 }
 
 /// What looks like 7 and is none.
@@ -131,22 +131,22 @@ fn addresses_allowed() {
     let mut flags = assert_record(G, S, 110, 20);
     flags[2] = 0xFF;
     for record in [flags, assert_record(G, 0, R, 20), assert_record(0xE000_0000, 0xFFFF_FFFE, 110, 20)] {
-        assert_eq!(read_asserts(&message(0x25, 0, &record), &mut [0; 16]), Ok((Kind::Assert, 1)));
-        assert_eq!(read_asserts(&simple(&[record]), &mut [0; 16]), Ok((Kind::Simple, 1)));
+        assert_eq!(read_asserts(&message(0x25, 0, &record), &mut [0; 20]), Ok((Kind::Assert, 1)));
+        assert_eq!(read_asserts(&simple(&[record]), &mut [0; 20]), Ok((Kind::Simple, 1)));
     }
     let zero = message(0x2D, 0x10, &pair_record(G, 0));
-    assert_eq!(read_pairs(&zero, &mut [0; 8]), Ok((Kind::RegisterStop, 1)));
+    assert_eq!(read_pairs(&zero, &mut [0; 12]), Ok((Kind::RegisterStop, 1)));
 }
 
 #[test]
 fn number_8_buffers() {
     let m = simple(&[assert_record(G, S, 1, 2), assert_record(G, S, 1, 2)]);
-    let mut entries = [0x77; 31];
+    let mut entries = [0x77; 39];
     assert_eq!(read_asserts(&m, &mut entries), refusal(8, 0));
-    assert_eq!(entries, [0x77; 31]);
+    assert_eq!(entries, [0x77; 39]);
     let m = message(0x2D, 0, &pair_record(G, S));
-    assert_eq!(read_pairs(&m, &mut [0; 7]), refusal(8, 0));
-    assert_eq!(read_pairs(&m, &mut [0; 9]), Ok((Kind::NullRegister, 1)));
+    assert_eq!(read_pairs(&m, &mut [0; 11]), refusal(8, 0));
+    assert_eq!(read_pairs(&m, &mut [0; 13]), Ok((Kind::NullRegister, 1)));
     // A later fault goes before the buffer.
     let m = message(0x2D, 0, &[pair_record(G, S), pair_record(G, 0)].concat());
     assert_eq!(read_pairs(&m, &mut []), refusal_within(7, 26, 18));
@@ -209,12 +209,12 @@ fn number_10_entry_lists() {
     let mut buffer = [0x77; 556];
     let bad = entry(0, 0, 0, 0);
     for start in [0, 1, 2, usize::MAX] {
-        assert_eq!(pack_simple(&bad[..15], start, 0, &mut buffer), refusal(10, 0));
-        assert_eq!(pack_null_register(&bad[..7], start, 0, &mut buffer), refusal(10, 0));
+        assert_eq!(pack_simple(&bad[..19], start, 0, &mut buffer), refusal(10, 0));
+        assert_eq!(pack_null_register(&bad[..11], start, 0, &mut buffer), refusal(10, 0));
     }
     assert_eq!(pack_assert(&bad, 2, 0, &mut buffer), refusal(10, 0));
-    assert_eq!(pack_register_stop(&bad, 3, 0, &mut buffer), refusal(10, 0));
-    assert_eq!(pack_register_stop(&bad, 2, 0, &mut buffer), Ok((0, 0)));
+    assert_eq!(pack_register_stop(&bad[..12], 2, 0, &mut buffer), refusal(10, 0));
+    assert_eq!(pack_register_stop(&bad[..12], 1, 0, &mut buffer), Ok((0, 0)));
     assert_eq!(buffer, [0x77; 556]);
 }
 
@@ -273,7 +273,7 @@ fn aggregated_records_as_read() {
         source_aggregated(S, &[G, G + 1]),
         rp_aggregated(&[group_record(G, &[]), group_record(G, &[0]), group_record(G + 1, &[S, 0])]),
     ];
-    let mut entries = [0x77; 16 * 6 + 3];
+    let mut entries = [0x77; 20 * 6 + 3];
     assert_eq!(read_asserts(&aggregated(&records), &mut entries), Ok((Kind::Aggregated, 6)));
     let expected = [
         entry(G, S, 110, 20),

@@ -1,10 +1,9 @@
 //! The report of a file of messages. All totals and means are worked out by
 //! hand; those of random files are held against the reading calls.
 mod common;
+use common::v4::*;
 use common::*;
 use second::counters::{add, Count, Counters, Direction};
-use second::hello::{read_hello, write_hello};
-use second::read::{header, read_asserts, read_pairs};
 use second::report::*;
 use second::rng::Rng;
 use second::{Answer, Kind};

@@ -1,10 +1,10 @@
 //! Trains of random lists read back as the list, Hellos as what was said, and
 //! nothing else is written.
 mod common;
+use common::v4::*;
 use common::*;
-use second::hello::*;
-use second::pack::*;
-use second::read::*;
+use second::hello::Hello;
+use second::pack::USUAL_LIMIT;
 use second::rng::Rng;
 use second::Kind;
 use std::collections::HashSet;
@@ -42,7 +42,7 @@ fn small_limits() {
             let list = random_entries(&mut rng, count);
             train(&AGGREGATED, &list, limit);
             train(&SIMPLE, &list, limit);
-            assert_eq!(train(&ASSERT, &list, limit), list.len() / 16);
+            assert_eq!(train(&ASSERT, &list, limit), list.len() / ASSERT_ENTRY);
         }
         let list = random_pairs(&mut rng, 20, 1);
         assert_eq!(train(&NULL_REGISTER, &list, limit), 20usize.div_ceil((limit - 4) / 14));
@@ -118,7 +118,7 @@ fn choice_of_two() {
         for _ in 0..20 {
             let count = rng.below(12);
             let list = random_entries(&mut rng, count);
-            both(&list, rng.below(list.len() / 16 + 1), limit);
+            both(&list, rng.below(list.len() / ASSERT_ENTRY + 1), limit);
         }
     }
     let (mut a, mut b) = ([0; 100], [0; 100]);

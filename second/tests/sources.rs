@@ -2,9 +2,9 @@
 //! that is packed: none of 224.0.0.0/4, not 255.255.255.255, and 0 where the
 //! rule book has it. For a source that is cut, places.rs has the places.
 mod common;
+use common::v4::*;
 use common::*;
-use second::pack::pack_both;
-use second::read::*;
+use second::read::{AssertRecord, PairRecord, Record};
 use second::Kind;
 
 const G: u32 = 0xE801_0101;
@@ -202,17 +202,17 @@ fn each_address(cases: &[Case], size: usize, read: Read) {
 
 #[test]
 fn assert_records() {
-    each_address(&RECORDS, 16, read_asserts);
+    each_address(&RECORDS, ASSERT_ENTRY, read_asserts);
 }
 
 #[test]
 fn aggregated_records() {
-    each_address(&AGGREGATED_RECORDS, 16, read_asserts);
+    each_address(&AGGREGATED_RECORDS, ASSERT_ENTRY, read_asserts);
 }
 
 #[test]
 fn pairs() {
-    each_address(&PAIRS, 8, read_pairs);
+    each_address(&PAIRS, PAIR_ENTRY, read_pairs);
 }
 
 /// A record at 5 has its source at 13.
@@ -229,12 +229,13 @@ fn records_read_singly() {
     for (kind, r_preference, zero) in kinds {
         let octets = |source| [vec![0xE0; 5], assert_record(G, source, r_preference, 20)].concat();
         let read = |source| read_record(&octets(source), 5, kind);
-        let found = |source| match kind {
+        let found = |source: u32| match kind {
             Kind::Assert | Kind::Simple => {
-                let record = AssertRecord { group: G, source, r_preference, metric: 20 };
+                let record =
+                    AssertRecord { group: G.into(), source: source.into(), r_preference, metric: 20 };
                 Ok((Record::Assert(record), 27))
             }
-            _ => Ok((Record::Pair(PairRecord { group: G, source }), 19)),
+            _ => Ok((Record::Pair(PairRecord { group: G.into(), source: source.into() }), 19)),
         };
         for source in EDGE_SOURCES {
             assert_eq!(read(source), found(source), "{kind:?}: {source:08x}");
@@ -322,7 +323,7 @@ fn before_the_source() {
 /// A list for a form, of these sources; R is set in asserts only.
 fn list(form: &Form, r: u32, sources: &[u32]) -> Vec<u8> {
     let one = |source: &u32| match form.size {
-        16 => entry(G, *source, r | 110, 20),
+        ASSERT_ENTRY => entry(G, *source, r | 110, 20),
         _ => pair(G, *source),
     };
     sources.iter().flat_map(one).collect()
@@ -399,7 +400,7 @@ fn an_entry_before_the_start() {
         };
         for bad in NO_SOURCES {
             let list = list(form, r, &[bad, S]);
-            let (mut buffer, mut entries) = ([0; 38], [0; 16]);
+            let (mut buffer, mut entries) = ([0; 38], [0; 20]);
             assert_eq!((form.pack)(&list, 1, 38, &mut buffer), Ok((length, 1)));
             assert_eq!((form.read)(&buffer[..length], &mut entries), Ok((form.kind, 1)));
             assert_eq!(entries[..form.size], list[form.size..]);
@@ -431,8 +432,8 @@ fn bad_groups_and_bad_sources() {
     every_call(|form, r| {
         let good = list(form, r, &[S]);
         let bad_source = list(form, r, &[0xEFFF_FFFF]);
-        let bad_group = [&S.to_be_bytes()[..], &good[4..]].concat();
-        let both = [&S.to_be_bytes()[..], &bad_source[4..]].concat();
+        let bad_group = [&good[..4], &S.to_be_bytes()[..], &good[8..]].concat();
+        let both = [&good[..4], &S.to_be_bytes()[..], &bad_source[8..]].concat();
         packing_refused(form, &[&good[..], &bad_source, &bad_group].concat(), 0, 38, 38, (7, 1));
         packing_refused(form, &[&good[..], &bad_group, &bad_source].concat(), 0, 38, 38, (7, 1));
         packing_refused(form, &[&good[..], &both, &good].concat(), 0, 38, 38, (7, 1));
@@ -444,7 +445,7 @@ fn bad_groups_and_bad_sources() {
 fn source_0_in_entries() {
     every_call(|form, r| {
         let list = list(form, r, &[S, 0]);
-        let allowed = if form.size == 16 { r == R } else { form.kind == Kind::RegisterStop };
+        let allowed = if form.size == ASSERT_ENTRY { r == R } else { form.kind == Kind::RegisterStop };
         if allowed {
             assert!((form.pack)(&list, 1, 38, &mut [0; 38]).is_ok_and(|(_, taken)| taken == 1));
         } else {

@@ -1,8 +1,8 @@
 //! Limit 0 is read as 556, in all packing calls and in the choice. What is
 //! expected is worked out from the sizes of the rule book.
 mod common;
+use common::v4::*;
 use common::*;
-use second::pack::*;
 use second::Answer;
 
 const G: u32 = 0xE801_0101;
@@ -104,7 +104,7 @@ fn room_for_556() {
             (&list[..], end, Ok((0, 0))),
             (&list[..], end + 1, refusal(10, 0)),
             (&list[1..], 0, refusal(10, 0)),
-            (&[0; 16][..], 0, refusal(7, 0)),
+            (&[0; 60][..], 0, refusal(7, 0)),
         ];
         for (list, start, answer) in calls {
             // One octet less is refused first, with nothing written.

@@ -2,11 +2,10 @@
 //! 8.4.4 and pimd 2.3.2 on test LANs), and packed registers with their values
 //! as another reader gives them.
 mod common;
+use common::v4::*;
 use common::*;
-use second::hello::*;
-use second::neighbours::*;
-use second::pack::*;
-use second::read::*;
+use second::hello::Hello;
+use second::neighbours::{Neighbour, Table};
 use second::Kind;
 
 /// A Hello, its holdtime and its priority.
@@ -194,7 +193,7 @@ fn hellos_written() {
 fn asserts() {
     for (text, group, source, r_preference, metric) in ASSERTS {
         let expected = entry(*group, *source, *r_preference, *metric);
-        let mut entries = [0; 16];
+        let mut entries = [0; 20];
         assert_eq!(read_asserts(&hex(text), &mut entries), Ok((Kind::Assert, 1)));
         assert_eq!(entries[..], expected);
         let mut buffer = [0; 38];
@@ -208,14 +207,14 @@ fn asserts() {
 fn pairs(text: &str, kind: Kind, expected: &[(u32, u32)]) {
     let expected: Vec<u8> = expected.iter().flat_map(|(group, source)| pair(*group, *source)).collect();
     let mut entries = vec![0; expected.len()];
-    assert_eq!(read_pairs(&hex(text), &mut entries), Ok((kind, expected.len() / 8)));
+    assert_eq!(read_pairs(&hex(text), &mut entries), Ok((kind, expected.len() / PAIR_ENTRY)));
     assert_eq!(entries, expected);
     let mut written = hex(text);
     written[1] &= 0xF0;
     seal(&mut written);
     let mut buffer = [0; 100];
     let pack = if kind == Kind::NullRegister { pack_null_register } else { pack_register_stop };
-    assert_eq!(pack(&entries, 0, 100, &mut buffer), Ok((written.len(), entries.len() / 8)));
+    assert_eq!(pack(&entries, 0, 100, &mut buffer), Ok((written.len(), entries.len() / PAIR_ENTRY)));
     assert_eq!(buffer[..written.len()], written);
 }
 
@@ -244,7 +243,7 @@ fn packed_registers() {
 
 fn row(router: &(u32, Option<u32>)) -> Neighbour {
     Neighbour {
-        address: router.0,
+        address: router.0.into(),
         priority: router.1.unwrap_or(0),
         has_priority: router.1.is_some(),
         packs: false,

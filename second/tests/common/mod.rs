@@ -1,16 +1,25 @@
 //! What the tests share.
 #![allow(dead_code)]
 
+pub mod damage;
 pub mod sheets;
+pub mod v4;
+pub mod v6;
 
 use second::checksum::checksum;
 use second::hello::Hello;
-use second::pack::*;
-use second::read::{read_asserts, read_pairs};
 use second::rng::Rng;
 use second::{Answer, Kind, Refusal};
+use v4::*;
 
 pub const R: u32 = 0x8000_0000;
+
+/// The octets of an IPv4 entry: of an assert, and of a pair.
+pub const ASSERT_ENTRY: usize = 20;
+pub const PAIR_ENTRY: usize = 12;
+
+/// What an IPv4 entry begins with: its family and three zeros.
+pub const PREFIX: u32 = 0x0100_0000;
 
 /// Sources about the borders of what is allowed: 0.0.0.1, 0.255.255.255,
 /// 1.0.0.0, 223.255.255.255, 240.0.0.0, 240.0.0.1, 255.0.0.0, 255.255.255.254.
@@ -32,14 +41,16 @@ pub struct Form {
     pub read: Read,
 }
 
-pub const ASSERT: Form = Form { kind: Kind::Assert, size: 16, pack: pack_assert, read: read_asserts };
-pub const SIMPLE: Form = Form { kind: Kind::Simple, size: 16, pack: pack_simple, read: read_asserts };
+pub const ASSERT: Form =
+    Form { kind: Kind::Assert, size: ASSERT_ENTRY, pack: pack_assert, read: read_asserts };
+pub const SIMPLE: Form =
+    Form { kind: Kind::Simple, size: ASSERT_ENTRY, pack: pack_simple, read: read_asserts };
 pub const AGGREGATED: Form =
-    Form { kind: Kind::Aggregated, size: 16, pack: pack_aggregated, read: read_asserts };
+    Form { kind: Kind::Aggregated, size: ASSERT_ENTRY, pack: pack_aggregated, read: read_asserts };
 pub const NULL_REGISTER: Form =
-    Form { kind: Kind::NullRegister, size: 8, pack: pack_null_register, read: read_pairs };
+    Form { kind: Kind::NullRegister, size: PAIR_ENTRY, pack: pack_null_register, read: read_pairs };
 pub const REGISTER_STOP: Form =
-    Form { kind: Kind::RegisterStop, size: 8, pack: pack_register_stop, read: read_pairs };
+    Form { kind: Kind::RegisterStop, size: PAIR_ENTRY, pack: pack_register_stop, read: read_pairs };
 pub const FORMS: [Form; 5] = [ASSERT, SIMPLE, AGGREGATED, NULL_REGISTER, REGISTER_STOP];
 
 /// A refusal at the first octet of a record, option or attribute, or at none.
@@ -59,11 +70,11 @@ pub fn hex(text: &str) -> Vec<u8> {
 }
 
 pub fn entry(group: u32, source: u32, r_preference: u32, metric: u32) -> Vec<u8> {
-    [group, source, r_preference, metric].iter().flat_map(|word| word.to_be_bytes()).collect()
+    words(&[PREFIX, group, source, r_preference, metric])
 }
 
 pub fn pair(group: u32, source: u32) -> Vec<u8> {
-    [group, source].iter().flat_map(|word| word.to_be_bytes()).collect()
+    words(&[PREFIX, group, source])
 }
 
 /// Sets the checksum of a message of at least 4 octets.
@@ -160,13 +171,13 @@ pub fn random_entry(rng: &mut Rng) -> Vec<u8> {
 
 pub fn random_entries(rng: &mut Rng, count: usize) -> Vec<u8> {
     let mut list: Vec<u8> = Vec::new();
-    while list.len() < 16 * count {
+    while list.len() < ASSERT_ENTRY * count {
         let next = random_entry(rng);
         for _ in 0..=rng.below(3) {
             list.extend_from_slice(&next);
         }
     }
-    list.truncate(16 * count);
+    list.truncate(ASSERT_ENTRY * count);
     list
 }
 

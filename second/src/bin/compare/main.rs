@@ -2,10 +2,12 @@
 //! first one's C interface: answers, refusals and all lent memory.
 //!
 //! `cargo run --release --bin compare` runs the usual seed; `-- --seed S` another
-//! one, and `--rounds R` the random parts R times. The status is 0 only if there
-//! was no difference and all calls, all refusals, faults of all fields, all
-//! outcomes of a report, bad sources in all that has sources, all outcomes of
-//! sheets of both forms and tables of all lengths occurred.
+//! one, and `--rounds R` the random parts R times in each family. The status is 0
+//! only if there was no difference and all calls, all refusals, faults of all
+//! fields, all outcomes of a report, bad sources in all that has sources, all
+//! outcomes of sheets of all forms, tables of all lengths, both families and none
+//! named to all calls, other paths, and entries and addresses of the other family
+//! occurred.
 
 #[cfg(archive)]
 mod against;

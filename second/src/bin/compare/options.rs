@@ -3,12 +3,12 @@
 pub const USAGE: &str = "usage: compare [--seed S] [--rounds R]";
 
 const USUAL_SEED: u64 = 9466;
-const USUAL_ROUNDS: usize = 2;
+const USUAL_ROUNDS: usize = 1;
 
 #[derive(Clone, Copy, Debug, PartialEq, Eq)]
 pub struct Options {
     pub seed: u64,
-    /// How often the random parts are run.
+    /// How often the random parts are run, in each family.
     pub rounds: usize,
 }
 

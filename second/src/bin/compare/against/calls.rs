@@ -2,62 +2,58 @@
 //! apart from all other, as `pim.h` asks; its pointers are NULL only where the
 //! length is 0.
 
+use super::expect::path_form;
 use super::ffi::*;
+use super::lab::Named;
 use super::lent::Lent;
 
-pub fn header(m: &Lent) -> HeaderAnswer {
-    unsafe { pim_header(m.pointer(), m.length()) }
+pub fn header(named: Named, m: &Lent) -> HeaderAnswer {
+    unsafe { pim_header(named.family, path_form(named.path), m.pointer(), m.length()) }
 }
 
-pub fn body(m: &Lent) -> usize {
-    unsafe { pim_body(m.pointer(), m.length()) }
+pub fn body(named: Named, m: &Lent) -> usize {
+    unsafe { pim_body(named.family, path_form(named.path), m.pointer(), m.length()) }
 }
 
-pub fn read_record(kind: u8, octets: &Lent, at: usize) -> RecordAnswer {
-    unsafe { pim_read_record(kind, octets.pointer(), octets.length(), at) }
+pub fn read_record(family: u8, kind: u8, octets: &Lent, at: usize) -> RecordAnswer {
+    unsafe { pim_read_record(family, kind, octets.pointer(), octets.length(), at) }
 }
 
-pub fn read_asserts(m: &Lent, entries: &mut Lent) -> ReadAnswer {
-    unsafe { pim_read_asserts(m.pointer(), m.length(), entries.pointer_mut(), entries.length()) }
+pub fn read_asserts(named: Named, m: &Lent, entries: &mut Lent) -> ReadAnswer {
+    let (room, to) = (entries.length(), entries.pointer_mut());
+    unsafe { pim_read_asserts(named.family, path_form(named.path), m.pointer(), m.length(), to, room) }
 }
 
-pub fn read_pairs(m: &Lent, entries: &mut Lent) -> ReadAnswer {
-    unsafe { pim_read_pairs(m.pointer(), m.length(), entries.pointer_mut(), entries.length()) }
+pub fn read_pairs(named: Named, m: &Lent, entries: &mut Lent) -> ReadAnswer {
+    let (room, to) = (entries.length(), entries.pointer_mut());
+    unsafe { pim_read_pairs(named.family, path_form(named.path), m.pointer(), m.length(), to, room) }
 }
 
-pub fn read_hello(m: &Lent) -> HelloAnswer {
-    unsafe { pim_read_hello(m.pointer(), m.length()) }
+pub fn read_hello(named: Named, m: &Lent) -> HelloAnswer {
+    unsafe { pim_read_hello(named.family, path_form(named.path), m.pointer(), m.length()) }
 }
 
-pub fn write_hello(said: Hello, buffer: &mut Lent) -> LengthAnswer {
-    unsafe { pim_write_hello(said, buffer.pointer_mut(), buffer.length()) }
+pub fn write_hello(named: Named, said: Hello, buffer: &mut Lent) -> LengthAnswer {
+    let (room, to) = (buffer.length(), buffer.pointer_mut());
+    unsafe { pim_write_hello(named.family, path_form(named.path), said, to, room) }
 }
 
-fn pack(call: Pack, list: &Lent, start: usize, limit: usize, buffer: &mut Lent) -> PackAnswer {
-    unsafe { call(list.pointer(), list.length(), start, limit, buffer.pointer_mut(), buffer.length()) }
-}
-
-pub fn pack_assert(list: &Lent, start: usize, limit: usize, buffer: &mut Lent) -> PackAnswer {
-    pack(pim_pack_assert, list, start, limit, buffer)
-}
-
-pub fn pack_simple(list: &Lent, start: usize, limit: usize, buffer: &mut Lent) -> PackAnswer {
-    pack(pim_pack_simple, list, start, limit, buffer)
-}
-
-pub fn pack_aggregated(list: &Lent, start: usize, limit: usize, buffer: &mut Lent) -> PackAnswer {
-    pack(pim_pack_aggregated, list, start, limit, buffer)
-}
-
-pub fn pack_null_register(list: &Lent, start: usize, limit: usize, buffer: &mut Lent) -> PackAnswer {
-    pack(pim_pack_null_register, list, start, limit, buffer)
-}
-
-pub fn pack_register_stop(list: &Lent, start: usize, limit: usize, buffer: &mut Lent) -> PackAnswer {
-    pack(pim_pack_register_stop, list, start, limit, buffer)
+/// One of the packing calls.
+pub fn pack(
+    call: Pack,
+    named: Named,
+    list: &Lent,
+    start: usize,
+    limit: usize,
+    buffer: &mut Lent,
+) -> PackAnswer {
+    let (room, to) = (buffer.length(), buffer.pointer_mut());
+    let (entries, size) = (list.pointer(), list.length());
+    unsafe { call(named.family, path_form(named.path), entries, size, start, limit, to, room) }
 }
 
 pub fn pack_both(
+    named: Named,
     list: &Lent,
     start: usize,
     limit: usize,
@@ -66,8 +62,9 @@ pub fn pack_both(
 ) -> ChoiceAnswer {
     let (simple_room, simple) = (simple.length(), simple.pointer_mut());
     let (room, aggregated) = (aggregated.length(), aggregated.pointer_mut());
+    let (entries, size, path) = (list.pointer(), list.length(), path_form(named.path));
     unsafe {
-        pim_pack_both(list.pointer(), list.length(), start, limit, simple, simple_room, aggregated, room)
+        pim_pack_both(named.family, path, entries, size, start, limit, simple, simple_room, aggregated, room)
     }
 }
 
@@ -75,20 +72,20 @@ pub fn table_empty() -> Table {
     unsafe { pim_table_empty() }
 }
 
-pub fn hear(table: Table, address: u32, said: Hello) -> TableAnswer {
-    unsafe { pim_hear(table, address, said) }
+pub fn hear(family: u8, table: Table, address: Address, said: Hello) -> TableAnswer {
+    unsafe { pim_hear(family, table, address, said) }
 }
 
-pub fn forget(table: Table, address: u32) -> TableAnswer {
-    unsafe { pim_forget(table, address) }
+pub fn forget(family: u8, table: Table, address: Address) -> TableAnswer {
+    unsafe { pim_forget(family, table, address) }
 }
 
-pub fn packing_allowed(table: Table) -> AllowedAnswer {
-    unsafe { pim_packing_allowed(table) }
+pub fn packing_allowed(family: u8, table: Table) -> AllowedAnswer {
+    unsafe { pim_packing_allowed(family, table) }
 }
 
-pub fn elect(table: Table, address: u32, priority: u32) -> ElectAnswer {
-    unsafe { pim_elect(table, address, priority) }
+pub fn elect(family: u8, table: Table, address: Address, priority: u32) -> ElectAnswer {
+    unsafe { pim_elect(family, table, address, priority) }
 }
 
 pub fn elect_among(rows: &Lent<Neighbour>) -> ElectAnswer {
@@ -138,22 +135,28 @@ pub fn popcount_merge(own: PopcountOwn, e: bool, contributors: &Lent, buffer: &m
     unsafe { pim_popcount_merge(own, e, contributors.pointer(), contributors.length(), to, room) }
 }
 
-pub fn check_sheet(octets: &Lent) -> CheckAnswer {
-    unsafe { pim_check_sheet(octets.pointer(), octets.length()) }
+pub fn check_sheet(family: u8, octets: &Lent) -> CheckAnswer {
+    unsafe { pim_check_sheet(family, octets.pointer(), octets.length()) }
 }
 
-pub fn read_sheet(octets: &Lent, asserts: &mut Lent, pairs: &mut Lent) -> SheetAnswer {
+pub fn read_sheet(family: u8, octets: &Lent, asserts: &mut Lent, pairs: &mut Lent) -> SheetAnswer {
     let (assert_room, asserts) = (asserts.length(), asserts.pointer_mut());
     let (pair_room, pairs) = (pairs.length(), pairs.pointer_mut());
-    unsafe { pim_read_sheet(octets.pointer(), octets.length(), asserts, assert_room, pairs, pair_room) }
+    let (sheet, n) = (octets.pointer(), octets.length());
+    unsafe { pim_read_sheet(family, sheet, n, asserts, assert_room, pairs, pair_room) }
 }
 
-pub fn write_sheet(asserts: &Lent, pairs: &Lent, table: Table, buffer: &mut Lent) -> LengthAnswer {
+pub fn write_sheet(
+    family: u8,
+    asserts: &Lent,
+    pairs: &Lent,
+    table: Table,
+    buffer: &mut Lent,
+) -> LengthAnswer {
     let (assert_size, asserts) = (asserts.length(), asserts.pointer());
     let (pair_size, pairs) = (pairs.length(), pairs.pointer());
-    unsafe {
-        pim_write_sheet(asserts, assert_size, pairs, pair_size, table, buffer.pointer_mut(), buffer.length())
-    }
+    let (room, to) = (buffer.length(), buffer.pointer_mut());
+    unsafe { pim_write_sheet(family, asserts, assert_size, pairs, pair_size, table, to, room) }
 }
 
 pub fn checksum(m: &Lent) -> u16 {
@@ -162,4 +165,12 @@ pub fn checksum(m: &Lent) -> u16 {
 
 pub fn checksum_holds(m: &Lent) -> u8 {
     unsafe { pim_checksum_holds(m.pointer(), m.length()) }
+}
+
+pub fn checksum_ipv6(path: Path, m: &Lent) -> u16 {
+    unsafe { pim_checksum_ipv6(path, m.pointer(), m.length()) }
+}
+
+pub fn checksum_ipv6_holds(path: Path, m: &Lent) -> u8 {
+    unsafe { pim_checksum_ipv6_holds(path, m.pointer(), m.length()) }
 }

@@ -19,7 +19,7 @@ pub fn compare(run: &mut Run) {
             count(run, &mut lent, received, kind, records);
         }
     }
-    for _ in 0..300 * run.rounds {
+    for _ in 0..600 * run.rounds {
         history(run);
     }
 }

@@ -8,7 +8,7 @@ use second::neighbours::{Neighbour, Table};
 use second::popcount::{Attribute, Own};
 use second::read::Record;
 use second::report::{Fraction, Report, Tally};
-use second::{Answer, Kind, Refusal};
+use second::{Address, Answer, Kind, Path, Refusal};
 use std::cmp::Ordering;
 use std::fmt::Debug;
 
@@ -60,6 +60,14 @@ with_refusal! {
     ElectAnswer PopcountReadAnswer LengthAnswer CheckAnswer SheetAnswer
 }
 
+pub fn address_form(address: Address) -> ffi::Address {
+    ffi::Address { high: address.high, low: address.low }
+}
+
+pub fn path_form(path: Path) -> ffi::Path {
+    ffi::Path { source: address_form(path.source), destination: address_form(path.destination) }
+}
+
 fn refusal(refusal: Refusal) -> ffi::Refusal {
     ffi::Refusal { number: refusal.number, place: refusal.place }
 }
@@ -79,16 +87,16 @@ pub fn record(answer: Answer<(Record, usize)>) -> ffi::RecordAnswer {
     either(answer, |(record, next)| match record {
         Record::Assert(a) => ffi::RecordAnswer {
             next,
-            group: a.group,
-            source: a.source,
+            group: address_form(a.group),
+            source: address_form(a.source),
             r_preference: a.r_preference,
             metric: a.metric,
             ..Default::default()
         },
         Record::Pair(pair) => ffi::RecordAnswer {
             next,
-            group: pair.group,
-            source: pair.source,
+            group: address_form(pair.group),
+            source: address_form(pair.source),
             is_pair: 1,
             ..Default::default()
         },
@@ -137,7 +145,7 @@ pub fn choice(answer: Answer<(bool, usize, usize)>) -> ffi::ChoiceAnswer {
 
 pub fn row_form(row: &Neighbour) -> ffi::Neighbour {
     ffi::Neighbour {
-        address: row.address,
+        address: address_form(row.address),
         priority: row.priority,
         has_priority: u8::from(row.has_priority),
         packs: u8::from(row.packs),
@@ -176,8 +184,8 @@ pub fn allowed(answer: Answer<bool>) -> ffi::AllowedAnswer {
     either(answer, |allowed| ffi::AllowedAnswer { allowed: u8::from(allowed), ..Default::default() })
 }
 
-pub fn elected(answer: Answer<u32>) -> ffi::ElectAnswer {
-    either(answer, |address| ffi::ElectAnswer { address, ..Default::default() })
+pub fn elected(answer: Answer<Address>) -> ffi::ElectAnswer {
+    either(answer, |address| ffi::ElectAnswer { address: address_form(address), ..Default::default() })
 }
 
 fn totals(count: &Count) -> ffi::Totals {
@@ -298,9 +306,9 @@ fn counts(asserts: usize, pairs: usize, table: &Table) -> ffi::SheetCounts {
     ffi::SheetCounts { asserts, pairs, neighbours: table.count }
 }
 
-pub fn check(answer: Answer<(usize, usize, Table)>) -> ffi::CheckAnswer {
-    either(answer, |(asserts, pairs, table)| ffi::CheckAnswer {
-        counts: counts(asserts, pairs, &table),
+pub fn check(answer: Answer<[usize; 3]>) -> ffi::CheckAnswer {
+    either(answer, |[asserts, pairs, neighbours]| ffi::CheckAnswer {
+        counts: ffi::SheetCounts { asserts, pairs, neighbours },
         ..Default::default()
     })
 }

@@ -15,6 +15,16 @@ macro_rules! records {
 }
 
 records! {
+    Address: 16 {
+        high: u64,
+        low: u64,
+    }
+
+    Path: 32 {
+        source: Address,
+        destination: Address,
+    }
+
     Refusal: 16 {
         number: u8,
         place: usize,
@@ -30,11 +40,11 @@ records! {
         kind: u8,
     }
 
-    RecordAnswer: 48 {
+    RecordAnswer: 72 {
         refusal: Refusal,
         next: usize,
-        group: u32,
-        source: u32,
+        group: Address,
+        source: Address,
         r_preference: u32,
         metric: u32,
         is_pair: u8,
@@ -71,20 +81,20 @@ records! {
         aggregated: u8,
     }
 
-    Neighbour: 12 {
-        address: u32,
+    Neighbour: 24 {
+        address: Address,
         priority: u32,
         has_priority: u8,
         packs: u8,
         holdtime: u16,
     }
 
-    Table: 776 {
+    Table: 1544 {
         rows: Rows,
         count: usize,
     }
 
-    TableAnswer: 800 {
+    TableAnswer: 1568 {
         refusal: Refusal,
         table: Table,
         done: u8,
@@ -95,9 +105,9 @@ records! {
         allowed: u8,
     }
 
-    ElectAnswer: 24 {
+    ElectAnswer: 32 {
         refusal: Refusal,
-        address: u32,
+        address: Address,
     }
 
     Totals: 16 {
@@ -185,7 +195,7 @@ records! {
         counts: SheetCounts,
     }
 
-    SheetAnswer: 816 {
+    SheetAnswer: 1584 {
         refusal: Refusal,
         counts: SheetCounts,
         table: Table,
@@ -204,19 +214,36 @@ impl Default for Rows {
 }
 
 /// A packing call.
-pub type Pack = unsafe extern "C" fn(*const u8, usize, usize, usize, *mut u8, usize) -> PackAnswer;
+pub type Pack = unsafe extern "C" fn(u8, Path, *const u8, usize, usize, usize, *mut u8, usize) -> PackAnswer;
 
 #[link(name = "pim", kind = "static")]
 extern "C" {
-    pub fn pim_header(m: *const u8, n: usize) -> HeaderAnswer;
-    pub fn pim_body(m: *const u8, n: usize) -> usize;
-    pub fn pim_read_record(kind: u8, o: *const u8, n: usize, at: usize) -> RecordAnswer;
-    pub fn pim_read_asserts(m: *const u8, n: usize, entries: *mut u8, room: usize) -> ReadAnswer;
-    pub fn pim_read_pairs(m: *const u8, n: usize, entries: *mut u8, room: usize) -> ReadAnswer;
-    pub fn pim_read_hello(m: *const u8, n: usize) -> HelloAnswer;
+    pub fn pim_header(family: u8, path: Path, m: *const u8, n: usize) -> HeaderAnswer;
+    pub fn pim_body(family: u8, path: Path, m: *const u8, n: usize) -> usize;
+    pub fn pim_read_record(family: u8, kind: u8, o: *const u8, n: usize, at: usize) -> RecordAnswer;
+    pub fn pim_read_asserts(
+        family: u8,
+        path: Path,
+        m: *const u8,
+        n: usize,
+        entries: *mut u8,
+        room: usize,
+    ) -> ReadAnswer;
+    pub fn pim_read_pairs(
+        family: u8,
+        path: Path,
+        m: *const u8,
+        n: usize,
+        entries: *mut u8,
+        room: usize,
+    ) -> ReadAnswer;
+    pub fn pim_read_hello(family: u8, path: Path, m: *const u8, n: usize) -> HelloAnswer;
 
-    pub fn pim_write_hello(said: Hello, buffer: *mut u8, room: usize) -> LengthAnswer;
+    pub fn pim_write_hello(family: u8, path: Path, said: Hello, buffer: *mut u8, room: usize)
+        -> LengthAnswer;
     pub fn pim_pack_assert(
+        family: u8,
+        path: Path,
         entries: *const u8,
         size: usize,
         start: usize,
@@ -225,6 +252,8 @@ extern "C" {
         room: usize,
     ) -> PackAnswer;
     pub fn pim_pack_simple(
+        family: u8,
+        path: Path,
         entries: *const u8,
         size: usize,
         start: usize,
@@ -233,6 +262,8 @@ extern "C" {
         room: usize,
     ) -> PackAnswer;
     pub fn pim_pack_aggregated(
+        family: u8,
+        path: Path,
         entries: *const u8,
         size: usize,
         start: usize,
@@ -241,6 +272,8 @@ extern "C" {
         room: usize,
     ) -> PackAnswer;
     pub fn pim_pack_null_register(
+        family: u8,
+        path: Path,
         entries: *const u8,
         size: usize,
         start: usize,
@@ -249,6 +282,8 @@ extern "C" {
         room: usize,
     ) -> PackAnswer;
     pub fn pim_pack_register_stop(
+        family: u8,
+        path: Path,
         entries: *const u8,
         size: usize,
         start: usize,
@@ -257,6 +292,8 @@ extern "C" {
         room: usize,
     ) -> PackAnswer;
     pub fn pim_pack_both(
+        family: u8,
+        path: Path,
         entries: *const u8,
         size: usize,
         start: usize,
@@ -268,10 +305,10 @@ extern "C" {
     ) -> ChoiceAnswer;
 
     pub fn pim_table_empty() -> Table;
-    pub fn pim_hear(table: Table, address: u32, said: Hello) -> TableAnswer;
-    pub fn pim_forget(table: Table, address: u32) -> TableAnswer;
-    pub fn pim_packing_allowed(table: Table) -> AllowedAnswer;
-    pub fn pim_elect(table: Table, address: u32, priority: u32) -> ElectAnswer;
+    pub fn pim_hear(family: u8, table: Table, address: Address, said: Hello) -> TableAnswer;
+    pub fn pim_forget(family: u8, table: Table, address: Address) -> TableAnswer;
+    pub fn pim_packing_allowed(family: u8, table: Table) -> AllowedAnswer;
+    pub fn pim_elect(family: u8, table: Table, address: Address, priority: u32) -> ElectAnswer;
     pub fn pim_elect_among(rows: *const Neighbour, count: usize) -> ElectAnswer;
 
     pub fn pim_counters_none() -> Counters;
@@ -294,8 +331,9 @@ extern "C" {
         room: usize,
     ) -> LengthAnswer;
 
-    pub fn pim_check_sheet(o: *const u8, n: usize) -> CheckAnswer;
+    pub fn pim_check_sheet(family: u8, o: *const u8, n: usize) -> CheckAnswer;
     pub fn pim_read_sheet(
+        family: u8,
         o: *const u8,
         n: usize,
         asserts: *mut u8,
@@ -304,6 +342,7 @@ extern "C" {
         pair_room: usize,
     ) -> SheetAnswer;
     pub fn pim_write_sheet(
+        family: u8,
         asserts: *const u8,
         assert_size: usize,
         pairs: *const u8,
@@ -315,4 +354,6 @@ extern "C" {
 
     pub fn pim_checksum(m: *const u8, n: usize) -> u16;
     pub fn pim_checksum_holds(m: *const u8, n: usize) -> u8;
+    pub fn pim_checksum_ipv6(path: Path, m: *const u8, n: usize) -> u16;
+    pub fn pim_checksum_ipv6_holds(path: Path, m: *const u8, n: usize) -> u8;
 }

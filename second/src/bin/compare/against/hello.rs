@@ -1,6 +1,7 @@
 //! Hellos written, and read back by both.
 
 use super::ffi::Hello;
+use super::lab::{Named, NEITHER};
 use super::tally::READ_BACK;
 use super::{calls, expect, make, read, Run};
 use second::hello::write_hello;
@@ -28,10 +29,10 @@ fn edges(run: &mut Run) {
     }
 }
 
-/// All shapes of every holdtime with the greatest priority: the checksum has
-/// every carry, also one that another carry makes.
+/// All shapes of every other holdtime with the greatest priority: the checksum
+/// has every carry, also one that another carry makes.
 fn carries(run: &mut Run) {
-    for holdtime in 0..=u16::MAX {
+    for holdtime in (run.below(2)..=0xFFFF).step_by(2).map(|holdtime| holdtime as u16) {
         SHAPES.iter().for_each(|shape| one(run, hello((holdtime, u32::MAX), *shape), 22));
     }
 }
@@ -46,6 +47,7 @@ fn random(run: &mut Run) {
         if run.rng.one_in(4) {
             priority = make::pick(&mut run.rng, &PRIORITIES);
         }
+        run.new_path();
         let shape = make::pick(&mut run.rng, &SHAPES);
         every_room(run, hello((holdtime, priority), shape));
     }
@@ -62,20 +64,33 @@ fn every_room(run: &mut Run, said: Hello) {
     }
 }
 
-/// One call, and where it wrote a message, that read back.
+/// One call, and where it wrote a message, that read back; and sometimes one that
+/// names no family.
 fn one(run: &mut Run, said: Hello, room: usize) {
-    let mut buffer = run.room("buffer", room);
-    let first = calls::write_hello(said, &mut buffer);
-    let second = expect::length(write_hello(expect::said(said), buffer.second_mut()));
-    let numbers = format_args!("room {room}, {said:?}");
-    run.tally.call("pim_write_hello", numbers, &[&buffer], &first, &second);
-    if first.refusal.number == 0 {
-        read_back(run, said, &buffer.first()[..first.length]);
+    let named = run.lab.named();
+    if let Some(m) = written(run, named, said, room) {
+        read_back(run, named, said, &m);
+    }
+    if run.rng.one_in(20) {
+        let family = make::pick(&mut run.rng, &NEITHER);
+        written(run, Named { family, ..named }, said, room);
     }
 }
 
-fn read_back(run: &mut Run, said: Hello, m: &[u8]) {
-    let holds = read::hello(run, m) == expect::hello(Ok(expect::said(said)));
+/// The message, unless it was refused.
+fn written(run: &mut Run, named: Named, said: Hello, room: usize) -> Option<Vec<u8>> {
+    let mut buffer = run.room("buffer", room);
+    let first = calls::write_hello(named, said, &mut buffer);
+    let answer =
+        named.answer(|family, path| write_hello(family, path, expect::said(said), buffer.second_mut()));
+    let numbers = format_args!("{named:?}, room {room}, {said:?}");
+    run.tally.call("pim_write_hello", numbers, &[&buffer], &first, &expect::length(answer));
+    run.forms.named("pim_write_hello", named.family);
+    (first.refusal.number == 0).then(|| buffer.first()[..first.length].to_vec())
+}
+
+fn read_back(run: &mut Run, named: Named, said: Hello, m: &[u8]) {
+    let holds = read::hello(run, named, m) == expect::hello(Ok(expect::said(said)));
     let lent = run.input("message", m);
     run.tally.claim(READ_BACK, format_args!("{said:?}"), &lent, holds);
 }

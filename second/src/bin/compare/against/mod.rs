@@ -7,6 +7,7 @@ mod expect;
 mod ffi;
 mod forms;
 mod hello;
+mod lab;
 mod least;
 mod lent;
 mod make;
@@ -24,23 +25,27 @@ mod trains;
 
 use crate::options::Options;
 use forms::Forms;
+use lab::Lab;
 use lent::Lent;
 use outcomes::Outcomes;
 use places::Fields;
 use second::rng::Rng;
+use second::Family;
 use sources::Sources;
 use std::process::ExitCode;
 use tally::Tally;
 
-/// A run: the random numbers, what was counted, which fields were at fault, what
-/// came of the files reported, which sources were refused and accepted, what came
-/// of sheets and tables, and how often random parts are run.
+/// A run: the family that things are made for, the random numbers, what was
+/// counted, which fields were at fault, what came of the files reported, which
+/// sources were refused and accepted in each family, what came of sheets, tables,
+/// families and paths, and how often random parts are run.
 pub struct Run {
+    lab: Lab,
     rng: Rng,
     tally: Tally,
     fields: Fields,
     outcomes: Outcomes,
-    sources: Sources,
+    sources: [Sources; 2],
     forms: Forms,
     rounds: usize,
 }
@@ -54,6 +59,15 @@ impl Run {
         Lent::room(&mut self.rng, name, room)
     }
 
+    fn sources(&mut self, family: Family) -> &mut Sources {
+        &mut self.sources[usize::from(family.number()) - 1]
+    }
+
+    /// Another path for what is made from now on.
+    fn new_path(&mut self) {
+        self.lab.path = lab::any_path(&mut self.rng);
+    }
+
     fn below(&mut self, bound: usize) -> usize {
         self.rng.below(bound)
     }
@@ -62,26 +76,38 @@ impl Run {
 /// All comparisons, then the tables.
 pub fn all(options: Options) -> ExitCode {
     let mut run = Run {
+        lab: Lab::of(Family::Ipv4),
         rng: Rng::new(options.seed),
         tally: Tally::new(options),
         fields: Fields::default(),
         outcomes: Outcomes::default(),
-        sources: Sources::default(),
+        sources: Family::ALL.map(Sources::new),
         forms: Forms::default(),
         rounds: options.rounds,
     };
+    for family in Family::ALL {
+        run.lab = Lab::of(family);
+        for subject in [
+            read::compare,
+            hello::compare,
+            pack::compare,
+            trains::compare,
+            least::compare,
+            neighbours::compare,
+            sheet::compare,
+        ] {
+            subject(&mut run);
+        }
+    }
+    // Of no family, and of IPv4 alone.
+    run.lab = Lab::of(Family::Ipv4);
     for subject in [
         checksum::compare,
-        read::compare,
-        hello::compare,
-        pack::compare,
-        trains::compare,
-        least::compare,
-        neighbours::compare,
+        neighbours::compare_lists,
+        sheet::compare_beginnings,
         counters::compare,
         report::compare,
         popcount::compare,
-        sheet::compare,
     ] {
         subject(&mut run);
     }

@@ -5,47 +5,80 @@
 use super::lent::Lent;
 use super::tally::{CUT, INSIDE};
 use super::Run;
-use second::{Answer, Refusal};
+use second::{Answer, Family, Refusal};
 use std::collections::BTreeMap;
 
 /// What a field belongs to; the number of the refusal; and the fields that it
-/// has to occur at, counted from the first octet of what they belong to.
-const FIELDS: [(&str, u8, &[usize]); 20] = [
-    ("Zero and Reserved", 6, &[0, 1]),
-    ("assert record", 6, &[0, 8, 14, 18]),
-    ("assert record", 7, &[0, 8]),
-    ("octets after a plain assert", 6, &[0]),
-    ("source aggregated record", 6, &[0, 4, 8, 14, 16, 18, 26]),
-    ("source aggregated record", 7, &[8, 18, 26]),
-    ("RP aggregated record", 6, &[0, 4, 8, 10, 12, 20, 22, 24, 30]),
-    ("RP aggregated record", 7, &[12, 24, 30]),
-    ("null-register pair", 6, &[0, 8]),
-    ("null-register pair", 7, &[0, 8]),
-    ("register-stop pair", 6, &[0, 8]),
-    ("register-stop pair", 7, &[0, 8]),
-    ("single assert record", 6, &[0, 8, 14, 18]),
-    ("single assert record", 7, &[0, 8]),
-    ("single null-register pair", 6, &[0, 8]),
-    ("single null-register pair", 7, &[0, 8]),
-    ("single register-stop pair", 6, &[0, 8]),
-    ("single register-stop pair", 7, &[0, 8]),
-    ("option", 6, &[0, 2, 4]),
-    ("attribute", 6, &[0, 1, 2, 4, 6, 8, 12, 16, 18, 20, 21, 22, 23, 24]),
+/// has to occur at, counted from the first octet of what they belong to. In them
+/// a group stands for 8 octets and a source for 6; in IPv6 each has 12 more.
+const FIELDS: [(&str, u8, &[Field]); 20] = [
+    ("Zero and Reserved", 6, &[(0, 0), (1, 0)]),
+    ("assert record", 6, ASSERT),
+    ("assert record", 7, PAIR),
+    ("octets after a plain assert", 6, &[(0, 0)]),
+    ("source aggregated record", 6, &[(0, 0), (4, 0), (8, 0), (14, 1), (16, 1), (18, 1), (26, 2)]),
+    ("source aggregated record", 7, &[(8, 0), (18, 1), (26, 2)]),
+    ("RP aggregated record", 6, RP),
+    ("RP aggregated record", 7, &[(12, 0), (24, 1), (30, 2)]),
+    ("null-register pair", 6, PAIR),
+    ("null-register pair", 7, PAIR),
+    ("register-stop pair", 6, PAIR),
+    ("register-stop pair", 7, PAIR),
+    ("single assert record", 6, ASSERT),
+    ("single assert record", 7, PAIR),
+    ("single null-register pair", 6, PAIR),
+    ("single null-register pair", 7, PAIR),
+    ("single register-stop pair", 6, PAIR),
+    ("single register-stop pair", 7, PAIR),
+    ("option", 6, &[(0, 0), (2, 0), (4, 0)]),
+    ("attribute", 6, ATTRIBUTE),
 ];
 
-/// How often each field was at fault.
+/// A field's place in IPv4, and how many addresses stand before it.
+type Field = (usize, usize);
+
+const PAIR: &[Field] = &[(0, 0), (8, 1)];
+const ASSERT: &[Field] = &[(0, 0), (8, 1), (14, 2), (18, 2)];
+const RP: &[Field] = &[(0, 0), (4, 0), (8, 0), (10, 0), (12, 0), (20, 1), (22, 1), (24, 1), (30, 2)];
+const ATTRIBUTE: &[Field] = &[
+    (0, 0),
+    (1, 0),
+    (2, 0),
+    (4, 0),
+    (6, 0),
+    (8, 0),
+    (12, 0),
+    (16, 0),
+    (18, 0),
+    (20, 0),
+    (21, 0),
+    (22, 0),
+    (23, 0),
+    (24, 0),
+];
+
+/// How often each field was at fault, by family.
 #[derive(Default)]
-pub struct Fields(BTreeMap<(&'static str, u8, usize), u64>);
+pub struct Fields(BTreeMap<(Family, &'static str, u8, usize), u64>);
 
 impl Fields {
-    fn count(&mut self, what: &'static str, refusal: &Refusal) {
-        let field = (what, refusal.number, refusal.place - refusal.within);
+    fn count(&mut self, family: Family, what: &'static str, refusal: &Refusal) {
+        let field = (family, what, refusal.number, refusal.place - refusal.within);
         *self.0.entry(field).or_default() += 1;
     }
 
-    /// The field that was at fault least, of those that have to be.
-    pub fn least(&self) -> ((&'static str, u8, usize), u64) {
-        let all = FIELDS.iter().flat_map(|(what, number, at)| at.iter().map(|at| (*what, *number, *at)));
+    /// The field that was at fault least, of those that have to be. Attributes are
+    /// of no family, and are counted as of IPv4.
+    pub fn least(&self) -> ((Family, &'static str, u8, usize), u64) {
+        let of = |family: Family| {
+            let wider = family.width() - 4;
+            FIELDS.iter().filter(move |(what, ..)| family == Family::Ipv4 || *what != "attribute").flat_map(
+                move |(what, number, fields)| {
+                    fields.iter().map(move |(at, before)| (family, *what, *number, at + wider * before))
+                },
+            )
+        };
+        let all = Family::ALL.into_iter().flat_map(of);
         let counted = all.map(|field| (field, self.0.get(&field).copied().unwrap_or(0)));
         counted.min_by_key(|(_, count)| *count).expect("there are fields")
     }
@@ -55,7 +88,7 @@ impl Fields {
 pub fn in_assert(m: &[u8], refusal: &Refusal) -> &'static str {
     match (m[1] & 3, refusal.within) {
         (1 | 3, 4) => "Zero and Reserved",
-        (0 | 2, 26) => "octets after a plain assert",
+        (0 | 2, 26 | 50) => "octets after a plain assert",
         (3, within) if m[within] & 0x80 == 0 => "source aggregated record",
         (3, _) => "RP aggregated record",
         _ => "assert record",
@@ -85,6 +118,7 @@ pub fn in_single(kind: u8) -> &'static str {
 /// field is at fault, there is nothing to read before it.
 pub fn claim<T>(
     run: &mut Run,
+    family: Family,
     octets: &Lent,
     answer: &Answer<T>,
     what: impl Fn(&Refusal) -> &'static str,
@@ -98,9 +132,9 @@ pub fn claim<T>(
     if !is_of_field(refusal) {
         return;
     }
-    run.fields.count(what(refusal), refusal);
+    run.fields.count(family, what(refusal), refusal);
     if refusal.number == 7 {
-        run.sources.field(what(refusal), octets.second(), refusal, &again);
+        run.sources(family).field(what(refusal), octets.second(), refusal, &again);
     }
     if refusal.place != refusal.within {
         let cut = again(&octets.second()[..refusal.place]).err();

@@ -2,6 +2,7 @@
 
 use super::{calls, expect, make, places, Run};
 use second::popcount::{compare_speeds, merge, read_attribute, Own};
+use second::Family;
 
 /// Options, and octets beyond the known values.
 const SHAPES: [(u16, usize); 8] =
@@ -14,7 +15,7 @@ pub fn compare(run: &mut Run) {
         let attribute = make::attribute_with(&mut run.rng, options, more);
         damaged(run, &attribute);
     }
-    for _ in 0..40_000 * run.rounds {
+    for _ in 0..80_000 * run.rounds {
         random_attribute(run);
         random_merge(run);
     }
@@ -36,7 +37,7 @@ fn speeds(run: &mut Run) {
             speed_pair(run, *a, *b);
         }
     }
-    for _ in 0..200_000 * run.rounds {
+    for _ in 0..400_000 * run.rounds {
         let (a, b) = (run.rng.next_u32() as u16, run.rng.next_u32() as u16);
         speed_pair(run, a, b);
         let (a, b) = (make::speed(&mut run.rng), make::speed(&mut run.rng));
@@ -138,7 +139,7 @@ fn read_one(run: &mut Run, octets: &[u8], at: usize) {
     let answer = read_attribute(octets, at);
     let second = expect::attribute(answer);
     run.tally.call("pim_popcount_read", format_args!("at {at}"), &[&lent], &first, &second);
-    places::claim(run, &lent, &answer, |_| "attribute", |cut| read_attribute(cut, at));
+    places::claim(run, Family::Ipv4, &lent, &answer, |_| "attribute", |cut| read_attribute(cut, at));
 }
 
 fn merge_one(run: &mut Run, own: &Own, contributors: &[u8], room: usize) {
@@ -150,5 +151,5 @@ fn merge_one(run: &mut Run, own: &Own, contributors: &[u8], room: usize) {
     let second = expect::length(answer);
     let numbers = format_args!("e {e}, room {room}, {own:?}");
     run.tally.call("pim_popcount_merge", numbers, &[&lent, &buffer], &first, &second);
-    places::claim(run, &lent, &answer, |_| "attribute", |cut| merge(*own, cut, e, &mut []));
+    places::claim(run, Family::Ipv4, &lent, &answer, |_| "attribute", |cut| merge(*own, cut, e, &mut []));
 }

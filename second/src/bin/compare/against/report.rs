@@ -2,13 +2,14 @@
 //! counted onto any tally; and the mean of any tally.
 
 use super::ffi::{self, TallyAnswer};
+use super::lab::Lab;
 use super::lent::Lent;
 use super::sources::tallied;
 use super::tally::{ALL_COUNTED, AS_READ, IN_PIECES, LEFT};
 use super::{calls, expect, make, Run};
 use second::read::{read_asserts, read_pairs};
 use second::report::{add_message, add_octets, mean, report, Tally};
-use second::{Answer, Kind, Refusal};
+use second::{Answer, Family, Kind, Path, Refusal};
 use std::fmt::Arguments;
 
 /// What counting leaves at most: a length and a message without its last octet.
@@ -22,14 +23,15 @@ pub fn compare(run: &mut Run) {
         &calls::tally_none(),
         &expect::tally_form(&Tally::default()),
     );
-    let list = [make::small_messages(), make::zero_sources(), make::refused_messages()].concat();
-    let sources = make::ADDRESSES.map(make::with_source).concat();
+    let lab = run.lab;
+    let list = [make::small_messages(lab), make::zero_sources(lab), make::refused_messages(lab)].concat();
+    let sources = lab.addresses().map(|address| make::with_source(lab, address)).concat();
     small_files(run, &list);
     small_files(run, &sources);
     lengths(run);
-    messages(run, &list, 20);
-    messages(run, &sources, 100);
-    for _ in 0..1_500 * run.rounds {
+    messages(run, &list, 40);
+    messages(run, &sources, 200);
+    for _ in 0..3_000 * run.rounds {
         random(run, &list);
     }
     for _ in 0..run.rounds {
@@ -60,19 +62,19 @@ fn every_cut(run: &mut Run, octets: &[u8]) {
 fn lengths(run: &mut Run) {
     let short = (0..=16).chain(250..=260).chain([0x0104, 0x0401, 511, 512, 0x1000, 0x7FFF, 0x8000]);
     for length in short.chain(65_500..=65_535) {
-        let octets = make::file(&[make::hello_of(length), make::hello_of(4)]);
+        let octets = make::file(&[make::hello_of(run.lab, length), make::hello_of(run.lab, 4)]);
         for cut in [0, 1, 2, 3, length, length + 1, length + 2, length + 3, length + 4, length + 8] {
             file(run, &octets[..cut]);
         }
         let random = make::octets(&mut run.rng, length);
-        file(run, &make::file(&[random, make::hello_of(8)]));
+        file(run, &make::file(&[random, make::hello_of(run.lab, 8)]));
     }
 }
 
 /// Any file, whole, cut, damaged, in pieces and one message at a time; a short
 /// one cut at every octet; and any octets.
 fn random(run: &mut Run, list: &[Vec<u8>]) {
-    let mut octets = make::any_file(&mut run.rng, list, 12);
+    let mut octets = make::any_file(run.lab, &mut run.rng, list, 12);
     file(run, &octets);
     pieces(run, &octets);
     one_by_one(run, &octets);
@@ -84,7 +86,7 @@ fn random(run: &mut Run, list: &[Vec<u8>]) {
         file(run, &octets);
         pieces(run, &octets);
     }
-    let short = make::any_file(&mut run.rng, list, 4);
+    let short = make::any_file(run.lab, &mut run.rng, list, 4);
     every_cut(run, &short[..short.len().min(200)]);
     let length = run.below(60);
     let octets = make::octets(&mut run.rng, length);
@@ -93,14 +95,15 @@ fn random(run: &mut Run, list: &[Vec<u8>]) {
 
 /// The longest messages, and one that no length can say.
 fn large(run: &mut Run) {
-    let mut list = make::large_messages(&mut run.rng);
-    list.extend([65_515, 65_516, 65_535].map(make::hello_of));
+    let lab = run.lab;
+    let mut list = make::large_messages(lab, &mut run.rng);
+    list.extend([65_515, 65_516, 65_535].map(|length| make::hello_of(lab, length)));
     let octets = make::file(&list);
     file(run, &octets);
     file(run, &octets[..octets.len() - 1]);
     pieces(run, &octets);
     one_by_one(run, &octets);
-    list.push(make::hello_of(65_536));
+    list.push(make::hello_of(lab, 65_536));
     for m in list {
         let before = any_tally(run);
         message(run, &before, &m);
@@ -211,7 +214,7 @@ fn messages(run: &mut Run, list: &[Vec<u8>], tallies: usize) {
         for _ in 0..tallies * run.rounds {
             let before = any_tally(run);
             message(run, &before, m);
-            let damaged = make::damaged(&mut run.rng, m);
+            let damaged = make::damaged(run.lab, &mut run.rng, m);
             message(run, &before, &damaged);
         }
     }
@@ -250,18 +253,19 @@ fn as_read(run: &mut Run, before: &ffi::Tally, m: &Lent) -> ffi::Tally {
 /// What the first implementation reads: the number of its refusal, the kind and
 /// the number of records. There is room for all entries.
 fn read(run: &mut Run, m: &Lent) -> (u8, u8, usize) {
-    let header = calls::header(m);
+    let named = Lab::of(Family::Ipv4).named();
+    let header = calls::header(named, m);
     let (number, kind) = (header.refusal.number, header.kind);
-    let mut entries = run.room("entries", 3 * m.length());
+    let mut entries = run.room("entries", 4 * m.length());
     match (number, kind) {
-        (0, 0) => (calls::read_hello(m).refusal.number, kind, 0),
+        (0, 0) => (calls::read_hello(named, m).refusal.number, kind, 0),
         (0, 1..=3) => {
-            let answer = calls::read_asserts(m, &mut entries);
+            let answer = calls::read_asserts(named, m, &mut entries);
             at_fault(run, kind, m, read_asserts);
             (answer.refusal.number, answer.kind, answer.count)
         }
         (0, _) => {
-            let answer = calls::read_pairs(m, &mut entries);
+            let answer = calls::read_pairs(named, m, &mut entries);
             at_fault(run, kind, m, read_pairs);
             (answer.refusal.number, answer.kind, answer.count)
         }
@@ -269,14 +273,14 @@ fn read(run: &mut Run, m: &Lent) -> (u8, u8, usize) {
     }
 }
 
-type Read = fn(&[u8], &mut [u8]) -> Answer<(Kind, usize)>;
+type Read = fn(Family, Path, &[u8], &mut [u8]) -> Answer<(Kind, usize)>;
 
 /// Counts the source for which a message is refused.
 fn at_fault(run: &mut Run, kind: u8, m: &Lent, read: Read) {
-    let m = m.second();
-    if let Err(refusal @ Refusal { number: 7, .. }) = read(m, &mut []) {
-        let again = |cut: &[u8]| read(&make::sealed(cut), &mut []);
-        run.sources.field(&tallied(kind), m, &refusal, again);
+    let (m, lab) = (m.second(), Lab::of(Family::Ipv4));
+    if let Err(refusal @ Refusal { number: 7, .. }) = read(lab.family, lab.path, m, &mut []) {
+        let again = |cut: &[u8]| read(lab.family, lab.path, &lab.sealed(cut), &mut []);
+        run.sources(lab.family).field(&tallied(kind), m, &refusal, again);
     }
 }
 
@@ -293,7 +297,7 @@ fn means(run: &mut Run) {
             }
         }
     }
-    for _ in 0..5_000 * run.rounds {
+    for _ in 0..10_000 * run.rounds {
         let tally = multiple_sums(run);
         mean_of(run, &tally);
         let tally = make::tally(&mut run.rng);

@@ -1,19 +1,26 @@
-//! Stored sheets of both forms checked, read, written, and written again.
+//! Stored sheets of all forms checked, read, written, and written again.
 
-use super::forms::{section, SheetForm, AGAIN, NEW, NO_ROOM, OLD, SHEET_FORMS};
-use super::sources::{is_bad, Accepted};
+use super::forms::{section, SheetForm, AGAIN, BASE, NO_ROOM, SHEET_FORMS};
+use super::lab::{of_number, Named, NEITHER};
+use super::pack::misnamed;
+use super::sources::{has_bad_prefix, is_bad, Accepted};
 use super::tally::SAME_ENTRIES;
 use super::{calls, expect, make, Run};
-use second::neighbours::{Table, ROWS};
-use second::sheet::{read_sheet, write_sheet, ENTRIES_MOST};
-use second::{Answer, Refusal};
+use second::neighbours::{packing_allowed, Table, ROWS};
+use second::sheet::{check_sheet, read_sheet, write_sheet, ENTRIES_MOST};
+use second::{Family, Path, Refusal};
 
 /// First words about those that tell a form, and words after them.
 const EDGES: [u16; 5] = [0, 1_024, 1_025, 65_534, 65_535];
-const NUMBERS: [u16; 7] = [0, 1, 2, 3, 12, 28, 0x0200];
+const NUMBERS: [u16; 10] = [0, 1, 2, 3, 4, 5, 12, 28, 0x0200, 0x0300];
+
+/// The forms of the family that is looked at.
+fn forms(run: &Run) -> Vec<SheetForm> {
+    SHEET_FORMS.into_iter().filter(|form| form.family == run.lab.family).collect()
+}
 
 pub fn compare(run: &mut Run) {
-    for form in SHEET_FORMS {
+    for form in forms(run) {
         for counts in [[0, 0, 0], [1, 1, 1], [2, 3, 3], [0, 2, 0], [3, 0, 2]] {
             let sheet = make::sheet(&mut run.rng, form, counts);
             damaged(run, &sheet);
@@ -23,12 +30,11 @@ pub fn compare(run: &mut Run) {
         sources(run, form);
         addresses(run, form);
     }
-    beginnings(run);
     for _ in 0..run.rounds {
-        SHEET_FORMS.iter().for_each(|form| full(run, *form));
+        forms(run).into_iter().for_each(|form| full(run, form));
         full_lists(run);
     }
-    for _ in 0..15_000 * run.rounds {
+    for _ in 0..12_000 * run.rounds {
         random_reading(run);
         random_writing(run);
     }
@@ -82,7 +88,7 @@ fn limits(run: &mut Run, form: SheetForm) {
         read_rooms(run, &sheet);
     };
     for (at, more) in (0..3).flat_map(|at| (0..120).map(move |more| (at, more / 4))) {
-        for most in [OLD.most[at], form.most[at]] {
+        for most in [BASE.most[at], form.most[at]] {
             let mut counts = [run.below(3), run.below(3), run.below(3)];
             counts[at] = most + more;
             with(run, counts);
@@ -94,21 +100,24 @@ fn limits(run: &mut Run, form: SheetForm) {
 /// Each source of a small sheet with each of the addresses, read and written:
 /// alone, and with another fault before or after it.
 fn sources(run: &mut Run, form: SheetForm) {
-    let (asserts, pairs, header) = (3, 3, form.header);
-    let sheet = make::sheet(&mut run.rng, form, [asserts, pairs, 2]);
-    let table = make::table_of(&mut run.rng, 2);
-    let entries =
-        (0..asserts).map(|i| header + 16 * i).chain((0..pairs).map(|i| header + 16 * asserts + 8 * i));
-    for (entry, address) in entries.flat_map(|entry| make::ADDRESSES.map(|address| (entry, address))) {
+    let counts = [3, 3, 2];
+    let (lab, width) = (run.lab, form.family.width());
+    let sheet = make::sheet(&mut run.rng, form, counts);
+    let table = make::table_of(lab, &mut run.rng, 2);
+    let places: Vec<usize> =
+        (0..2).flat_map(|section| (0..3).map(move |entry| form.place(counts, section, entry))).collect();
+    for (entry, address) in places.iter().flat_map(|entry| lab.addresses().map(|address| (*entry, address))) {
         let mut sheet = sheet.clone();
-        sheet[entry + 4..entry + 8].copy_from_slice(&address.to_be_bytes());
+        sheet[entry + form.prefix() + width..][..width].copy_from_slice(&lab.octets(address));
         read_rooms(run, &sheet);
-        let (asserts, pairs) = sheet[header..][..16 * asserts + 8 * pairs].split_at(16 * asserts);
-        let exact = 28 + asserts.len() + pairs.len() + 24;
-        for room in [exact, exact - 1] {
-            write_one(run, asserts, pairs, &table, room);
+        let [at_asserts, at_pairs, at_rows] = [0, 1, 2].map(|section| form.place(counts, section, 0));
+        if form == SheetForm::written(form.family) {
+            let exact = at_rows + form.sizes()[2] * table.count;
+            for room in [exact, exact - 1] {
+                write_one(run, &sheet[at_asserts..at_pairs], &sheet[at_pairs..at_rows], &table, room);
+            }
         }
-        for at in 0..sheet.len() {
+        for at in (run.below(2)..sheet.len()).step_by(2) {
             let mut changed = sheet.clone();
             changed[at] ^= 0x0F;
             read_rooms(run, &changed);
@@ -118,70 +127,89 @@ fn sources(run: &mut Run, form: SheetForm) {
 
 /// Each two of as many neighbours as there may be with the same address.
 fn addresses(run: &mut Run, form: SheetForm) {
-    let rows = form.most[2];
-    let sheet = make::sheet(&mut run.rng, form, [1, 1, rows]);
-    let row = |i: usize| form.header + 16 + 8 + 12 * i;
-    for (first, later) in (0..rows).flat_map(|later| (0..later).map(move |first| (first, later))) {
+    let counts = [1, 1, form.most[2]];
+    let (sheet, width) = (make::sheet(&mut run.rng, form, counts), form.family.width());
+    let row = |i: usize| form.place(counts, 2, i) + form.prefix();
+    for (first, later) in (0..counts[2]).flat_map(|later| (0..later).map(move |first| (first, later))) {
         let mut sheet = sheet.clone();
-        sheet.copy_within(row(first)..row(first) + 4, row(later));
+        sheet.copy_within(row(first)..row(first) + width, row(later));
         read_rooms(run, &sheet);
     }
 }
 
-/// Every first word before a sheet of each form, and every number after 0xFFFF.
-fn beginnings(run: &mut Run) {
+/// Every first word before sheets of the forms by turns, and every number after
+/// 0xFFFF; in each family.
+pub fn compare_beginnings(run: &mut Run) {
     let sheets = SHEET_FORMS.map(|form| make::sheet(&mut run.rng, form, [1, 1, 1]));
-    for word in (0..=u16::MAX).map(u16::to_be_bytes) {
-        for sheet in &sheets {
-            read_rooms(run, &[&word, &sheet[2..]].concat());
+    for (i, word) in (0..=u16::MAX).map(u16::to_be_bytes).enumerate() {
+        let large = &sheets[1 + i % 3];
+        for sheet in [&sheets[0], large] {
+            read_either(run, &[&word, &sheet[2..]].concat());
         }
-        read_rooms(run, &[&[0xFF, 0xFF], &word[..], &sheets[1][4..]].concat());
+        read_either(run, &[&[0xFF, 0xFF], &word[..], &large[4..]].concat());
     }
     // Those at the edges before many sheets.
     for (first, number) in
         EDGES.iter().flat_map(|first| NUMBERS.map(|number| (first.to_be_bytes(), number.to_be_bytes())))
     {
-        for form in SHEET_FORMS.repeat(60) {
+        for form in SHEET_FORMS.repeat(40) {
             let counts = [run.below(4), run.below(4), run.below(4)];
             let sheet = make::sheet(&mut run.rng, form, counts);
-            read_rooms(run, &[&first, &number, &sheet[4..]].concat());
+            read_either(run, &[&first, &number, &sheet[4..]].concat());
         }
     }
 }
 
-/// The greatest sheet of a form, good and with one fault.
+/// A sheet as one of either family.
+fn read_either(run: &mut Run, sheet: &[u8]) {
+    let family = make::pick(&mut run.rng, &[Family::Ipv4, Family::Ipv4, Family::Ipv6]);
+    read_as(run, family.number(), sheet);
+}
+
+/// The greatest sheet of a form, good and with one fault. Of most of them it is
+/// only checked that they are one.
 fn full(run: &mut Run, form: SheetForm) {
     let [asserts, pairs, neighbours] = form.most;
     let sheet = make::sheet(&mut run.rng, form, form.most);
     read_rooms(run, &sheet);
-    let (all, rows) = (sheet.len(), 12 * neighbours);
+    let (all, rows) = (sheet.len(), form.sizes()[2] * neighbours);
     // Anywhere, in the header, and among the neighbours.
-    for (from, octets) in [(0, all), (0, all), (0, form.header), (all - rows, rows)].repeat(60) {
+    for (from, octets) in [(0, all), (0, all), (0, form.header), (all - rows, rows)].repeat(80) {
         let mut changed = sheet.clone();
         let at = from + run.below(octets);
         changed[at] ^= 1 << run.below(8);
-        read_rooms(run, &changed);
+        one_in_rooms(run, 6, &changed);
     }
     for _ in 0..60 {
         let mut changed = sheet.clone();
         make::spoil_sheet(&mut run.rng, &mut changed, form, [asserts, pairs]);
-        read_rooms(run, &changed);
+        one_in_rooms(run, 6, &changed);
         let cut = run.below(sheet.len());
-        read_rooms(run, &sheet[..cut]);
+        one_in_rooms(run, 6, &sheet[..cut]);
+    }
+}
+
+/// A sheet that is checked; one of so many is read too.
+fn one_in_rooms(run: &mut Run, n: usize, sheet: &[u8]) {
+    if run.rng.one_in(n) {
+        read_rooms(run, sheet);
+    } else {
+        check_one(run, run.lab.family.number(), sheet);
     }
 }
 
 /// Lists at their limits and over them, good and with one entry at fault.
 fn full_lists(run: &mut Run) {
+    let (lab, family) = (run.lab, run.lab.family);
     for asserts in [ENTRIES_MOST, ENTRIES_MOST + 1] {
         for pairs in [ENTRIES_MOST, ENTRIES_MOST + 1] {
-            let mut asserts = make::asserts(&mut run.rng, asserts);
-            let mut pairs = make::pairs(&mut run.rng, pairs, true);
-            let table = make::table_of(&mut run.rng, ROWS);
+            let mut asserts = make::asserts(lab, &mut run.rng, asserts);
+            let mut pairs = make::pairs(lab, &mut run.rng, pairs, true);
+            let table = make::table_of(lab, &mut run.rng, ROWS);
             full_rooms(run, &asserts, &pairs, &table);
-            make::spoil_entry(&mut run.rng, &mut pairs, 8);
+            make::spoil_entry(lab, &mut run.rng, &mut pairs, family.pair_entry());
             full_rooms(run, &asserts, &pairs, &table);
-            make::spoil_entry(&mut run.rng, &mut asserts, 16);
+            make::spoil_entry(lab, &mut run.rng, &mut asserts, family.assert_entry());
             full_rooms(run, &asserts, &pairs, &table);
         }
     }
@@ -189,13 +217,16 @@ fn full_lists(run: &mut Run) {
 
 /// Rooms about the octets of the greatest sheet.
 fn full_rooms(run: &mut Run, asserts: &[u8], pairs: &[u8], table: &Table) {
-    for room in [197_403, 197_404, 197_405, 200_000] {
+    let form = SheetForm::written(run.lab.family);
+    let longest = form.place(form.most, 2, ROWS);
+    for room in [longest - 1, longest, longest + 1, longest + 3_000] {
         write_one(run, asserts, pairs, table, room);
     }
 }
 
 fn random_reading(run: &mut Run) {
-    let form = make::pick(&mut run.rng, &SHEET_FORMS);
+    let forms = forms(run);
+    let form = make::pick(&mut run.rng, &forms);
     let neighbours = if run.rng.one_in(20) { form.most[2] + 1 } else { run.below(form.most[2] + 1) };
     let counts = [run.below(6), run.below(6), neighbours];
     let mut sheet = make::sheet(&mut run.rng, form, counts);
@@ -215,15 +246,16 @@ fn random_reading(run: &mut Run) {
 
 /// Lists and a table, each sometimes at fault, and any room.
 fn random_writing(run: &mut Run) {
+    let (lab, family) = (run.lab, run.lab.family);
     let (asserts, pairs) = (run.below(5), run.below(5));
-    let mut asserts = make::asserts(&mut run.rng, asserts);
-    let mut pairs = make::pairs(&mut run.rng, pairs, true);
-    let mut table = make::table(&mut run.rng);
+    let mut asserts = make::asserts(lab, &mut run.rng, asserts);
+    let mut pairs = make::pairs(lab, &mut run.rng, pairs, true);
+    let mut table = make::table(lab, &mut run.rng);
     if run.rng.one_in(4) {
-        make::spoil_entry(&mut run.rng, &mut asserts, 16);
+        make::spoil_entry(lab, &mut run.rng, &mut asserts, family.assert_entry());
     }
     if run.rng.one_in(4) {
-        make::spoil_entry(&mut run.rng, &mut pairs, 8);
+        make::spoil_entry(lab, &mut run.rng, &mut pairs, family.pair_entry());
     }
     if run.rng.one_in(8) {
         asserts.truncate(run.below(asserts.len() + 1));
@@ -232,129 +264,198 @@ fn random_writing(run: &mut Run) {
         pairs.truncate(run.below(pairs.len() + 1));
     }
     if run.rng.one_in(4) {
-        table = make::spoiled_table(&mut run.rng);
+        table = make::spoiled_table(lab, &mut run.rng);
     }
-    let exact = 28 + asserts.len() + pairs.len() + 12 * table.count.min(ROWS);
+    let exact = 28 + asserts.len() + pairs.len() + family.sheet_row() * table.count.min(ROWS);
     for room in [exact, exact - 1, exact + 1 + run.below(20), run.below(exact)] {
         write_one(run, &asserts, &pairs, &table, room);
     }
 }
 
-/// One list lent both as asserts and as pairs, which a call only reads.
+/// One list lent both as asserts and as pairs, which a call only reads. Only an
+/// empty one is both.
 fn shared(run: &mut Run) {
-    let count = run.below(9);
-    let mut list = make::asserts_and_pairs(&mut run.rng, count);
-    if run.rng.one_in(4) {
-        make::spoil_entry(&mut run.rng, &mut list, 8);
-    }
+    let (lab, count) = (run.lab, run.below(4));
+    let asserts = make::asserts(lab, &mut run.rng, 9 * count);
+    let pairs = make::pairs(lab, &mut run.rng, 5 * count, true);
+    let list = if run.rng.one_in(2) { asserts } else { pairs };
     let lent = run.input("asserts and pairs", &list);
-    let table = make::table(&mut run.rng);
-    for room in [1_100, 28 + 2 * list.len() + 12 * table.count] {
+    let (table, family) = (make::table(lab, &mut run.rng), lab.family);
+    for room in [4_000, 28 + 2 * list.len() + family.sheet_row() * table.count] {
         let mut buffer = run.room("buffer", room);
-        let first = calls::write_sheet(&lent, &lent, expect::table_form(&table), &mut buffer);
-        let second = expect::length(write_sheet(lent.second(), lent.second(), &table, buffer.second_mut()));
-        let numbers = format_args!("room {room}, {table:?}");
-        run.tally.call("pim_write_sheet", numbers, &[&lent, &buffer], &first, &second);
+        let form = expect::table_form(&table);
+        let first = calls::write_sheet(family.number(), &lent, &lent, form, &mut buffer);
+        let answer = write_sheet(family, lent.second(), lent.second(), &table, buffer.second_mut());
+        let numbers = format_args!("{family:?}, room {room}, {table:?}");
+        run.tally.call("pim_write_sheet", numbers, &[&lent, &buffer], &first, &expect::length(answer));
+    }
+}
+
+/// Both reading calls of the family that is looked at; and sometimes told
+/// another, or none.
+fn read_rooms(run: &mut Run, sheet: &[u8]) {
+    read_as(run, run.lab.family.number(), sheet);
+    if run.rng.one_in(16) {
+        let family = misnamed(run).family;
+        read_as(run, family, sheet);
     }
 }
 
 /// Both reading calls, the rooms less, exactly enough and more. What a good sheet
 /// gives is written again.
-fn read_rooms(run: &mut Run, sheet: &[u8]) {
-    check_one(run, sheet);
-    let Ok((asserts, pairs, table)) = given(sheet) else {
+fn read_as(run: &mut Run, number: u8, sheet: &[u8]) {
+    check_one(run, number, sheet);
+    let (Some(family), Ok([asserts, pairs, _])) =
+        (Family::from_number(number), of_number(number, |family| check_sheet(family, sheet)))
+    else {
         let (asserts, pairs) = (run.below(100), run.below(100));
-        read_one(run, sheet, asserts, pairs);
+        read_one(run, number, sheet, asserts, pairs);
         return;
     };
-    let (asserts, pairs) = (16 * asserts, 8 * pairs);
-    let entries = read_one(run, sheet, asserts, pairs);
-    written_again(run, sheet, &entries, &table);
-    read_one(run, sheet, asserts.saturating_sub(1), pairs);
-    read_one(run, sheet, asserts, pairs.saturating_sub(1));
+    let (asserts, pairs) = (family.assert_entry() * asserts, family.pair_entry() * pairs);
+    if let Some((entries, table)) = read_one(run, number, sheet, asserts, pairs) {
+        written_again(run, family, sheet, &entries, &table);
+    }
+    read_one(run, number, sheet, asserts.saturating_sub(1), pairs);
+    read_one(run, number, sheet, asserts, pairs.saturating_sub(1));
     let (more, much) = (run.below(20), run.below(20));
-    read_one(run, sheet, asserts + more, pairs + much);
+    read_one(run, number, sheet, asserts + more, pairs + much);
 }
 
-/// The counts and the table of a sheet that is good. Its entries are no more
-/// octets than it.
-fn given(sheet: &[u8]) -> Answer<(usize, usize, Table)> {
-    read_sheet(sheet, &mut vec![0; sheet.len()], &mut vec![0; sheet.len()])
-}
-
-fn check_one(run: &mut Run, sheet: &[u8]) {
+fn check_one(run: &mut Run, number: u8, sheet: &[u8]) {
     let lent = run.input("sheet", sheet);
-    let answer = given(sheet);
-    let (first, second) = (calls::check_sheet(&lent), expect::check(answer));
-    run.tally.call("pim_check_sheet", format_args!("a sheet"), &[&lent], &first, &second);
-    run.forms.checked(sheet, &answer);
+    let answer = of_number(number, |family| check_sheet(family, sheet));
+    let (first, second) = (calls::check_sheet(number, &lent), expect::check(answer));
+    run.tally.call("pim_check_sheet", format_args!("family {number}"), &[&lent], &first, &second);
+    run.forms.named("pim_check_sheet", number);
+    if let Some(family) = Family::from_number(number) {
+        run.forms.checked(family, sheet, &answer);
+    }
 }
 
-/// One call; the asserts and the pairs that both gave.
-fn read_one(run: &mut Run, sheet: &[u8], assert_room: usize, pair_room: usize) -> [Vec<u8>; 2] {
+/// The asserts and the pairs that both gave, and the table.
+type Given = ([Vec<u8>; 2], Table);
+
+/// One call, and what it gave.
+fn read_one(run: &mut Run, number: u8, sheet: &[u8], assert_room: usize, pair_room: usize) -> Option<Given> {
     let lent = run.input("sheet", sheet);
     let mut asserts = run.room("asserts", assert_room);
     let mut pairs = run.room("pairs", pair_room);
-    let first = calls::read_sheet(&lent, &mut asserts, &mut pairs);
-    let answer = read_sheet(sheet, asserts.second_mut(), pairs.second_mut());
+    let first = calls::read_sheet(number, &lent, &mut asserts, &mut pairs);
+    let answer =
+        of_number(number, |family| read_sheet(family, sheet, asserts.second_mut(), pairs.second_mut()));
     let second = expect::sheet(answer);
-    let numbers = format_args!("rooms {assert_room} and {pair_room}");
+    let numbers = format_args!("family {number}, rooms {assert_room} and {pair_room}");
     run.tally.call("pim_read_sheet", numbers, &[&lent, &asserts, &pairs], &first, &second);
+    run.forms.named("pim_read_sheet", number);
+    let family = Family::from_number(number)?;
     match answer {
-        Ok((count, others, _)) => {
-            let entries = [&asserts.first()[..16 * count], &pairs.first()[..8 * others]];
-            run.sources.accepted(Accepted::InSheet, entries[0], 16);
-            run.sources.accepted(Accepted::InSheet, entries[1], 8);
-            return entries.map(<[u8]>::to_vec);
+        Ok((count, others, table)) => {
+            let sizes = [family.assert_entry(), family.pair_entry()];
+            let entries = [&asserts.first()[..sizes[0] * count], &pairs.first()[..sizes[1] * others]];
+            run.sources(family).accepted(Accepted::InSheet, entries[0], sizes[0]);
+            run.sources(family).accepted(Accepted::InSheet, entries[1], sizes[1]);
+            return Some((entries.map(<[u8]>::to_vec), table));
         }
-        Err(Refusal { number: 14, place, .. }) if place > 0 => entry_at_fault(run, sheet, place),
+        Err(Refusal { number: 14, place, .. }) if place > 0 => entry_at_fault(run, family, sheet, place),
         Err(Refusal { number: 8, .. }) => run.forms.of_sheet(NO_ROOM, sheet),
         Err(_) => (),
     }
-    Default::default()
+    None
 }
 
 /// The entry of a sheet that begins at a place, by the header, which is good.
-fn entry_at_fault(run: &mut Run, sheet: &[u8], place: usize) {
-    let Some(numbers) = SheetForm::of(sheet).and_then(|form| form.read(sheet)) else {
+fn entry_at_fault(run: &mut Run, family: Family, sheet: &[u8], place: usize) {
+    let Some(form) = SheetForm::of(sheet) else {
         return;
     };
+    let Some(numbers) = form.read(sheet) else {
+        return;
+    };
+    let [assert, pair, _] = form.sizes();
+    // As it would stand in a list.
+    let prefix = [family.number(), 0, 0, 0];
+    let entry = |size: usize| [&prefix[..4 - form.prefix()], &sheet[place..place + size]].concat();
     match section(numbers, place) {
-        0 => run.sources.entry("assert of a sheet read", &sheet[place..place + 16]),
-        1 => run.sources.entry("pair of a sheet read", &sheet[place..place + 8]),
+        0 => run.sources(family).entry("assert of a sheet read", &entry(assert)),
+        1 => run.sources(family).entry("pair of a sheet read", &entry(pair)),
         _ => (),
     }
 }
 
-/// What a sheet gives, written again: the new form, with the same sections.
-fn written_again(run: &mut Run, sheet: &[u8], [asserts, pairs]: &[Vec<u8>; 2], table: &Table) {
+/// What a sheet gives, written again: the form of its family, with the same
+/// sections behind each entry's prefix.
+fn written_again(
+    run: &mut Run,
+    family: Family,
+    sheet: &[u8],
+    [asserts, pairs]: &[Vec<u8>; 2],
+    table: &Table,
+) {
     let Some(form) = SheetForm::of(sheet) else {
         return;
     };
-    let counts = [asserts.len() / 16, pairs.len() / 8, table.count];
-    let same = [&NEW.header_of(NEW.numbers(counts)), &sheet[form.header..]].concat();
-    let written = write_one(run, asserts, pairs, table, same.len());
+    let new = SheetForm::written(family);
+    let counts = [asserts.len() / new.sizes()[0], pairs.len() / new.sizes()[1], table.count];
+    let prefix = &[family.number(), 0, 0, 0][..4 - form.prefix()];
+    let mut same = new.header_of(new.numbers(counts));
+    for section in 0..3 {
+        for entry in 0..counts[section] {
+            same.extend_from_slice(prefix);
+            same.extend_from_slice(&sheet[form.place(counts, section, entry)..][..form.sizes()[section]]);
+        }
+    }
+    let written = write_named(run, family.number(), asserts, pairs, table, same.len());
     let lent = run.input("sheet", sheet);
     run.tally.claim(SAME_ENTRIES, format_args!("counts {counts:?}"), &lent, written == same);
     run.forms.of_sheet(AGAIN, sheet);
 }
 
-/// One call; all of the buffer that the first implementation was lent.
-fn write_one(run: &mut Run, asserts: &[u8], pairs: &[u8], table: &Table, room: usize) -> Vec<u8> {
+/// One call, of the family that is looked at; sometimes another one that names
+/// none, or the other.
+fn write_one(run: &mut Run, asserts: &[u8], pairs: &[u8], table: &Table, room: usize) {
+    write_named(run, run.lab.family.number(), asserts, pairs, table, room);
+    if run.rng.one_in(16) {
+        let other = run.lab.other().family.number();
+        let family = if run.rng.one_in(2) { other } else { make::pick(&mut run.rng, &NEITHER) };
+        write_named(run, family, asserts, pairs, table, room);
+    }
+}
+
+/// All of the buffer that the first implementation was lent.
+fn write_named(
+    run: &mut Run,
+    number: u8,
+    asserts: &[u8],
+    pairs: &[u8],
+    table: &Table,
+    room: usize,
+) -> Vec<u8> {
     let (asserts, pairs) = (run.input("asserts", asserts), run.input("pairs", pairs));
     let mut buffer = run.room("buffer", room);
     let form = expect::table_form(table);
-    let first = calls::write_sheet(&asserts, &pairs, form, &mut buffer);
-    let answer = write_sheet(asserts.second(), pairs.second(), table, buffer.second_mut());
-    let numbers = format_args!("room {room}, {table:?}");
+    let first = calls::write_sheet(number, &asserts, &pairs, form, &mut buffer);
+    let answer = of_number(number, |family| {
+        write_sheet(family, asserts.second(), pairs.second(), table, buffer.second_mut())
+    });
+    let numbers = format_args!("family {number}, room {room}, {table:?}");
     let second = expect::length(answer);
     run.tally.call("pim_write_sheet", numbers, &[&asserts, &pairs, &buffer], &first, &second);
+    run.forms.named("pim_write_sheet", number);
     run.forms.of_table("pim_write_sheet", table.count);
-    if answer.is_err_and(|refusal| refusal.number == 7) {
-        let asserts = asserts.second().chunks(16).map(|entry| ("assert of a sheet written", entry));
-        let pairs = pairs.second().chunks(8).map(|entry| ("pair of a sheet written", entry));
-        if let Some((what, entry)) = asserts.chain(pairs).find(|(_, entry)| is_bad(entry, true)) {
-            run.sources.entry(what, entry);
+    if let (Err(refusal), Some(lab)) = (answer, Named { family: number, path: Path::default() }.lab()) {
+        let sizes = [lab.family.assert_entry(), lab.family.pair_entry()];
+        let asserts = asserts.second().chunks(sizes[0]).map(|entry| ("assert of a sheet written", entry));
+        let pairs = pairs.second().chunks(sizes[1]).map(|entry| ("pair of a sheet written", entry));
+        let bad = asserts.chain(pairs).find(|(_, entry)| refusal.number == 7 && is_bad(lab, entry, true));
+        if let Some((what, entry)) = bad {
+            run.sources(lab.family).entry(what, entry);
+            if has_bad_prefix(lab, entry) {
+                run.forms.foreign("pim_write_sheet", number);
+            }
+        }
+        if refusal.number == 14 && packing_allowed(Family::Ipv6, table).is_ok() && lab.is_ipv4() {
+            run.forms.foreign("pim_write_sheet", number);
         }
     }
     buffer.first().to_vec()

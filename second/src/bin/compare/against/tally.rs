@@ -1,7 +1,7 @@
 //! Counts comparisons and refusals, and stops at the first difference.
 
 use super::expect::Answered;
-use super::forms::{Counted, Forms, COUNTED};
+use super::forms::{Forms, COUNTED};
 use super::lent::{Lent, Memory};
 use super::sources::Sources;
 use super::Run;
@@ -10,7 +10,7 @@ use std::fmt::{Arguments, Debug};
 use std::process::{exit, ExitCode};
 
 /// The calls of `pim.h`, in its order.
-const CALLS: [&str; 34] = [
+const CALLS: [&str; 36] = [
     "pim_header",
     "pim_body",
     "pim_read_record",
@@ -45,6 +45,8 @@ const CALLS: [&str; 34] = [
     "pim_write_sheet",
     "pim_checksum",
     "pim_checksum_holds",
+    "pim_checksum_ipv6",
+    "pim_checksum_ipv6_holds",
 ];
 
 // What is claimed of the first implementation beside the single calls: of its
@@ -166,8 +168,8 @@ impl Tally {
         for (outcome, count) in run.outcomes.rows() {
             println!("{outcome:<34}{count:>10}");
         }
-        print_sources(&run.sources);
-        COUNTED.iter().for_each(|table| print_counted(table, &run.forms));
+        run.sources.iter().zip(["224/4", "ff00::/8"]).for_each(|(it, groups)| print_sources(it, groups));
+        (0..COUNTED.len()).for_each(|table| print_counted(table, &run.forms));
         println!("{} comparisons, 0 differences", self.comparisons());
         let gaps = self.gaps(run);
         for gap in &gaps {
@@ -190,18 +192,19 @@ impl Tally {
         for number in (1..=NUMBERS).filter(|number| self.numbers[*number] == 0) {
             gaps.push(format!("refusal {number} never occurred"));
         }
-        if let ((what, number, field), 0) = run.fields.least() {
-            gaps.push(format!("refusal {number} never occurred at octet {field} of {what}"));
+        if let ((family, what, number, field), 0) = run.fields.least() {
+            gaps.push(format!("{family:?}: refusal {number} never occurred at octet {field} of {what}"));
         }
         for (outcome, count) in run.outcomes.rows().iter().filter(|(_, count)| *count < OUTCOMES_LEAST) {
             gaps.push(format!("{outcome} came {count} times, fewer than {OUTCOMES_LEAST}"));
         }
-        for (name, counts) in run.sources.none_rows().iter().chain(&run.sources.accepted_rows()) {
+        let of = |sources: &Sources| [sources.none_rows(), sources.accepted_rows()].concat();
+        for (name, counts) in run.sources.iter().flat_map(of) {
             if counts.iter().any(|count| *count < SOURCES_LEAST) {
                 gaps.push(format!("{name} came {counts:?} times, not each {SOURCES_LEAST} or more"));
             }
         }
-        for (name, counts) in COUNTED.iter().flat_map(|table| run.forms.rows(table)) {
+        for (name, counts) in (0..COUNTED.len()).flat_map(|table| run.forms.rows(table)) {
             if counts.iter().any(|(_, count)| *count < FORMS_LEAST) {
                 gaps.push(format!("{name} came {counts:?} times, not each {FORMS_LEAST} or more"));
             }
@@ -227,16 +230,16 @@ fn print_rows(names: &[&str], counts: &[u64]) {
     }
 }
 
-fn print_sources(sources: &Sources) {
-    println!("{:<34}{:>10}{:>10}", "no source", "224/4", "all ones");
+fn print_sources(sources: &Sources, groups: &str) {
+    println!("{:<34}{:>10}{:>10}", "no source", groups, "all ones");
     print_columns(&sources.none_rows());
     println!("{:<34}{:>10}{:>10}{:>10}", "accepted", "read", "packed", "in sheets");
     print_columns(&sources.accepted_rows());
 }
 
 /// A column that does not have to come is left empty.
-fn print_counted(table: &Counted, forms: &Forms) {
-    let [name, columns @ ..] = table.heading;
+fn print_counted(table: usize, forms: &Forms) {
+    let [name, columns @ ..] = COUNTED[table].heading;
     let cell = |text: &str| format!("{text:>10}");
     let line = |name: &str, cells: String| println!("{}", format!("{name:<34}{cells}").trim_end());
     line(name, columns.map(cell).concat());

@@ -12,15 +12,16 @@ use second::pack::USUAL_LIMIT;
 const BY_TURNS: [[usize; 2]; 3] = [[0, 0], [0, USUAL_LIMIT], [USUAL_LIMIT, 0]];
 
 pub fn compare(run: &mut Run) {
-    for limit in 38..=200 {
-        for _ in 0..20 * run.rounds {
+    let least = run.lab.family.least_limit();
+    for limit in least..=least + 162 {
+        for _ in 0..18 * run.rounds {
             let count = run.below(30);
             every_form(run, count, limit);
         }
     }
-    for limit in [0, 38, 39, 555, 556, 557, 576, 1_480, 9_000, 65_514, 65_515] {
+    for limit in [0, 62, 68, 97, 98, 555, 556, 557, 576, 1_280, 1_480, 9_000, 65_514, 65_515] {
         for _ in 0..run.rounds {
-            every_form(run, 700, limit);
+            every_form(run, 500, limit);
             one_run(run, limit);
         }
     }
@@ -33,12 +34,13 @@ pub fn compare(run: &mut Run) {
 }
 
 fn every_form(run: &mut Run, count: usize, limit: usize) {
+    run.new_path();
     for form in FORMS {
         let list = pack::list(run, form, count);
         let list = run.input("entries", &list);
         train(run, form, &list, limit);
     }
-    let list = make::asserts(&mut run.rng, count);
+    let list = pack::asserts(run, count);
     let list = run.input("entries", &list);
     train_of_choices(run, &list, [limit; 2]);
 }
@@ -47,17 +49,18 @@ fn every_form(run: &mut Run, count: usize, limit: usize) {
 fn one_run(run: &mut Run, limit: usize) {
     let count = if as_read(limit) < 1_000 { 600 } else { 12_000 };
     for r in [0, make::R] {
-        let list = run.input("entries", &make::one_run(r, count));
+        let list = run.input("entries", &make::one_run(run.lab, r, count));
         train(run, AGGREGATED, &list, limit);
     }
 }
 
 fn larger_limits(run: &mut Run) {
     let count = run.below(40);
-    let list = make::asserts(&mut run.rng, count);
+    let list = pack::asserts(run, count);
     let list = run.input("entries", &list);
     let step = 1 + run.below(9);
-    no_longer(run, &list, (38..=200).step_by(step));
+    let least = run.lab.family.least_limit();
+    no_longer(run, &list, (least..=least + 162).step_by(step));
 }
 
 /// The train of a list gets no longer with a larger limit.
@@ -84,7 +87,7 @@ fn usual_limit(run: &mut Run) {
             run.tally.claim(USUAL, format_args!("limits {limits:?}"), &list, holds);
         }
     }
-    let list = make::asserts(&mut run.rng, count);
+    let list = pack::asserts(run, count);
     let list = run.input("entries", &list);
     let open = train_of_choices(run, &list, [USUAL_LIMIT; 2]);
     for limits in BY_TURNS {
@@ -113,7 +116,8 @@ fn messages(run: &mut Run, form: Form, list: &Lent, limits: [usize; 2]) -> Vec<V
         }
         whole &= answer.taken > 0 && message.len() <= as_read(limit);
         taken += answer.taken;
-        entries.extend((form.read)(run, &message, form.size * answer.taken));
+        let room = form.size(run.lab.family) * answer.taken;
+        entries.extend((form.read)(run, run.lab.named(), &message, room));
         messages.push(message);
     }
     let holds = whole && entries == list.second();
@@ -142,7 +146,8 @@ fn train_of_choices(run: &mut Run, list: &Lent, limits: [usize; 2]) -> Vec<Vec<u
         }
         whole &= taken > 0 && message.len() <= as_read(limit);
         start += taken;
-        entries.extend(read::asserts(run, &message, 16 * taken));
+        let room = run.lab.family.assert_entry() * taken;
+        entries.extend(read::asserts(run, run.lab.named(), &message, room));
         messages.push(message);
     }
     let holds = whole && entries == list.second();
