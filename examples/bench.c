@@ -1,5 +1,6 @@
-/* One small lab on the bench: Hellos written and heard, a router elected, asserts packed and read back, counted,
- * Pop-Count attributes merged, the sheet kept, one damaged message refused, and the image's own report.
+/* One small lab on the bench in each family: Hellos written and heard, a router elected, asserts packed and read back,
+ * counted, the sheet kept, one damaged message refused; the image's own report, of IPv4; and Pop-Count attributes
+ * merged.
  *
  * Build and run it from the top of the repository:
  *
@@ -17,13 +18,111 @@
 #include <string.h>
 
 enum {
-    LIMIT = 60,         /* of a message in the train, in octets */
-    MOST_MESSAGES = 16, /* that the train may have here */
-    SHEET_ROOM = 1024
+    LONGEST = 100,      /* octets of a message in a train at most: the larger of the two limits */
+    MOST_MESSAGES = 16, /* that a train may have here */
+    SHEET_ROOM = 1024,
+    ROUTERS = 3,
+    ASSERTS = 12,
+    PAIRS = 3
 };
 
-#define OUR_ADDRESS 0x0a000001u /* 10.0.0.1 */
 #define OUR_PRIORITY 1u
+
+/* ---- the two labs */
+
+typedef struct {
+    pim_address group, source;
+    uint32_t r_preference, metric;
+} assert_row;
+
+typedef struct {
+    pim_address group, source;
+} pair_row;
+
+typedef struct {
+    const char *name;
+    uint8_t family;
+    size_t width, assert_entry, pair_entry; /* octets of an address, and of entries */
+    size_t limit;                           /* of a message in the train, in octets */
+    pim_address ours, all_routers;          /* our own address, and where PIM messages are sent to */
+    pim_address routers[ROUTERS];
+    assert_row asserts[ASSERTS];
+    pair_row pairs[PAIRS]; /* in a sheet source 0 is allowed */
+} lab;
+
+/* 10.0.0.1 is ours; groups in 232.1.1.0/24 and 239.0.0.0/24, sources in 10.1.0.0/16 and 10.2.0.0/16. */
+static const lab ipv4 = {
+    "IPv4",
+    PIM_IPV4,
+    4,
+    PIM_IPV4_ASSERT_ENTRY,
+    PIM_IPV4_PAIR_ENTRY,
+    60,
+    {0, 0x0a000001},
+    {0, 0xe000000d},
+    {{0, 0x0a000002}, {0, 0x0a000003}, {0, 0x0a000009}},
+    {
+        /* R=0: one source, five groups */
+        {{0, 0xe8010101}, {0, 0x0a010001}, 110, 20},
+        {{0, 0xe8010102}, {0, 0x0a010001}, 110, 20},
+        {{0, 0xe8010103}, {0, 0x0a010001}, 110, 20},
+        {{0, 0xe8010104}, {0, 0x0a010001}, 110, 20},
+        {{0, 0xe8010105}, {0, 0x0a010001}, 110, 20},
+        /* R=1: one group, five sources */
+        {{0, 0xef000001}, {0, 0x0a020001}, PIM_R_BIT | 100, 10},
+        {{0, 0xef000001}, {0, 0x0a020002}, PIM_R_BIT | 100, 10},
+        {{0, 0xef000001}, {0, 0x0a020003}, PIM_R_BIT | 100, 10},
+        {{0, 0xef000001}, {0, 0x0a020004}, PIM_R_BIT | 100, 10},
+        {{0, 0xef000001}, {0, 0x0a020005}, PIM_R_BIT | 100, 10},
+        /* R=1: another group, source 0, twice */
+        {{0, 0xef000002}, {0, 0}, PIM_R_BIT | 100, 10},
+        {{0, 0xef000002}, {0, 0}, PIM_R_BIT | 100, 10},
+    },
+    {{{0, 0xe8010101}, {0, 0x0a010001}}, {{0, 0xe8010102}, {0, 0x0a010001}}, {{0, 0xef000002}, {0, 0}}},
+};
+
+#define LINK 0xfe80000000000000u  /* fe80:: */
+#define SITE 0x20010db800000000u  /* 2001:db8:: */
+#define GROUP 0xff3e000000000000u /* ff3e:: */
+#define EVERY 0xff02000000000000u /* ff02:: */
+
+/* The same with fe80::1 as ours; groups in ff3e::/64, sources in 2001:db8::/64. */
+static const lab ipv6 = {
+    "IPv6",
+    PIM_IPV6,
+    16,
+    PIM_IPV6_ASSERT_ENTRY,
+    PIM_IPV6_PAIR_ENTRY,
+    100,
+    {LINK, 1},
+    {EVERY, 0xd},
+    {{LINK, 2}, {LINK, 3}, {LINK, 9}},
+    {
+        {{GROUP, 0x101}, {SITE, 0x10001}, 110, 20},
+        {{GROUP, 0x102}, {SITE, 0x10001}, 110, 20},
+        {{GROUP, 0x103}, {SITE, 0x10001}, 110, 20},
+        {{GROUP, 0x104}, {SITE, 0x10001}, 110, 20},
+        {{GROUP, 0x105}, {SITE, 0x10001}, 110, 20},
+        {{GROUP, 1}, {SITE, 0x20001}, PIM_R_BIT | 100, 10},
+        {{GROUP, 1}, {SITE, 0x20002}, PIM_R_BIT | 100, 10},
+        {{GROUP, 1}, {SITE, 0x20003}, PIM_R_BIT | 100, 10},
+        {{GROUP, 1}, {SITE, 0x20004}, PIM_R_BIT | 100, 10},
+        {{GROUP, 1}, {SITE, 0x20005}, PIM_R_BIT | 100, 10},
+        {{GROUP, 2}, {0, 0}, PIM_R_BIT | 100, 10},
+        {{GROUP, 2}, {0, 0}, PIM_R_BIT | 100, 10},
+    },
+    {{{GROUP, 0x101}, {SITE, 0x10001}}, {{GROUP, 0x102}, {SITE, 0x10001}}, {{GROUP, 2}, {0, 0}}},
+};
+
+/* A message from an address to all routers. IPv4 does not look at it. */
+static pim_path path_from(const lab *l, pim_address source)
+{
+    pim_path path;
+
+    path.source = source;
+    path.destination = l->all_routers;
+    return path;
+}
 
 /* ---- what can go wrong */
 
@@ -47,10 +146,20 @@ static void must(const char *call, pim_refusal refusal)
 
 /* ---- printing and counting */
 
-static void print_address(uint32_t address)
+/* IPv6 in full, without a shorter form for zeros. */
+static void print_address(const lab *l, pim_address address)
 {
-    printf("%u.%u.%u.%u", (unsigned)(address >> 24), (unsigned)(address >> 16 & 255), (unsigned)(address >> 8 & 255),
-           (unsigned)(address & 255));
+    uint8_t o[16];
+    int i;
+
+    if (l->family == PIM_IPV4) {
+        pim_address_to_ipv4(address, o);
+        printf("%u.%u.%u.%u", (unsigned)o[0], (unsigned)o[1], (unsigned)o[2], (unsigned)o[3]);
+        return;
+    }
+    pim_address_to_ipv6(address, o);
+    for (i = 0; i < 16; i += 2)
+        printf("%s%x", i == 0 ? "" : ":", (unsigned)(o[i] << 8 | o[i + 1]));
 }
 
 static const char *yes_or_no(bool b)
@@ -66,12 +175,29 @@ static void print_priority(bool has_priority, uint32_t priority)
         printf("priority none");
 }
 
-static void put_number(uint8_t *octets, uint32_t number)
+/* Each returns the place past what it put. */
+static uint8_t *put_number(uint8_t *octets, uint32_t number)
 {
     octets[0] = (uint8_t)(number >> 24);
     octets[1] = (uint8_t)(number >> 16);
     octets[2] = (uint8_t)(number >> 8);
     octets[3] = (uint8_t)number;
+    return octets + 4;
+}
+
+static uint8_t *put_address(const lab *l, uint8_t *octets, pim_address address)
+{
+    if (l->family == PIM_IPV4)
+        pim_address_to_ipv4(address, octets);
+    else
+        pim_address_to_ipv6(address, octets);
+    return octets + l->width;
+}
+
+/* What every entry begins with: its family and three octets that are 0. */
+static uint8_t *put_family(const lab *l, uint8_t *octets)
+{
+    return put_number(octets, (uint32_t)l->family << 24);
 }
 
 static void count(pim_counters *counters, bool received, uint8_t kind, size_t records)
@@ -87,36 +213,37 @@ static const pim_hello second_hello = {210, true, 9, true};
 static const pim_hello third_hello = {PIM_USUAL_HOLDTIME, false, 0, true};
 
 /* Hears one Hello: printed, counted, put into the table. */
-static void hear(pim_table *table, pim_counters *counters, uint32_t address, const uint8_t *message, size_t size)
+static void hear(const lab *l, pim_table *table, pim_counters *counters, pim_address address, const uint8_t *message,
+                 size_t size)
 {
-    pim_hello_answer read = pim_read_hello(message, size);
+    pim_hello_answer read = pim_read_hello(l->family, path_from(l, address), message, size);
     pim_table_answer heard;
 
     must("pim_read_hello", read.refusal);
     printf("hello from ");
-    print_address(address);
+    print_address(l, address);
     printf(": holdtime %u, ", (unsigned)read.hello.holdtime);
     print_priority(read.hello.has_priority, read.hello.priority);
     printf(", packing %s\n", yes_or_no(read.hello.packing));
 
-    heard = pim_hear(*table, address, read.hello);
+    heard = pim_hear(l->family, *table, address, read.hello);
     must("pim_hear", heard.refusal);
     *table = heard.table;
     count(counters, true, PIM_HELLO, 0);
 }
 
 /* Writes a router's Hello, counts it as sent, and hears it. */
-static void say_hello(pim_table *table, pim_counters *counters, uint32_t address, pim_hello said)
+static void say_hello(const lab *l, pim_table *table, pim_counters *counters, pim_address address, pim_hello said)
 {
     uint8_t message[PIM_LONGEST_HELLO];
-    pim_length_answer written = pim_write_hello(said, message, sizeof message);
+    pim_length_answer written = pim_write_hello(l->family, path_from(l, address), said, message, sizeof message);
 
     must("pim_write_hello", written.refusal);
     count(counters, false, PIM_HELLO, 0);
-    hear(table, counters, address, message, written.length);
+    hear(l, table, counters, address, message, written.length);
 }
 
-static void print_table(const pim_table *table)
+static void print_table(const lab *l, const pim_table *table)
 {
     size_t i;
 
@@ -124,90 +251,70 @@ static void print_table(const pim_table *table)
     for (i = 0; i < table->count; i++) {
         const pim_neighbour *row = &table->rows[i];
         printf("  row %zu: ", i);
-        print_address(row->address);
+        print_address(l, row->address);
         printf(", ");
         print_priority(row->has_priority, row->priority);
         printf(", packs %s, holdtime %u\n", yes_or_no(row->packs), (unsigned)row->holdtime);
     }
 }
 
-static void elect(pim_table table)
+static void elect(const lab *l, pim_table table)
 {
-    pim_elect_answer elected = pim_elect(table, OUR_ADDRESS, OUR_PRIORITY);
-    pim_allowed_answer packing = pim_packing_allowed(table);
+    pim_elect_answer elected = pim_elect(l->family, table, l->ours, OUR_PRIORITY);
+    pim_allowed_answer packing = pim_packing_allowed(l->family, table);
 
     must("pim_elect", elected.refusal);
     must("pim_packing_allowed", packing.refusal);
     printf("designated router: ");
-    print_address(elected.address);
+    print_address(l, elected.address);
     printf("; packing allowed: %s\n", yes_or_no(packing.allowed));
 }
 
 /* Two neighbours with a priority, then a third without: from there on the highest address is elected. */
-static void hear_all(pim_table *table, pim_counters *counters)
+static void hear_all(const lab *l, pim_table *table, pim_counters *counters)
 {
     *table = pim_table_empty();
-    say_hello(table, counters, 0x0a000002, first_hello);
-    say_hello(table, counters, 0x0a000003, second_hello);
-    elect(*table);
-    say_hello(table, counters, 0x0a000009, third_hello);
-    elect(*table);
-    print_table(table);
+    say_hello(l, table, counters, l->routers[0], first_hello);
+    say_hello(l, table, counters, l->routers[1], second_hello);
+    elect(l, *table);
+    say_hello(l, table, counters, l->routers[2], third_hello);
+    elect(l, *table);
+    print_table(l, table);
 }
 
 /* ---- asserts */
 
 typedef struct {
-    uint32_t group, source, r_preference, metric;
-} assert_row;
-
-static const assert_row assert_rows[] = {
-    /* R=0: one source, five groups */
-    {0xe8010101, 0x0a010001, 110, 20},
-    {0xe8010102, 0x0a010001, 110, 20},
-    {0xe8010103, 0x0a010001, 110, 20},
-    {0xe8010104, 0x0a010001, 110, 20},
-    {0xe8010105, 0x0a010001, 110, 20},
-    /* R=1: one group, five sources */
-    {0xef000001, 0x0a020001, PIM_R_BIT | 100, 10},
-    {0xef000001, 0x0a020002, PIM_R_BIT | 100, 10},
-    {0xef000001, 0x0a020003, PIM_R_BIT | 100, 10},
-    {0xef000001, 0x0a020004, PIM_R_BIT | 100, 10},
-    {0xef000001, 0x0a020005, PIM_R_BIT | 100, 10},
-    /* R=1: a group for itself, source 0 */
-    {0xef000002, 0x00000000, PIM_R_BIT | 100, 10},
-};
-
-enum { ASSERTS = sizeof assert_rows / sizeof assert_rows[0] };
-
-typedef struct {
-    uint8_t octets[MOST_MESSAGES][LIMIT];
+    uint8_t octets[MOST_MESSAGES][LONGEST];
     size_t lengths[MOST_MESSAGES];
     size_t count;
 } message_train;
 
-static void make_asserts(uint8_t *entries)
+static void make_asserts(const lab *l, uint8_t *entries)
 {
     size_t i;
 
     for (i = 0; i < ASSERTS; i++) {
-        put_number(entries + PIM_ASSERT_ENTRY * i, assert_rows[i].group);
-        put_number(entries + PIM_ASSERT_ENTRY * i + 4, assert_rows[i].source);
-        put_number(entries + PIM_ASSERT_ENTRY * i + 8, assert_rows[i].r_preference);
-        put_number(entries + PIM_ASSERT_ENTRY * i + 12, assert_rows[i].metric);
+        uint8_t *at = put_family(l, entries + l->assert_entry * i);
+        at = put_address(l, at, l->asserts[i].group);
+        at = put_address(l, at, l->asserts[i].source);
+        at = put_number(at, l->asserts[i].r_preference);
+        put_number(at, l->asserts[i].metric);
     }
 }
 
 /* Packs until nothing is left: then the length is 0. */
-static void pack(const uint8_t *entries, size_t size, message_train *train, pim_counters *counters)
+static void pack(const lab *l, const uint8_t *entries, message_train *train, pim_counters *counters)
 {
     size_t start = 0;
 
-    printf("packing %d asserts, limit %d\n", ASSERTS, LIMIT);
+    printf("packing %d asserts, limit %zu\n", ASSERTS, l->limit);
     train->count = 0;
     for (;;) {
-        uint8_t message[LIMIT];
-        pim_pack_answer packed = pim_pack_aggregated(entries, size, start, LIMIT, message, sizeof message);
+        uint8_t message[LONGEST];
+        pim_pack_answer packed =
+            pim_pack_aggregated(l->family, path_from(l, l->ours), entries, l->assert_entry * ASSERTS, start, l->limit,
+                                message, sizeof message);
 
         must("pim_pack_aggregated", packed.refusal);
         if (packed.length == 0)
@@ -224,29 +331,31 @@ static void pack(const uint8_t *entries, size_t size, message_train *train, pim_
 }
 
 /* Reads all messages into one list. Returns the list's octets. */
-static size_t read_train(const message_train *train, uint8_t *entries, size_t room, pim_counters *counters)
+static size_t read_train(const lab *l, const message_train *train, uint8_t *entries, size_t room,
+                         pim_counters *counters)
 {
     size_t at = 0;
     size_t i;
 
     for (i = 0; i < train->count; i++) {
-        pim_read_answer read = pim_read_asserts(train->octets[i], train->lengths[i], entries + at, room - at);
+        pim_read_answer read = pim_read_asserts(l->family, path_from(l, l->ours), train->octets[i], train->lengths[i],
+                                                entries + at, room - at);
 
         must("pim_read_asserts", read.refusal);
-        at += PIM_ASSERT_ENTRY * read.count;
+        at += l->assert_entry * read.count;
         count(counters, true, read.kind, read.count);
     }
     return at;
 }
 
-static void check_train(const uint8_t *entries, size_t size, const message_train *train, pim_counters *counters)
+static void check_train(const lab *l, const uint8_t *entries, const message_train *train, pim_counters *counters)
 {
-    uint8_t again[PIM_ASSERT_ENTRY * (ASSERTS + 1)];
-    size_t length = read_train(train, again, sizeof again, counters);
+    uint8_t again[PIM_IPV6_ASSERT_ENTRY * (ASSERTS + 1)];
+    size_t length = read_train(l, train, again, sizeof again, counters);
 
-    if (length != size || memcmp(again, entries, size) != 0)
+    if (length != l->assert_entry * ASSERTS || memcmp(again, entries, length) != 0)
         fail("the train does not read back to the list");
-    printf("read back: %zu messages, %zu entries, the same list\n", train->count, length / PIM_ASSERT_ENTRY);
+    printf("read back: %zu messages, %zu entries, the same list\n", train->count, length / l->assert_entry);
 }
 
 /* ---- counters */
@@ -329,18 +438,14 @@ static void merge(void)
 
 /* ---- the sheet */
 
-/* Group and source of each pair; in a sheet source 0 is allowed. */
-static const uint32_t pair_rows[][2] = {{0xe8010101, 0x0a010001}, {0xe8010102, 0x0a010001}, {0xef000002, 0x00000000}};
-
-enum { PAIRS = sizeof pair_rows / sizeof pair_rows[0] };
-
-static void make_pairs(uint8_t *entries)
+static void make_pairs(const lab *l, uint8_t *entries)
 {
     size_t i;
 
     for (i = 0; i < PAIRS; i++) {
-        put_number(entries + PIM_PAIR_ENTRY * i, pair_rows[i][0]);
-        put_number(entries + PIM_PAIR_ENTRY * i + 4, pair_rows[i][1]);
+        uint8_t *at = put_family(l, entries + l->pair_entry * i);
+        at = put_address(l, at, l->pairs[i].group);
+        put_address(l, at, l->pairs[i].source);
     }
 }
 
@@ -352,8 +457,8 @@ static bool same_table(const pim_table *a, const pim_table *b)
     for (i = 0; i < PIM_ROWS; i++) {
         const pim_neighbour *x = &a->rows[i];
         const pim_neighbour *y = &b->rows[i];
-        if (x->address != y->address || x->priority != y->priority || x->has_priority != y->has_priority ||
-            x->packs != y->packs || x->holdtime != y->holdtime)
+        if (x->address.high != y->address.high || x->address.low != y->address.low || x->priority != y->priority ||
+            x->has_priority != y->has_priority || x->packs != y->packs || x->holdtime != y->holdtime)
             return false;
     }
     return a->count == b->count;
@@ -365,64 +470,73 @@ static void print_counts(const char *what, pim_sheet_counts counts)
 }
 
 /* Reads the sheet and compares with what it was written from. */
-static void check_read(const uint8_t *sheet, size_t length, const uint8_t *asserts, const uint8_t *pairs,
+static void check_read(const lab *l, const uint8_t *sheet, size_t length, const uint8_t *asserts, const uint8_t *pairs,
                        const pim_table *table)
 {
-    uint8_t asserts_again[PIM_ASSERT_ENTRY * ASSERTS];
-    uint8_t pairs_again[PIM_PAIR_ENTRY * PAIRS];
-    pim_sheet_answer read =
-        pim_read_sheet(sheet, length, asserts_again, sizeof asserts_again, pairs_again, sizeof pairs_again);
+    uint8_t asserts_again[PIM_IPV6_ASSERT_ENTRY * ASSERTS];
+    uint8_t pairs_again[PIM_IPV6_PAIR_ENTRY * PAIRS];
+    pim_sheet_answer read = pim_read_sheet(l->family, sheet, length, asserts_again, l->assert_entry * ASSERTS,
+                                           pairs_again, l->pair_entry * PAIRS);
 
     must("pim_read_sheet", read.refusal);
     print_counts("read back", read.counts);
     if (read.counts.asserts != ASSERTS || read.counts.pairs != PAIRS || !same_table(&read.table, table) ||
-        memcmp(asserts_again, asserts, sizeof asserts_again) != 0 ||
-        memcmp(pairs_again, pairs, sizeof pairs_again) != 0)
+        memcmp(asserts_again, asserts, l->assert_entry * ASSERTS) != 0 ||
+        memcmp(pairs_again, pairs, l->pair_entry * PAIRS) != 0)
         fail("the sheet does not read back to its lists and table");
     printf("  the same lists and table\n");
 }
 
-static void keep(const uint8_t *asserts, size_t size, const pim_table *table)
+static void keep(const lab *l, const uint8_t *asserts, const pim_table *table)
 {
-    uint8_t pairs[PIM_PAIR_ENTRY * PAIRS];
+    uint8_t pairs[PIM_IPV6_PAIR_ENTRY * PAIRS];
     uint8_t sheet[SHEET_ROOM];
     pim_length_answer written;
     pim_check_answer checked;
 
-    make_pairs(pairs);
-    written = pim_write_sheet(asserts, size, pairs, sizeof pairs, *table, sheet, sizeof sheet);
+    make_pairs(l, pairs);
+    written = pim_write_sheet(l->family, asserts, l->assert_entry * ASSERTS, pairs, l->pair_entry * PAIRS, *table,
+                              sheet, sizeof sheet);
     must("pim_write_sheet", written.refusal);
     printf("sheet: %zu octets\n", written.length);
-    checked = pim_check_sheet(sheet, written.length);
+    checked = pim_check_sheet(l->family, sheet, written.length);
     must("pim_check_sheet", checked.refusal);
     print_counts("checked", checked.counts);
-    check_read(sheet, written.length, asserts, pairs, table);
+    check_read(l, sheet, written.length, asserts, pairs, table);
 }
 
 /* ---- a refusal */
 
-/* The second message of the train has one group. It is made to claim two, with a checksum that holds. */
-static void show_refusal(const message_train *train)
+/* What makes the checksum of a message hold. */
+static void seal(const lab *l, pim_path path, uint8_t *message, size_t length)
 {
-    uint8_t message[LIMIT];
-    uint8_t entries[2 * PIM_ASSERT_ENTRY] = {0};
-    const uint8_t untouched[2 * PIM_ASSERT_ENTRY] = {0};
+    bool is_ipv4 = l->family == PIM_IPV4;
+    uint16_t sum = is_ipv4 ? pim_checksum(message, length) : pim_checksum_ipv6(path, message, length);
+
+    message[2] = (uint8_t)(sum >> 8);
+    message[3] = (uint8_t)sum;
+    if (!(is_ipv4 ? pim_checksum_holds(message, length) : pim_checksum_ipv6_holds(path, message, length)))
+        fail("the new checksum does not hold");
+}
+
+/* The second message of the train is made to claim one group more than it has, with a checksum that holds. */
+static void show_refusal(const lab *l, const message_train *train)
+{
+    uint8_t message[LONGEST];
+    uint8_t entries[3 * PIM_IPV6_ASSERT_ENTRY] = {0};
+    const uint8_t untouched[3 * PIM_IPV6_ASSERT_ENTRY] = {0};
+    pim_path path = path_from(l, l->ours);
     size_t length;
-    uint16_t sum;
     pim_read_answer read;
 
     if (train->count < 2 || train->lengths[1] < 24)
         fail("the train has no second message to damage");
     length = train->lengths[1];
     memcpy(message, train->octets[1], length);
-    message[23]++; /* the low octet of the number of groups */
-    sum = pim_checksum(message, length);
-    message[2] = (uint8_t)(sum >> 8);
-    message[3] = (uint8_t)sum;
-    if (!pim_checksum_holds(message, length))
-        fail("the new checksum does not hold");
+    message[19 + l->width]++; /* the low octet of the number of groups */
+    seal(l, path, message, length);
 
-    read = pim_read_asserts(message, length, entries, sizeof entries);
+    read = pim_read_asserts(l->family, path, message, length, entries, sizeof entries);
     if (read.refusal.number == PIM_ACCEPTED)
         fail("the damaged message is not refused");
     if (memcmp(entries, untouched, sizeof entries) != 0)
@@ -432,7 +546,7 @@ static void show_refusal(const message_train *train)
 
 /* ---- the image's own report */
 
-/* Every message of the train, and three octets of its first one, which are too few for a message. */
+/* Every message of the train, which is of IPv4, and three octets of its first one, which are too few for a message. */
 static void report(const message_train *train)
 {
     pim_tally tally = pim_tally_none();
@@ -450,22 +564,30 @@ static void report(const message_train *train)
            totals.messages, totals.records, mean.numerator, mean.denominator, tally.refused[PIM_BAD_LENGTH]);
 }
 
-int main(void)
+static void run(const lab *l, message_train *train)
 {
-    uint8_t asserts[PIM_ASSERT_ENTRY * ASSERTS];
-    message_train train;
+    uint8_t asserts[PIM_IPV6_ASSERT_ENTRY * ASSERTS];
     pim_table table;
     pim_counters counters = pim_counters_none();
 
-    hear_all(&table, &counters);
-    make_asserts(asserts);
-    pack(asserts, sizeof asserts, &train, &counters);
-    check_train(asserts, sizeof asserts, &train, &counters);
+    printf("%s\n", l->name);
+    hear_all(l, &table, &counters);
+    make_asserts(l, asserts);
+    pack(l, asserts, train, &counters);
+    check_train(l, asserts, train, &counters);
     print_counters(&counters);
-    merge();
-    keep(asserts, sizeof asserts, &table);
-    show_refusal(&train);
+    keep(l, asserts, &table);
+    show_refusal(l, train);
+}
+
+int main(void)
+{
+    message_train train;
+
+    run(&ipv4, &train);
     report(&train);
+    run(&ipv6, &train);
+    merge();
 
     if (fflush(stdout) != 0 || ferror(stdout))
         fail("the output cannot be written");

@@ -3,27 +3,27 @@
 --     accepted, refusal               not refused; refused
 --     lengthAnswer                    how many octets were written
 --     headerAnswer, readAnswer, helloAnswer     reading
---     recordOf, recordAnswer          a record read singly, of a kind that a number names
+--     kindOf, halved, recordAnswer    a record read singly, of a kind that a number names, its addresses in two halves
 --     packAnswer, choiceAnswer        packing
---     tableAnswer, allowedAnswer, electAnswer     neighbours
+--     tableAnswer, changedBy, allowedAnswer, electAnswer     neighbours
 --     directionOf, refusalOf          counters
 -- Assumes nothing: these are definitions.
-use Prim.Native.Nat.{ℕ}
+use Prim.Native.Nat.{ℕ, _/_, _%_}
 use mathlib.Core.Bool.{Bool, true, false}
-use mathlib.Core.List.{List}
 use mathlib.Core.Option.{Option, none, some}
 use Rattle.format.specs.Outcome.{Outcome, gives, refuses}
 use Rattle.format.specs.Reader.{Read, got, bad}
-use Rattle.format.specs.Family.{ipv4}
-use Rattle.format.specs.Record.{Single, anAssert, aPair, recordAt}
+use Rattle.format.specs.Record.{Single, anAssert, aPair}
 use Rattle.format.specs.Values.{kindNumber}
 use Rattle.format.specs.Reading.{Found, found}
 use Rattle.format.specs.Packing.{Wrote, wrote, Chosen, chosen}
+use Rattle.format.specs.declared.Address.{Address}
 use Rattle.format.specs.declared.Kind.{Kind}
 use Rattle.format.specs.declared.Refusal.{Refusal}
 use Rattle.hello.specs.Hello.{Hello as HelloSaid, hello}
 use Rattle.hello.specs.declared.Hello.{Hello}
-use Rattle.neighbours.specs.Hearing.{Done, replaced, appended, forgotten}
+use Rattle.neighbours.specs.Hearing.{Done, replaced, appended, forgotten, After}
+use Rattle.neighbours.specs.Answers.{doneOf, tableAfter}
 use Rattle.neighbours.specs.declared.Table.{Table}
 use Rattle.counters.specs.declared.Direction.{Direction}
 use Rattle.counters.specs.declared.Direction.the-variants.{Sent, Received}
@@ -55,17 +55,24 @@ headerAnswer (gives k) = record { refusal = accepted; kind = kindNumber k }
 headerAnswer (refuses n p) = record { refusal = refusal n p; kind = 0 }
 
 -- "kind not one that the call reads": 4
-unfoldable pub recordOf : Option Kind → List ℕ → ℕ → Read Single
-recordOf (some k) o at = recordAt ipv4 k o at
-recordOf none o at = bad 4 0
+unfoldable pub kindOf : Option Kind → (Kind → Read Single) → Read Single
+kindOf (some k) reader = reader k
+kindOf none reader = bad 4 0
+
+-- an address in two halves
+abbrev pub halved : ℕ → Address
+halved n = record { high = n / 18446744073709551616; low = n % 18446744073709551616 }
+
+abbrev pub zero : Address
+zero = record { high = 0; low = 0 }
 
 -- a pair has no preference and no metric: both are 0
 unfoldable pub recordAnswer : Read Single → RecordAnswer
 recordAnswer (got (anAssert e) next) = record {
   refusal = accepted;
   next = next;
-  group = e .group;
-  source = e .source;
+  group = halved (e .group);
+  source = halved (e .source);
   «r_preference» = e .rPreference;
   metric = e .metric;
   «is_pair» = false;
@@ -73,8 +80,8 @@ recordAnswer (got (anAssert e) next) = record {
 recordAnswer (got (aPair e) next) = record {
   refusal = accepted;
   next = next;
-  group = e .group;
-  source = e .source;
+  group = halved (e .group);
+  source = halved (e .source);
   «r_preference» = 0;
   metric = 0;
   «is_pair» = true;
@@ -82,8 +89,8 @@ recordAnswer (got (aPair e) next) = record {
 recordAnswer (bad n p) = record {
   refusal = refusal n p;
   next = 0;
-  group = 0;
-  source = 0;
+  group = zero;
+  source = zero;
   «r_preference» = 0;
   metric = 0;
   «is_pair» = false;
@@ -124,13 +131,17 @@ unfoldable pub tableAnswer : Table → Outcome Done → TableAnswer
 tableAnswer t (gives d) = record { refusal = accepted; table = t; done = doneNumber d }
 tableAnswer t (refuses n p) = record { refusal = refusal n p; table = t; done = 0 }
 
+-- of a table that is passed and given back
+unfoldable pub changedBy : Table → Outcome After → TableAnswer
+changedBy t o = tableAnswer (tableAfter t o) (doneOf o)
+
 unfoldable pub allowedAnswer : Outcome Bool → AllowedAnswer
 allowedAnswer (gives b) = record { refusal = accepted; allowed = b }
 allowedAnswer (refuses n p) = record { refusal = refusal n p; allowed = false }
 
-unfoldable pub electAnswer : Outcome ℕ → ElectAnswer
+unfoldable pub electAnswer : Outcome Address → ElectAnswer
 electAnswer (gives a) = record { refusal = accepted; address = a }
-electAnswer (refuses n p) = record { refusal = refusal n p; address = 0 }
+electAnswer (refuses n p) = record { refusal = refusal n p; address = zero }
 
 -- ---- counters
 

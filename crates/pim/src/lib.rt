@@ -3,6 +3,7 @@
 // puts the answer into a record that C can hold. include/pim.h describes each of them.
 //
 // answers.rt      what several calls answer with
+// families.rt     the family that a number names
 // messages.rt     header, body, a record read singly, the reading calls; a Hello written
 // packs.rt        the packing calls
 // tables.rt       the neighbour table and the election
@@ -12,6 +13,7 @@
 // stored.rt       the stored sheet
 // sums.rt         the checksum
 mod answers;
+mod families;
 mod messages;
 mod packs;
 mod popcounts;

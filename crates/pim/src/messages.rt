@@ -3,9 +3,16 @@ use crate::answers::LengthAnswer;
 use crate::answers::accepted;
 use crate::answers::length_answer;
 use crate::answers::refused;
+use crate::families::Numbered;
+use crate::families::family_numbered;
+use crate::families::no_family;
+use format::Address;
+use format::AddressFamily;
 use format::Named;
+use format::Path;
 use format::Record;
 use format::Refusal;
+use format::Writing;
 use format::kind_named;
 use format::kind_number;
 use hello::Hello;
@@ -15,9 +22,11 @@ use reading::Reading;
 use reading::Single;
 ghost use mathlib.Core.Path.{_≡_};
 ghost use lib.ListN.{length};
-ghost use Rattle.format.specs.Path.{nowhere};
-ghost use Rattle.format.specs.Family.{ipv4};
+ghost use mathlib.Core.List.{[]};
+ghost use Rattle.format.specs.Family.{familyNamed};
 ghost use Rattle.format.specs.Header.{header, body};
+ghost use Rattle.format.specs.Reader.{bad};
+ghost use Rattle.format.specs.Record.{recordAt};
 ghost use Rattle.format.specs.Reading.{readAsserts, readPairs};
 ghost use Rattle.format.specs.Values.{kindNamed};
 ghost use Rattle.headers.specs.Answers.{headed};
@@ -25,7 +34,8 @@ ghost use Rattle.fields.specs.Answers.{single};
 ghost use Rattle.reading.specs.Calls.{answered};
 ghost use Rattle.hello.specs.Hello.{readHello, writeHello};
 ghost use Rattle.hello.specs.Answers.{helloBy, told, unannounced};
-ghost use Rattle.pim.specs.Answers.{headerAnswer, recordOf, recordAnswer, readAnswer, helloAnswer, lengthAnswer};
+ghost use Rattle.pim.specs.Answers.{headerAnswer, kindOf, recordAnswer, readAnswer, helloAnswer, lengthAnswer};
+ghost use Rattle.pim.specs.Families.{familyNumbered, ofFamily, noFamily};
 
 #[repr(C)]
 pub struct HeaderAnswer {
@@ -37,8 +47,8 @@ pub struct HeaderAnswer {
 pub struct RecordAnswer {
     pub refusal: Refusal,
     pub next: usize,
-    pub group: u32,
-    pub source: u32,
+    pub group: Address,
+    pub source: Address,
     pub r_preference: u32,
     pub metric: u32,
     pub is_pair: bool,
@@ -71,42 +81,58 @@ fn header_answer(h: Headed) -> HeaderAnswer
 
 // The kind of a message.
 #[no_mangle]
-pub extern "C" fn pim_header(m: &[u8]) -> HeaderAnswer
-    ensures { λ r. ⌜ r ≡ headerAnswer (header ipv4 nowhere (now (m .entry))) ⌝ }
+pub extern "C" fn pim_header(family: u8, path: Path, m: &[u8]) -> HeaderAnswer
+    ensures { λ r. ⌜ r ≡ headerAnswer (ofFamily (familyNumbered family) (λ a. header (familyNamed a) path (now (m .entry))) noFamily) ⌝ }
 {
-    header_answer(reading::header(m))
+    let f = family_numbered(family);
+    match f {
+        Numbered::Is(family) => header_answer(reading::header(family, path, m)),
+        Numbered::Neither => header_answer(Headed::Refused(no_family())),
+    }
 }
 
 // How many octets the body has, which begins at octet 4.
 #[no_mangle]
-pub extern "C" fn pim_body(m: &[u8]) -> usize
-    ensures { λ r. ⌜ r ≡ length (body ipv4 nowhere (now (m .entry))) ⌝ }
+pub extern "C" fn pim_body(family: u8, path: Path, m: &[u8]) -> usize
+    ensures { λ r. ⌜ r ≡ length (ofFamily (familyNumbered family) (λ a. body (familyNamed a) path (now (m .entry))) []) ⌝ }
 {
-    reading::body(m).len()
+    let f = family_numbered(family);
+    match f {
+        Numbered::Is(family) => reading::body(family, path, m).len(),
+        Numbered::Neither => 0,
+    }
 }
 
 fn got(read: Record, next: usize) -> RecordAnswer
     ensures { λ r. ⌜ r ≡ recordAnswer (single (Single.Got read next)) ⌝ }
 {
     match read {
-        Record::Assert(e) => RecordAnswer {
-            refusal: accepted(),
-            next,
-            group: e.group,
-            source: e.source,
-            r_preference: e.r_preference,
-            metric: e.metric,
-            is_pair: false,
-        },
-        Record::Pair(e) => RecordAnswer {
-            refusal: accepted(),
-            next,
-            group: e.group,
-            source: e.source,
-            r_preference: 0,
-            metric: 0,
-            is_pair: true,
-        },
+        Record::Assert(e) => {
+            let group = e.group;
+            let source = e.source;
+            RecordAnswer {
+                refusal: accepted(),
+                next,
+                group,
+                source,
+                r_preference: e.r_preference,
+                metric: e.metric,
+                is_pair: false,
+            }
+        }
+        Record::Pair(e) => {
+            let group = e.group;
+            let source = e.source;
+            RecordAnswer {
+                refusal: accepted(),
+                next,
+                group,
+                source,
+                r_preference: 0,
+                metric: 0,
+                is_pair: true,
+            }
+        }
     }
 }
 
@@ -129,20 +155,33 @@ fn read_answer(r: Reading) -> ReadAnswer
 
 // The entries of a message of the assert kinds.
 #[no_mangle]
-pub extern "C" fn pim_read_asserts(m: &[u8], entries: &mut [u8]) -> ReadAnswer
-    ensures answer { λ r. ⌜ r ≡ readAnswer (readAsserts ipv4 nowhere (now (m .entry)) (now (entries .entry)) .answer) ⌝ }
-    ensures entries { λ _. ⌜ now (entries .exit) ≡ readAsserts ipv4 nowhere (now (m .entry)) (now (entries .entry)) .lent ⌝ }
+pub extern "C" fn pim_read_asserts(
+    family: u8,
+    path: Path,
+    m: &[u8],
+    entries: &mut [u8],
+) -> ReadAnswer
+    ensures answer { λ r. ⌜ r ≡ readAnswer (ofFamily (familyNumbered family) (λ a. readAsserts (familyNamed a) path (now (m .entry)) (now (entries .entry)) .answer) noFamily) ⌝ }
+    ensures entries { λ _. ⌜ now (entries .exit) ≡ ofFamily (familyNumbered family) (λ a. readAsserts (familyNamed a) path (now (m .entry)) (now (entries .entry)) .lent) (now (entries .entry)) ⌝ }
 {
-    read_answer(reading::read_asserts(m, entries))
+    let f = family_numbered(family);
+    match f {
+        Numbered::Is(family) => read_answer(reading::read_asserts(family, path, m, entries)),
+        Numbered::Neither => read_answer(Reading::Refused(no_family())),
+    }
 }
 
 // The entries of a message of the pair kinds.
 #[no_mangle]
-pub extern "C" fn pim_read_pairs(m: &[u8], entries: &mut [u8]) -> ReadAnswer
-    ensures answer { λ r. ⌜ r ≡ readAnswer (readPairs ipv4 nowhere (now (m .entry)) (now (entries .entry)) .answer) ⌝ }
-    ensures entries { λ _. ⌜ now (entries .exit) ≡ readPairs ipv4 nowhere (now (m .entry)) (now (entries .entry)) .lent ⌝ }
+pub extern "C" fn pim_read_pairs(family: u8, path: Path, m: &[u8], entries: &mut [u8]) -> ReadAnswer
+    ensures answer { λ r. ⌜ r ≡ readAnswer (ofFamily (familyNumbered family) (λ a. readPairs (familyNamed a) path (now (m .entry)) (now (entries .entry)) .answer) noFamily) ⌝ }
+    ensures entries { λ _. ⌜ now (entries .exit) ≡ ofFamily (familyNumbered family) (λ a. readPairs (familyNamed a) path (now (m .entry)) (now (entries .entry)) .lent) (now (entries .entry)) ⌝ }
 {
-    read_answer(reading::read_pairs(m, entries))
+    let f = family_numbered(family);
+    match f {
+        Numbered::Is(family) => read_answer(reading::read_pairs(family, path, m, entries)),
+        Numbered::Neither => read_answer(Reading::Refused(no_family())),
+    }
 }
 
 // A Hello as it is handed over: nothing is said where reading refuses.
@@ -169,19 +208,27 @@ fn hello_answer(h: HelloRead) -> HelloAnswer
 
 // What a Hello says.
 #[no_mangle]
-pub extern "C" fn pim_read_hello(m: &[u8]) -> HelloAnswer
-    ensures { λ r. ⌜ r ≡ helloAnswer (readHello ipv4 nowhere (now (m .entry))) ⌝ }
+pub extern "C" fn pim_read_hello(family: u8, path: Path, m: &[u8]) -> HelloAnswer
+    ensures { λ r. ⌜ r ≡ helloAnswer (ofFamily (familyNumbered family) (λ a. readHello (familyNamed a) path (now (m .entry))) noFamily) ⌝ }
 {
-    hello_answer(hello::read_hello(m))
+    let f = family_numbered(family);
+    match f {
+        Numbered::Is(family) => hello_answer(hello::read_hello(family, path, m)),
+        Numbered::Neither => hello_answer(HelloRead::Refused(no_family())),
+    }
 }
 
 // The Hello that says this.
 #[no_mangle]
-pub extern "C" fn pim_write_hello(said: Hello, d: &mut [u8]) -> LengthAnswer
-    ensures answer { λ r. ⌜ r ≡ lengthAnswer (writeHello ipv4 nowhere (helloBy said) (now (d .entry)) .answer) ⌝ }
-    ensures buffer { λ _. ⌜ now (d .exit) ≡ writeHello ipv4 nowhere (helloBy said) (now (d .entry)) .buffer ⌝ }
+pub extern "C" fn pim_write_hello(family: u8, path: Path, said: Hello, d: &mut [u8]) -> LengthAnswer
+    ensures answer { λ r. ⌜ r ≡ lengthAnswer (ofFamily (familyNumbered family) (λ a. writeHello (familyNamed a) path (helloBy said) (now (d .entry)) .answer) noFamily) ⌝ }
+    ensures buffer { λ _. ⌜ now (d .exit) ≡ ofFamily (familyNumbered family) (λ a. writeHello (familyNamed a) path (helloBy said) (now (d .entry)) .buffer) (now (d .entry)) ⌝ }
 {
-    length_answer(hello::write_hello(said, d))
+    let f = family_numbered(family);
+    match f {
+        Numbered::Is(family) => length_answer(hello::write_hello(family, path, said, d)),
+        Numbered::Neither => length_answer(Writing::Refused(no_family())),
+    }
 }
 
 fn no_record(refusal: Refusal) -> RecordAnswer
@@ -190,8 +237,8 @@ fn no_record(refusal: Refusal) -> RecordAnswer
     RecordAnswer {
         refusal,
         next: 0,
-        group: 0,
-        source: 0,
+        group: Address { high: 0, low: 0 },
+        source: Address { high: 0, low: 0 },
         r_preference: 0,
         metric: 0,
         is_pair: false,
@@ -208,16 +255,27 @@ fn record_answer(s: Single) -> RecordAnswer
 }
 
 // The record of a kind at a place; 4 for a number that names no kind.
-#[no_mangle]
-pub extern "C" fn pim_read_record(kind: u8, o: &[u8], at: usize) -> RecordAnswer
-    ensures { λ r. ⌜ r ≡ recordAnswer (recordOf (kindNamed kind) (now (o .entry)) at) ⌝ }
+fn of_kind(family: AddressFamily, kind: u8, o: &[u8], at: usize) -> RecordAnswer
+    ensures { λ r. ⌜ r ≡ recordAnswer (kindOf (kindNamed kind) (λ k. recordAt (familyNamed family) k (now (o .entry)) at)) ⌝ }
 {
     let k = kind_named(kind);
     match k {
-        Named::Is(kind) => record_answer(reading::read_record(kind, o, at)),
+        Named::Is(kind) => record_answer(reading::read_record(family, kind, o, at)),
         Named::Nothing => no_record(Refusal {
             number: 4,
             place: 0,
         }),
+    }
+}
+
+// The same in the family that a number names.
+#[no_mangle]
+pub extern "C" fn pim_read_record(family: u8, kind: u8, o: &[u8], at: usize) -> RecordAnswer
+    ensures { λ r. ⌜ r ≡ recordAnswer (ofFamily (familyNumbered family) (λ a. kindOf (kindNamed kind) (λ k. recordAt (familyNamed a) k (now (o .entry)) at)) (bad 4 0)) ⌝ }
+{
+    let f = family_numbered(family);
+    match f {
+        Numbered::Is(family) => of_kind(family, kind, o, at),
+        Numbered::Neither => no_record(no_family()),
     }
 }

@@ -1,5 +1,9 @@
 // The neighbour table and the election.
 use crate::answers::accepted;
+use crate::families::Numbered;
+use crate::families::family_numbered;
+use crate::families::no_family;
+use format::Address;
 use format::Refusal;
 use hello::Hello;
 use neighbours::Allowance;
@@ -14,8 +18,10 @@ ghost use Rattle.neighbours.specs.Rows.{tableOf};
 ghost use Rattle.neighbours.specs.Hearing.{hearing, forgetting};
 ghost use Rattle.neighbours.specs.Election.{mayPack, electing};
 ghost use Rattle.neighbours.specs.Among.{electingAmong};
-ghost use Rattle.neighbours.specs.Answers.{doneBy, doneOf, tableAfter, packingBy, electedBy};
-ghost use Rattle.pim.specs.Answers.{tableAnswer, allowedAnswer, electAnswer};
+ghost use Rattle.neighbours.specs.Answers.{doneBy, packingBy, electedBy};
+ghost use Rattle.format.specs.Family.{familyNamed};
+ghost use Rattle.pim.specs.Answers.{tableAnswer, changedBy, allowedAnswer, electAnswer};
+ghost use Rattle.pim.specs.Families.{familyNumbered, ofFamily, noFamily};
 
 #[repr(C)]
 pub struct TableAnswer {
@@ -33,7 +39,7 @@ pub struct AllowedAnswer {
 #[repr(C)]
 pub struct ElectAnswer {
     pub refusal: Refusal,
-    pub address: u32,
+    pub address: Address,
 }
 
 // A table without neighbours.
@@ -71,20 +77,39 @@ fn table_answer(c: Changed) -> TableAnswer
     }
 }
 
+// A table as it was, of no family.
+fn not_changed(table: Table) -> TableAnswer
+    ensures { λ r. ⌜ r ≡ tableAnswer table noFamily ⌝ }
+{
+    TableAnswer {
+        refusal: no_family(),
+        table,
+        done: 0,
+    }
+}
+
 // Hearing a Hello from an address.
 #[no_mangle]
-pub extern "C" fn pim_hear(table: Table, address: u32, said: Hello) -> TableAnswer
-    ensures { λ r. ⌜ r ≡ tableAnswer (tableAfter table (hearing table address said)) (doneOf (hearing table address said)) ⌝ }
+pub extern "C" fn pim_hear(family: u8, table: Table, address: Address, said: Hello) -> TableAnswer
+    ensures { λ r. ⌜ r ≡ changedBy table (ofFamily (familyNumbered family) (λ a. hearing (familyNamed a) table address said) noFamily) ⌝ }
 {
-    table_answer(table.hear(address, said))
+    let f = family_numbered(family);
+    match f {
+        Numbered::Is(family) => table_answer(table.hear(family, address, said)),
+        Numbered::Neither => not_changed(table),
+    }
 }
 
 // Forgetting an address.
 #[no_mangle]
-pub extern "C" fn pim_forget(table: Table, address: u32) -> TableAnswer
-    ensures { λ r. ⌜ r ≡ tableAnswer (tableAfter table (forgetting table address)) (doneOf (forgetting table address)) ⌝ }
+pub extern "C" fn pim_forget(family: u8, table: Table, address: Address) -> TableAnswer
+    ensures { λ r. ⌜ r ≡ changedBy table (ofFamily (familyNumbered family) (λ a. forgetting (familyNamed a) table address) noFamily) ⌝ }
 {
-    table_answer(table.forget(address))
+    let f = family_numbered(family);
+    match f {
+        Numbered::Is(family) => table_answer(table.forget(family, address)),
+        Numbered::Neither => not_changed(table),
+    }
 }
 
 fn allowed_answer(p: Allowance) -> AllowedAnswer
@@ -104,10 +129,14 @@ fn allowed_answer(p: Allowance) -> AllowedAnswer
 
 // Whether packing is allowed.
 #[no_mangle]
-pub extern "C" fn pim_packing_allowed(table: Table) -> AllowedAnswer
-    ensures { λ r. ⌜ r ≡ allowedAnswer (mayPack table) ⌝ }
+pub extern "C" fn pim_packing_allowed(family: u8, table: Table) -> AllowedAnswer
+    ensures { λ r. ⌜ r ≡ allowedAnswer (ofFamily (familyNumbered family) (λ a. mayPack (familyNamed a) table) noFamily) ⌝ }
 {
-    allowed_answer(table.packing_allowed())
+    let f = family_numbered(family);
+    match f {
+        Numbered::Is(family) => allowed_answer(table.packing_allowed(family)),
+        Numbered::Neither => allowed_answer(Allowance::Refused(no_family())),
+    }
 }
 
 fn elect_answer(e: Elected) -> ElectAnswer
@@ -120,17 +149,26 @@ fn elect_answer(e: Elected) -> ElectAnswer
         },
         Elected::Refused(refusal) => ElectAnswer {
             refusal,
-            address: 0,
+            address: Address { high: 0, low: 0 },
         },
     }
 }
 
 // The designated router over the rows and our own router.
 #[no_mangle]
-pub extern "C" fn pim_elect(table: Table, address: u32, priority: u32) -> ElectAnswer
-    ensures { λ r. ⌜ r ≡ electAnswer (electing table address priority) ⌝ }
+pub extern "C" fn pim_elect(
+    family: u8,
+    table: Table,
+    address: Address,
+    priority: u32,
+) -> ElectAnswer
+    ensures { λ r. ⌜ r ≡ electAnswer (ofFamily (familyNumbered family) (λ a. electing (familyNamed a) table address priority) noFamily) ⌝ }
 {
-    elect_answer(table.elect(address, priority))
+    let f = family_numbered(family);
+    match f {
+        Numbered::Is(family) => elect_answer(table.elect(family, address, priority)),
+        Numbered::Neither => elect_answer(Elected::Refused(no_family())),
+    }
 }
 
 // The designated router over a lent list of rows, without our own router; only their addresses are looked at.

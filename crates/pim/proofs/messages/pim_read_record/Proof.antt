@@ -1,40 +1,25 @@
--- `pim::messages::pim_read_record` meets its contract, by whether the number names a kind.
+-- `pim::messages::pim_read_record` meets its contract, by whether the number names a family: the record of that family, or its refusal.
 -- Assumes nothing.
 use mathlib.Core.Path.{sym, ap, _∙_}
-use denote.Ref.{now}
 use borrow.Author.Needs.{needs}
 use Rattle.fields.specs.Answers.{single}
-use Rattle.format.specs.Values.{namedBy}
-use Rattle.pim.specs.Answers.{recordOf, recordAnswer}
+use Rattle.fields.specs.declared.record.Single.the-variants.{Refused}
+use Rattle.pim.specs.Answers.{recordAnswer}
+use Rattle.pim.specs.Families.{familyBy, ofFamily}
 use Rattle.pim.proofs.messages.pim_read_record.Statement.{statement}
 use Rattle.pim.proofs.messages.pim_read_record.Tie as tie
 
 returns : tie.Need-returns
-unfolding namedBy recordOf
+unfolding familyBy ofFamily
 returns c =
-    let n = c .before .before .before .before .before in
-    let s = n .before .before in
-    let named = ap namedBy (sym (c .before .before .before .k .given .1)) ∙ n .kind-named .ensures in
-    c .record-answer .ensures
-    ∙ ap recordAnswer (c .before .read-record .ensures ∙ ap (λ k. recordOf k (now (s .args .o)) (s .args .at)) named)
+    let named = ap familyBy (sym (c .before .before .f .given .1)) ∙ c .before .before .before .before .family-numbered .ensures in
+    rw (← named) (c .of-kind .ensures)
 
 returns-2 : tie.Need-returns-2
-unfolding namedBy recordOf single
+unfolding familyBy ofFamily single
 returns-2 c =
-    let n = c .before .before .before in
-    let s = n .before .before in
-    let named = ap namedBy (sym (c .before .enum-told .given .1)) ∙ n .kind-named .ensures in
-    c .no-record .ensures ∙ ap (λ k. recordAnswer (recordOf k (now (s .args .o)) (s .args .at))) named
+    let named = ap familyBy (sym (c .before .before .enum-told .given .1)) ∙ c .before .before .before .before .family-numbered .ensures in
+    rw (← named) (c .no-record .ensures ∙ ap (λ x. recordAnswer (single (Refused x))) (c .before .no-family .ensures))
 
 pub pim-read-record-spec : {M : Type 1} → statement M
-pim-read-record-spec =
-    tie.close
-    (tie.spec
-    (λ c κs. search needs)
-    (λ c. search needs)
-    (λ c κs. search needs)
-    (λ c κs. search needs)
-    (λ c. search needs)
-    (λ c κs. search needs)
-    returns
-    returns-2)
+pim-read-record-spec = tie.close (tie.spec (λ c κs. search needs) (λ c. search needs) (λ c κs. search needs) (λ c. search needs) (λ c κs. search needs) (λ c κs. search needs) returns returns-2)
