@@ -2,7 +2,7 @@
 //
 // line.rt      texts, numbers, addresses and refusals
 // table.rt     cases written as text: a name, and octets in hexadecimal
-// part.rt      the front of a slice, what two have in common, an entry put into one
+// part.rt      the front of a slice, what two have in common, an address or an entry put into one
 mod line;
 mod part;
 mod table;
@@ -19,6 +19,7 @@ pub use line::title;
 pub use line::told;
 pub use part::front;
 pub use part::in_common;
+pub use part::put_address;
 pub use part::put_assert;
 pub use table::Case;
 pub use table::case_at;

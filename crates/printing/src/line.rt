@@ -1,5 +1,6 @@
 // Texts, numbers, addresses and refusals on standard output. Each function answers whether all of its text was written, and stops at
 // the first write that failed. No contract can say what is written.
+use format::Address;
 use format::Refusal;
 use libc::STDERR_FILENO;
 use libc::STDOUT_FILENO;
@@ -34,12 +35,46 @@ pub fn flag(b: bool) -> bool {
     text(b"0")
 }
 
-// An address, octet by octet.
-pub fn address(a: u32) -> bool {
-    decimal((a / 0x1_000000) as u64)
-        && number(b".", (a / 0x1_0000 % 256) as u64)
-        && number(b".", (a / 0x1_00 % 256) as u64)
-        && number(b".", (a % 256) as u64)
+// An IPv4 address, octet by octet.
+fn four(a: u64) -> bool {
+    decimal(a / 0x1_000000 % 256)
+        && number(b".", a / 0x1_0000 % 256)
+        && number(b".", a / 0x1_00 % 256)
+        && number(b".", a % 256)
+}
+
+fn hexadecimal(n: u64) -> bool {
+    io::print_hex(STDOUT_FILENO, n, 1)
+}
+
+// Four groups of 16 bits.
+fn groups(n: u64) -> bool {
+    hexadecimal(n / 0x1_0000_0000_0000)
+        && text(b":")
+        && hexadecimal(n / 0x1_0000_0000 % 0x1_0000)
+        && text(b":")
+        && hexadecimal(n / 0x1_0000 % 0x1_0000)
+        && text(b":")
+        && hexadecimal(n % 0x1_0000)
+}
+
+// An IPv6 address: fe80::1 where all groups but the first and the last are 0, and else all eight groups.
+fn sixteen(a: Address) -> bool {
+    if addresses::is_zero(a) {
+        return text(b"::");
+    }
+    if a.high % 0x1_0000_0000_0000 == 0 && a.low < 0x1_0000 {
+        return hexadecimal(a.high / 0x1_0000_0000_0000) && text(b"::") && hexadecimal(a.low);
+    }
+    groups(a.high) && text(b":") && groups(a.low)
+}
+
+// An address of a family.
+pub fn address(ipv6: bool, a: Address) -> bool {
+    if ipv6 {
+        return sixteen(a);
+    }
+    four(a.low)
 }
 
 // A refusal, and what follows it.

@@ -1,9 +1,9 @@
 // Hellos made by hand: with and without each option, and what is refused of them.
-use listing::show_all;
+use crate::shown::show_ipv4;
 
 // Holdtime 30 s, priority 5, packing: none, each alone, all, and options that are skipped.
 fn said() {
-    show_all(
+    show_ipv4(
         b"\
 Hello: no option
 2000dfff
@@ -25,7 +25,7 @@ Hello: an unknown option twice, and one of no octets
 
 // 13: a known option of another length, or given twice, also where its value is cut.
 fn refused() {
-    show_all(
+    show_ipv4(
         b"\
 Hello: holdtime of 4 octets
 2000dfdc000100040000001e
@@ -47,7 +47,7 @@ Hello: a second holdtime, cut in its value
 
 // 6: cut in an option.
 fn cut() {
-    show_all(
+    show_ipv4(
         b"\
 Hello: cut in a type
 2000dfde00010002001e00

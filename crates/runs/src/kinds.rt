@@ -1,9 +1,9 @@
 // The messages of crates/cases/specs/Messages.antt and Marked.antt, each kind, with their octets as there.
-use listing::show_all;
+use crate::shown::show_ipv4;
 
 // 01, examples 1 and 6.
 fn examples() {
-    show_all(
+    show_ipv4(
         b"\
 example 1, simple
 2501e5580000000001000020e801010101000a0000010000006e00000014
@@ -15,7 +15,7 @@ example 6, one group record with p=2
 
 // RFC 9466, figures 6 to 8.
 fn aggregated() {
-    show_all(
+    show_ipv4(
         b"\
 a source aggregated record with two groups
 25033166000000000a0b0c0d1112131401000a1516170002000001000020e831323301000020ef414243
@@ -29,7 +29,7 @@ both in one message
 
 // RFC 7761, 4.9.6; RFC 9466, figures 3 and 4; RFC 9465.
 fn others() {
-    show_all(
+    show_ipv4(
         b"\
 a plain assert with R=1
 2500555101000020e3a1a2a301000ab1b2b38c1d2e3fc1c2c3c4
@@ -45,7 +45,7 @@ a Register-Stop message with two records
 
 // Accepted, though they are written otherwise; and the sources beside those that are refused.
 fn accepted() {
-    show_all(
+    show_ipv4(
         b"\
 ignored bits, flags and Reserved set
 25fd31f700a1b2c30100ff20e801010101000a0000010000006e00000014

@@ -1,10 +1,10 @@
 // Damaged messages, as in crates/cases/specs/Faults.antt, Cuts.antt and Sources.antt: a refusal of each number from 1 to 7, and 6 and 7 at every
 // sort of field.
-use listing::show_all;
+use crate::shown::show_ipv4;
 
 // 1 to 4: the header.
 fn header() {
-    show_all(
+    show_ipv4(
         b"\
 no octet
 
@@ -26,7 +26,7 @@ type 13, subtype 2
 
 // 5: Zero not 0, or no record; 6 where the message ends before.
 fn start() {
-    show_all(
+    show_ipv4(
         b"\
 Zero not 0
 2501e4580100000001000020e801010101000a0000010000006e00000014
@@ -50,7 +50,7 @@ a Register-Stop message with no pair
 
 // 6: a plain assert cut, or octets after it; a simple record cut.
 fn cut_assert() {
-    show_all(
+    show_ipv4(
         b"\
 a plain assert, before the group
 2500daff
@@ -72,7 +72,7 @@ the second simple record, cut in its metric
 
 // 6: an aggregated record cut, or a count of 0; a pair cut.
 fn cut_packed() {
-    show_all(
+    show_ipv4(
         b"\
 a source aggregated record, before the metric
 2503da8e000000000000006e
@@ -110,7 +110,7 @@ the second pair cut
 
 // 7: an address form or an address that is not allowed.
 fn address() {
-    show_all(
+    show_ipv4(
         b"\
 mask length 31
 2500e55a0100001fe801010101000a0000010000006e00000014
@@ -138,7 +138,7 @@ the second pair with a unicast group
 
 // 7: a multicast source, and 255.255.255.255, in each form, whatever R says and whatever follows.
 fn source() {
-    show_all(
+    show_ipv4(
         b"\
 source 224.0.0.0
 25000f5a01000020e80101010100e00000000000006e00000014

@@ -3,7 +3,9 @@
 //
 // In a sum of words ffff counts as 0, so a Hello of greatest values has the checksum of least ones. The last is 20b0 in
 // all: 2000 and 1, 2, 69; 13, 4, 0, 5; 28, 0.
+use format::AddressFamily;
 use format::Writing;
+use format::nowhere;
 use hello::Hello;
 use printing::front;
 use printing::in_common;
@@ -12,7 +14,7 @@ use printing::text;
 use printing::title;
 
 // What a Hello says.
-fn saying(holdtime: u16, has_priority: bool, priority: u32, packing: bool) -> Hello {
+pub(crate) fn saying(holdtime: u16, has_priority: bool, priority: u32, packing: bool) -> Hello {
     Hello {
         holdtime,
         has_priority,
@@ -24,7 +26,7 @@ fn saying(holdtime: u16, has_priority: bool, priority: u32, packing: bool) -> He
 fn show(name: &[u8], said: Hello, by_hand: &[u8]) {
     let mut d = [0; 22];
     title(name);
-    let answer = hello::write_hello(said, &mut d);
+    let answer = hello::write_hello(AddressFamily::Ipv4, nowhere(), said, &mut d);
     match answer {
         Writing::Refused(r) => listing::refused(r),
         Writing::Wrote(n) => {
@@ -90,7 +92,12 @@ fn with_priority() {
 // 8: one octet less than the message has.
 fn refused() {
     let mut d = [0; 21];
-    let answer = hello::write_hello(saying(105, true, 5, true), &mut d);
+    let answer = hello::write_hello(
+        AddressFamily::Ipv4,
+        nowhere(),
+        saying(105, true, 5, true),
+        &mut d,
+    );
     title(b"written: into 21 octets");
     match answer {
         Writing::Refused(r) => listing::refused(r),

@@ -1,4 +1,5 @@
 // What the calls of a sheet and of a table answered, a line each.
+use format::AddressFamily;
 use format::Writing;
 use neighbours::Change;
 use printing::named;
@@ -12,8 +13,25 @@ use sheet::Verdict;
 
 pub(crate) fn form_name(form: Form) -> bool {
     match form {
-        Form::Base => text(b"old form"),
-        Form::Large => text(b"new form"),
+        Form::Base => text(b"base form"),
+        Form::Large => text(b"form 2"),
+        Form::Ipv4 => text(b"form 3"),
+        Form::Ipv6 => text(b"form 4"),
+    }
+}
+
+pub(crate) fn family_name(family: AddressFamily) -> bool {
+    match family {
+        AddressFamily::Ipv4 => text(b"IPv4"),
+        AddressFamily::Ipv6 => text(b"IPv6"),
+    }
+}
+
+// The family that is not named.
+pub(crate) fn other(family: AddressFamily) -> AddressFamily {
+    match family {
+        AddressFamily::Ipv4 => AddressFamily::Ipv6,
+        AddressFamily::Ipv6 => AddressFamily::Ipv4,
     }
 }
 
@@ -23,11 +41,19 @@ fn counts(c: Counts) -> bool {
         && named(b" neighbours ", c.neighbours as u64)
 }
 
-pub(crate) fn checked(c: Verdict) -> bool {
+// A sheet checked.
+pub(crate) fn checked(family: AddressFamily, o: &[u8]) -> bool {
+    let c = sheet::check_sheet(family, o);
     match c {
         Verdict::Valid(n) => counts(n),
         Verdict::Refused(r) => refused(r, b"\n"),
     }
+}
+
+// A sheet checked as one of the other family.
+pub(crate) fn other_checked(family: AddressFamily, o: &[u8]) -> bool {
+    let f = other(family);
+    text(b"  named ") && family_name(f) && text(b": ") && checked(f, o)
 }
 
 pub(crate) fn found(f: Found) -> bool {

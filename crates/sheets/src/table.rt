@@ -1,5 +1,9 @@
-// Neighbours heard one after another: as many as a table holds, and one more; and whether two tables are the same.
+// Neighbours heard one after another, in either family: as many as a table holds, and one more; and whether two tables are the same.
+use crate::built::neighbour;
 use crate::output::done;
+use crate::output::family_name;
+use format::AddressFamily;
+use format::is_ipv6;
 use hello::Hello;
 use neighbours::Changed;
 use neighbours::Neighbour;
@@ -11,7 +15,7 @@ use printing::text;
 ghost use Prim.Native.Nat.{_≤_};
 
 // Neighbour i heard: every other one announced a priority, every fourth packs.
-fn hear(t: Table, i: u32) -> Changed
+fn hear(family: AddressFamily, t: Table, i: u32) -> Changed
     requires { ⌜ i ≤ 64 ⌝ }
 {
     let said = Hello {
@@ -20,23 +24,23 @@ fn hear(t: Table, i: u32) -> Changed
         priority: i,
         packing: i % 4 == 0,
     };
-    t.hear(0x0a00_0001 + i, said)
+    t.hear(family, neighbour(is_ipv6(family), i), said)
 }
 
 // The first so many neighbours.
-pub(crate) fn heard(rows: u32) -> Table
+pub(crate) fn heard(family: AddressFamily, rows: u32) -> Table
     requires { ⌜ rows ≤ 64 ⌝ }
 {
     let mut t = Table::empty();
     for i in 0..rows {
-        let heard = hear(t, i);
+        let heard = hear(family, t, i);
         t = heard.table;
     }
     t
 }
 
 fn same_row(a: Neighbour, b: Neighbour) -> bool {
-    a.address == b.address
+    addresses::is_same(a.address, b.address)
         && a.priority == b.priority
         && a.has_priority == b.has_priority
         && a.packs == b.packs
@@ -64,15 +68,22 @@ fn after(name: &[u8], c: Changed) -> Table {
 }
 
 // A 65th is refused until one of the 64 is forgotten; then there is no room for that one.
-pub(crate) fn run() {
-    let full = heard(64);
-    named(b"64 heard: neighbours ", full.count as u64);
-    let kept = after(b"a 65th heard: ", hear(full, 64));
+fn filled(family: AddressFamily) {
+    let full = heard(family, 64);
+    family_name(family);
+    named(b", 64 heard: neighbours ", full.count as u64);
+    let kept = after(b"a 65th heard: ", hear(family, full, 64));
     text(b"  the table as it was: ");
     flag(same_table(full, kept));
     text(b"\n");
-    let less = after(b"the 21st forgotten: ", kept.forget(0x0a00_0015));
-    let again = after(b"the 65th heard: ", hear(less, 64));
-    after(b"the 22nd heard again: ", hear(again, 21));
-    after(b"the 21st heard: ", hear(again, 20));
+    let gone = neighbour(is_ipv6(family), 20);
+    let less = after(b"the 21st forgotten: ", kept.forget(family, gone));
+    let again = after(b"the 65th heard: ", hear(family, less, 64));
+    after(b"the 22nd heard again: ", hear(family, again, 21));
+    after(b"the 21st heard: ", hear(family, again, 20));
+}
+
+pub(crate) fn run() {
+    filled(AddressFamily::Ipv4);
+    filled(AddressFamily::Ipv6);
 }

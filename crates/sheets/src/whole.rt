@@ -1,12 +1,16 @@
-// Empty sheets and full ones of both forms: checked, read, and written again from what was read.
+// Empty sheets and full ones of every form: checked, read, and written again from what was read, in the newest form of the family.
 use crate::built::build;
-use crate::built::put_asserts;
-use crate::built::put_pairs;
+use crate::built::family_of;
+use crate::built::newest;
+use crate::built::room;
 use crate::output::checked;
+use crate::output::form_name;
 use crate::output::found;
+use crate::output::other_checked;
 use crate::output::stored;
 use crate::table::heard;
 use crate::table::same_table;
+use format::AddressFamily;
 use neighbours::Table;
 use printing::flag;
 use printing::front;
@@ -14,15 +18,9 @@ use printing::in_common;
 use printing::named;
 use printing::text;
 use sections::Form;
+use sections::Places;
 use sheet::Counts;
 ghost use Prim.Native.Nat.{_≤_};
-
-// How many octets the entries of a full sheet have, and the sheet.
-const ASSERTS: usize = 131072;
-
-const PAIRS: usize = 65536;
-
-const SHEET: usize = 197404;
 
 // What follows the first n octets of a slice.
 fn past(e: &[u8], n: usize) -> &[u8] {
@@ -32,101 +30,103 @@ fn past(e: &[u8], n: usize) -> &[u8] {
     &e[n..]
 }
 
-// A line: whether two slices are the same.
+// A line goes on: whether two slices are the same.
 fn same(name: &[u8], a: &[u8], b: &[u8]) {
     text(name);
     flag(a.len() == b.len() && in_common(a, b) == a.len());
 }
 
-// A sheet checked and read, what was read beside the lists and the table that it holds, and written again into d.
-fn again(o: &[u8], asserts: &[u8], pairs: &[u8], t: Table, d: &mut [u8]) {
+// What was read, beside the sections of a sheet of the newest form and a table; and written again, beside that sheet.
+fn held(family: AddressFamily, asserts: &[u8], pairs: &[u8], table: Table, new: &[u8], s: Places) {
+    same(
+        b"  the same asserts: ",
+        front(past(new, s.asserts), asserts.len()),
+        asserts,
+    );
+    same(b", pairs: ", front(past(new, s.pairs), pairs.len()), pairs);
+    text(b"\n  written again: ");
+    let mut d = room(0xee);
+    stored(sheet::write_sheet(family, asserts, pairs, table, &mut d));
+    same(b"  as built here: ", new, front(&d, new.len()));
+    text(b"\n");
+}
+
+// A sheet checked and read, and what comes of it held to the sheet of the newest form and the table of so many
+// neighbours.
+fn again(family: AddressFamily, o: &[u8], new: &[u8], s: Places, rows: u32)
+    requires { ⌜ (s .asserts ≤ s .pairs) × (s .pairs ≤ s .rows) × (rows ≤ 64) ⌝ }
+{
+    let a = s.pairs - s.asserts;
+    let p = s.rows - s.pairs;
+    let t = heard(family, rows);
     text(b"  checked: ");
-    checked(sheet::check_sheet(o));
-    let mut ea = [0xee; ASSERTS];
-    let mut ep = [0xee; PAIRS];
-    let read = sheet::read_sheet(o, &mut ea, &mut ep);
+    checked(family, o);
+    other_checked(family, o);
+    let mut asserts = room(0xee);
+    let mut pairs = room(0xee);
+    let read = sheet::read_sheet(family, o, &mut asserts, &mut pairs);
     let answer = read.found;
     let table = read.table;
     text(b"  read: ");
     found(answer);
-    let ra = front(&ea, asserts.len());
-    let rp = front(&ep, pairs.len());
-    same(b"  the same asserts: ", asserts, ra);
-    same(b", pairs: ", pairs, rp);
-    text(b", table: ");
+    text(b"  the same table: ");
     flag(same_table(t, table));
-    text(b"\n  written again: ");
-    stored(sheet::write_sheet(ra, rp, table, d));
-}
-
-// A sheet of the new form goes round: its octets come back.
-fn round(o: &[u8], asserts: &[u8], pairs: &[u8], t: Table) {
-    let mut d = [0xee; SHEET];
-    again(o, asserts, pairs, t, &mut d);
-    same(b"  the same octets: ", o, front(&d, o.len()));
     text(b"\n");
+    held(family, front(&asserts, a), front(&pairs, p), table, new, s);
 }
 
-// The sheet of two lists and a table: what is written is what is built here.
-fn written(asserts: &[u8], pairs: &[u8], t: Table, c: Counts)
-    requires { ⌜ (c .asserts ≤ 8193) × (c .pairs ≤ 8193) × (c .neighbours ≤ 65) ⌝ }
+// The sheet of a form, beside that of the newest form with the same entries.
+fn renewed(form: Form, c: Counts, new: &[u8], s: Places)
+    requires counts { ⌜ (c .asserts ≤ 8192) × (c .pairs ≤ 8192) × (c .neighbours ≤ 64) ⌝ }
+    requires places { ⌜ (s .asserts ≤ s .pairs) × (s .pairs ≤ s .rows) ⌝ }
 {
-    let mut d = [0xee; SHEET];
-    text(b"  written: ");
-    stored(sheet::write_sheet(asserts, pairs, t, &mut d));
-    let mut e = [0; SHEET];
-    let n = build(Form::Large, c, &mut e);
-    let o = front(&d, n);
-    same(b"  as built here: ", o, front(&e, n));
-    text(b"\n");
-    round(o, asserts, pairs, t);
+    let rows = c.neighbours as u32;
+    let mut o = room(0);
+    let places = build(form, c, &mut o);
+    named(b", built: octets ", places.end as u64);
+    again(family_of(form), front(&o, places.end), new, s, rows);
 }
 
-// An old sheet, which has to be built, becomes a new one of the same sections: its header has 16 octets more.
-fn renewed(asserts: &[u8], pairs: &[u8], t: Table, c: Counts)
-    requires { ⌜ (c .asserts ≤ 8193) × (c .pairs ≤ 8193) × (c .neighbours ≤ 65) ⌝ }
+// So many of each.
+fn tried(form: Form, c: Counts)
+    requires { ⌜ (c .asserts ≤ 8192) × (c .pairs ≤ 8192) × (c .neighbours ≤ 64) ⌝ }
 {
-    let mut e = [0; SHEET];
-    let n = build(Form::Base, c, &mut e);
-    let due = n + 16;
-    named(b"  built: octets ", n as u64);
-    let old = front(&e, n);
-    let mut d = [0xee; SHEET];
-    again(old, asserts, pairs, t, &mut d);
-    let new = front(&d, due);
-    same(b"  the same sections: ", past(old, 12), past(new, 28));
-    text(b"\n");
-    round(new, asserts, pairs, t);
+    let mut new = room(0);
+    let s = build(newest(form), c, &mut new);
+    renewed(form, c, front(&new, s.end), s);
 }
 
-// A sheet of a form, with so many asserts and as many pairs, and so many neighbours.
-fn tried(form: Form, n: usize, rows: u32)
-    requires { ⌜ (n ≤ 8192) × (rows ≤ 64) ⌝ }
-{
-    let mut asserts = [0; ASSERTS];
-    put_asserts(&mut asserts, 0, n);
-    let mut pairs = [0; PAIRS];
-    put_pairs(&mut pairs, 0, n);
-    let ea = front(&asserts, 16 * n);
-    let ep = front(&pairs, 8 * n);
+fn empty(form: Form) {
+    text(b"an empty sheet of ");
+    form_name(form);
     let c = Counts {
-        asserts: n,
-        pairs: n,
-        neighbours: rows as usize,
+        asserts: 0,
+        pairs: 0,
+        neighbours: 0,
     };
-    match form {
-        Form::Base => renewed(ea, ep, heard(rows), c),
-        Form::Large => written(ea, ep, heard(rows), c),
-    }
+    tried(form, c);
+}
+
+fn full(form: Form, entries: usize, neighbours: usize)
+    requires { ⌜ (entries ≤ 8192) × (neighbours ≤ 64) ⌝ }
+{
+    text(b"a full sheet of ");
+    form_name(form);
+    let c = Counts {
+        asserts: entries,
+        pairs: entries,
+        neighbours,
+    };
+    tried(form, c);
 }
 
 pub(crate) fn run() {
-    text(b"an empty sheet\n");
-    tried(Form::Large, 0, 0);
-    text(b"a full sheet\n");
-    tried(Form::Large, 8192, 64);
-    text(b"an empty sheet of the old form\n");
-    tried(Form::Base, 0, 0);
-    text(b"a full sheet of the old form\n");
-    tried(Form::Base, 1024, 16);
+    empty(Form::Base);
+    empty(Form::Large);
+    empty(Form::Ipv4);
+    empty(Form::Ipv6);
+    full(Form::Base, 1024, 16);
+    full(Form::Large, 8192, 64);
+    full(Form::Ipv4, 8192, 64);
+    full(Form::Ipv6, 8192, 64);
 }

@@ -3,8 +3,10 @@
 use crate::lend::counted;
 use counters::Counters;
 use counters::Direction;
+use format::AddressFamily;
 use format::Kind;
 use format::Refusal;
+use format::nowhere;
 use hello::HelloRead;
 use printing::named;
 use printing::number;
@@ -26,14 +28,14 @@ fn singly(kind: Kind, body: &[u8], from: usize) -> Found {
     let mut at = from;
     let mut n = 0;
     while at < body.len() {
-        let s = reading::read_record(kind, body, at);
+        let s = reading::read_record(AddressFamily::Ipv4, kind, body, at);
         match s {
             Single::Refused(r) => {
                 return Found::Refused(r);
             }
             Single::Got { record, next } => {
                 n += 1;
-                listing::record(n, record);
+                listing::record(AddressFamily::Ipv4, n, record);
                 at = next;
             }
         }
@@ -42,7 +44,7 @@ fn singly(kind: Kind, body: &[u8], from: usize) -> Found {
 }
 
 fn hello(m: &[u8]) -> Found {
-    let h = hello::read_hello(m);
+    let h = hello::read_hello(AddressFamily::Ipv4, nowhere(), m);
     match h {
         HelloRead::Refused(r) => Found::Refused(r),
         HelloRead::Is(_) => Found::Records(0),
@@ -56,15 +58,15 @@ fn read(r: Reading) -> Found {
     }
 }
 
-// Room for 64 entries, which is enough here; so for pairs.
+// Room for 64 entries of 20 octets, which is enough here; so for pairs, of 12.
 fn asserts(m: &[u8]) -> Found {
-    let mut entries = [0; 1024];
-    read(reading::read_asserts(m, &mut entries))
+    let mut entries = [0; 1280];
+    read(reading::read_asserts(AddressFamily::Ipv4, nowhere(), m, &mut entries))
 }
 
 fn pairs(m: &[u8]) -> Found {
-    let mut entries = [0; 512];
-    read(reading::read_pairs(m, &mut entries))
+    let mut entries = [0; 768];
+    read(reading::read_pairs(AddressFamily::Ipv4, nowhere(), m, &mut entries))
 }
 
 // Single reading sees neither Zero nor that no record is there; the reading call sees both.
@@ -110,10 +112,10 @@ fn unpacked(c: Counters, kind: Kind, m: &[u8], body: &[u8]) -> Counters {
 // A named message: what it holds is listed, and it is counted unless it is refused. Where the header refuses, the body is an empty part.
 pub(crate) fn receive(c: Counters, name: &[u8], m: &[u8]) -> Counters {
     title(name);
-    let body = reading::body(m);
+    let body = reading::body(AddressFamily::Ipv4, nowhere(), m);
     number(b"body of ", body.len() as u64);
     text(b" octets\n");
-    let h = reading::header(m);
+    let h = reading::header(AddressFamily::Ipv4, nowhere(), m);
     match h {
         Headed::Refused(r) => {
             listing::refused(r);

@@ -1,34 +1,56 @@
-// The examples that 01 marks for the packing calls, by their numbers there, and limit 0.
+// The examples that 01 marks for the packing calls, by their numbers there, and limit 0. Those of the aggregated form are
+// tried in both families: in IPv6 the figures are those that 02 gives, or follow from its lengths.
 use crate::call::pack;
+use crate::call::path;
+use crate::lists::one;
+use crate::lists::three;
+use crate::lists::zeros;
 use crate::output::answer;
+use crate::output::family_name;
+use crate::rule::place;
+use format::AddressFamily;
 use octets::number16;
 use packing::Packing;
+use printing::front;
 use printing::named;
 use printing::number;
 use printing::text;
+ghost use Prim.Native.Nat.{_≤_};
 
-fn show(name: &[u8], p: Packing) {
+fn show(family: AddressFamily, name: &[u8], p: Packing) {
+    family_name(family);
     text(name);
+    answer(p);
+}
+
+// The same, where the line ends in its limit.
+fn show_limit(family: AddressFamily, name: &[u8], limit: usize, p: Packing) {
+    family_name(family);
+    text(name);
+    number(b", limit ", limit as u64);
+    text(b": ");
     answer(p);
 }
 
 // "Limit 1,480, 67 simple entries left: 66 taken, 1,460 octets; 66 left: the same."
 fn example_3(list: &[u8]) {
     let mut d = [0; 1480];
-    let p = packing::pack_simple(list, 957, 1480, &mut d);
-    show(b"example 3, 67 left: ", p);
-    let q = packing::pack_simple(list, 958, 1480, &mut d);
-    show(b"example 3, 66 left: ", q);
+    let family = AddressFamily::Ipv4;
+    let p = packing::pack_simple(family, path(), list, 957, 1480, &mut d);
+    show(family, b"example 3, 67 left: ", p);
+    let q = packing::pack_simple(family, path(), list, 958, 1480, &mut d);
+    show(family, b"example 3, 66 left: ", q);
 }
 
 // "Limit 0 is to mean 556": the 67 entries of example 3, with as many octets lent, and with one less.
 fn limit_0(list: &[u8]) {
+    let family = AddressFamily::Ipv4;
     let mut enough = [0; 556];
-    let p = packing::pack_simple(list, 957, 0, &mut enough);
-    show(b"limit 0, 67 left: ", p);
+    let p = packing::pack_simple(family, path(), list, 957, 0, &mut enough);
+    show(family, b"limit 0, 67 left: ", p);
     let mut short = [0; 555];
-    let q = packing::pack_simple(list, 957, 0, &mut short);
-    show(b"limit 0, 555 octets lent: ", q);
+    let q = packing::pack_simple(family, path(), list, 957, 0, &mut short);
+    show(family, b"limit 0, 555 octets lent: ", q);
 }
 
 fn taken_by(p: Packing) -> usize {
@@ -38,62 +60,90 @@ fn taken_by(p: Packing) -> usize {
     taken
 }
 
-// "Three R=0 entries, one source and metric: 50 octets at limit 50; at 49, messages of 42 and 34."
-fn example_4() {
-    let e =
-        b"\xe8\x01\x01\x01\x0a\x00\x00\x01\x00\x00\x00\x6e\x00\x00\x00\x14\xe8\x01\x01\x02\x0a\x00\x00\x01\x00\x00\x00\x6e\x00\x00\x00\x14\xe8\x01\x01\x03\x0a\x00\x00\x01\x00\x00\x00\x6e\x00\x00\x00\x14";
-    let mut d = [0; 50];
-    let whole = pack(e, 0, 50, &mut d);
-    show(b"example 4, limit 50: ", whole);
-    let first = pack(e, 0, 49, &mut d);
-    show(b"example 4, limit 49: ", first);
-    let second = pack(e, taken_by(first), 49, &mut d);
-    show(b"example 4, limit 49: ", second);
+// With no more octets lent than the limit.
+fn exactly(family: AddressFamily, e: &[u8], start: usize, limit: usize) -> Packing
+    requires { ⌜ limit ≤ 98 ⌝ }
+{
+    let mut d = [0; 98];
+    pack(family, e, start, limit, &mut d[..limit])
 }
 
-// "One R=1 entry, source 0: 32 octets; other source: 38. Limit 37: refusal 9."
-fn example_5() {
-    let zero = b"\xe8\x01\x01\x01\x00\x00\x00\x00\x80\x00\x00\x6e\x00\x00\x00\x14";
-    let other = b"\xe8\x01\x01\x01\x0a\x00\x00\x01\x80\x00\x00\x6e\x00\x00\x00\x14";
-    let mut d = [0; 38];
-    let p = pack(zero, 0, 38, &mut d);
-    show(b"example 5, source 0: ", p);
-    let q = pack(other, 0, 38, &mut d);
-    show(b"example 5, other source: ", q);
-    let low = pack(other, 0, 37, &mut d);
-    show(b"example 5, limit 37: ", low);
+// "Three R=0 entries, one source and metric: 50 octets at limit 50; at 49, messages of 42 and 34." In IPv6 98 octets; 78
+// and 58.
+fn example_4(family: AddressFamily, limit: usize, less: usize)
+    requires { ⌜ (limit ≤ 98) × (less ≤ 98) ⌝ }
+{
+    let room = three(family);
+    let e = front(&room, place(family, 3));
+    let whole = exactly(family, e, 0, limit);
+    show_limit(family, b"example 4", limit, whole);
+    let first = exactly(family, e, 0, less);
+    show_limit(family, b"example 4", less, first);
+    let second = exactly(family, e, taken_by(first), less);
+    show_limit(family, b"example 4", less, second);
 }
 
-// "Two R=1 entries, one group, both source 0: one group record, p=2, 44 octets." In that message the number of group
-// records is at octet 16 and p at octet 28.
-fn example_6() {
-    let e =
-        b"\xe8\x01\x01\x01\x00\x00\x00\x00\x80\x00\x00\x6e\x00\x00\x00\x14\xe8\x01\x01\x01\x00\x00\x00\x00\x80\x00\x00\x6e\x00\x00\x00\x14";
+// "One R=1 entry, source 0: 32 octets; other source: 38. Limit 37: refusal 9." In IPv6 44 octets and 62, and 9 at 61.
+fn example_5(family: AddressFamily, least: usize, less: usize)
+    requires { ⌜ (least ≤ 98) × (less ≤ 98) ⌝ }
+{
+    let zero = zeros(family);
+    let other = one(family);
+    let n = place(family, 1);
+    let p = exactly(family, front(&zero, n), 0, least);
+    show(family, b"example 5, source 0: ", p);
+    let q = exactly(family, front(&other, n), 0, least);
+    show(family, b"example 5, other source: ", q);
+    let low = exactly(family, front(&other, n), 0, less);
+    show_limit(family, b"example 5", less, low);
+}
+
+// "Two R=1 entries, one group, both source 0: one group record, p=2, 44 octets." In IPv6 "a message of two is 68 octets",
+// of two group records with p=0, and so are three; four are one group record. The number of group records is at octet
+// 16, the first p after the first group.
+fn example_6(family: AddressFamily, count: usize, p: usize)
+    requires { ⌜ count ≤ 4 ⌝ }
+{
+    let room = zeros(family);
     let mut d = [0; 1480];
-    let p = pack(e, 0, 1480, &mut d);
-    show(b"example 6: ", p);
+    let m = pack(family, front(&room, place(family, count)), 0, 1480, &mut d);
+    show(family, b"example 6: ", m);
+    family_name(family);
     number(b"example 6: group records ", number16(&d, 16) as u64);
-    named(b", p=", number16(&d, 28) as u64);
+    named(b", p=", number16(&d, p) as u64);
 }
 
 // "Empty list, any allowed limit: no message."
-fn example_8() {
+fn example_8(family: AddressFamily, limit: usize) {
     let mut d = io::large_buffer();
-    let usual = pack(b"", 0, 0, &mut d);
-    show(b"example 8, limit 0: ", usual);
-    let least = pack(b"", 0, 38, &mut d);
-    show(b"example 8, limit 38: ", least);
-    let named = pack(b"", 0, 1480, &mut d);
-    show(b"example 8, limit 1480: ", named);
-    let greatest = pack(b"", 0, 65515, &mut d);
-    show(b"example 8, limit 65515: ", greatest);
+    let p = pack(family, b"", 0, limit, &mut d);
+    show_limit(family, b"example 8", limit, p);
+}
+
+fn ipv4(list: &[u8]) {
+    let family = AddressFamily::Ipv4;
+    example_3(list);
+    limit_0(list);
+    example_4(family, 50, 49);
+    example_5(family, 38, 37);
+    example_6(family, 2, 28);
+    example_8(family, 0);
+    example_8(family, 38);
+    example_8(family, 1480);
+    example_8(family, 65515);
+}
+
+fn ipv6() {
+    let family = AddressFamily::Ipv6;
+    example_4(family, 98, 97);
+    example_5(family, 62, 61);
+    example_6(family, 2, 40);
+    example_6(family, 3, 40);
+    example_6(family, 4, 40);
+    example_8(family, 62);
 }
 
 pub(crate) fn run(list: &[u8]) {
-    example_3(list);
-    limit_0(list);
-    example_4();
-    example_5();
-    example_6();
-    example_8();
+    ipv4(list);
+    ipv6();
 }

@@ -1,9 +1,18 @@
 // What a packing call answered.
+use format::AddressFamily;
 use packing::Packing;
 use printing::decimal;
 use printing::number;
 use printing::refused;
 use printing::text;
+
+// Lines of IPv6 begin with it.
+pub(crate) fn family_name(family: AddressFamily) -> bool {
+    match family {
+        AddressFamily::Ipv4 => true,
+        AddressFamily::Ipv6 => text(b"IPv6, "),
+    }
+}
 
 // A message, and what follows it. A length of 0 is no message.
 pub(crate) fn wrote(length: usize, taken: usize, after: &[u8]) -> bool {

@@ -1,9 +1,12 @@
-// The rule that makes the list: 16 blocks of 64 entries, each by a row that says how many neighbours share a value. So
-// runs of every kind and of many lengths stand beside one another, and some go on from block to block.
+// The rule that makes the list of either family: 16 blocks of 64 entries, each by a row that says how many neighbours
+// share a value. So runs of every kind and of many lengths stand beside one another, and some go on from block to block.
+use format::Address;
+use format::AddressFamily;
 use format::AssertFields;
+use format::is_ipv6;
 use printing::put_assert;
 ghost use mathlib.Core.Path.{_≡_};
-ghost use Prim.Native.Nat.{_≤_, _<_};
+ghost use Prim.Native.Nat.{_*_, _≤_, _<_};
 ghost use lib.ListN.{length};
 
 pub(crate) const COUNT: usize = 1024;
@@ -35,7 +38,8 @@ fn row(first: u32, r: u32, metric: u32, source: u32, group: u32, zero: u32) -> S
 
 // The rows stand in such an order that at each limit of train.rt but the last a message's end cuts a source run and a
 // group run, and up to 1,480 also an R=1 run between two groups and a group's zero sources. At the last limit nothing
-// can be cut: 1,024 entries are at most 30,728 octets.
+// can be cut: 1,024 entries are at most 30,728 octets, and in IPv6 55,304. The last three are IPv6's alone: runs of two
+// and three zero sources, which are written apart there, and of four, which are not.
 fn shared_in(block: u32) -> Shared
     ensures { λ s. ⌜ s .first ≤ 1 ⌝ }
 {
@@ -55,7 +59,10 @@ fn shared_in(block: u32) -> Shared
         12 => row(1, 0, 0, 1, 4, 0),
         13 => row(0, 0, 1, 0, 1, 0),
         14 => row(1, 3, 1, 1, 1, 2),
-        _ => row(1, 0, 0, 1, 6, 3),
+        15 => row(1, 0, 0, 1, 6, 3),
+        16 => row(1, 0, 0, 1, 2, 1),
+        17 => row(1, 0, 0, 1, 3, 1),
+        _ => row(1, 0, 0, 1, 4, 1),
     }
 }
 
@@ -77,53 +84,109 @@ fn is_last(j: u32, n: u32) -> bool {
     j % n == n - 1
 }
 
-// 0, or an address from 10.1.0.1 on.
-fn source(j: u32, r: u32, s: Shared) -> u32
+// Group k of a block: 232.1.BLOCK.0 and on, or from ff3e::e801:BLOCK on. There the halves of the address change by
+// turns, so that neighbours differ in one of the two.
+fn group(ipv6: bool, block: u32, k: u32) -> Address
+    requires { ⌜ (block < 19) × (k < 64) ⌝ }
+{
+    let first = 0xe801_0000 + 256 * block as u64;
+    let n = k as u64;
+    if ipv6 {
+        return Address {
+            high: 0xff3e_0000_0000_0000 + (n + 1) / 2,
+            low: first + n / 2,
+        };
+    }
+    Address {
+        high: 0,
+        low: first + n,
+    }
+}
+
+// Source k of a block: 10.1.0.1 and on, or from 2001:db8::1 on, its halves by turns too.
+fn source(ipv6: bool, k: u32) -> Address
+    requires { ⌜ k < 64 ⌝ }
+{
+    let n = k as u64;
+    if ipv6 {
+        return Address {
+            high: 0x2001_0db8_0000_0000 + (n + 1) / 2,
+            low: 1 + n / 2,
+        };
+    }
+    Address {
+        high: 0,
+        low: 0x0a01_0001 + n,
+    }
+}
+
+// The source of an entry, or 0.
+fn source_of(ipv6: bool, j: u32, r: u32, s: Shared) -> Address
     requires { ⌜ j < 64 ⌝ }
 {
     if r == 1 && is_last(j, s.zero) {
-        return 0;
+        return Address { high: 0, low: 0 };
     }
-    0x0a01_0001 + changes(j, s.source)
+    source(ipv6, changes(j, s.source))
 }
 
-// Entry j of a block. Groups are 232.1.BLOCK.0 and on. The metric and the preference change by turns, so that
-// neighbours differ in one of the two.
-fn entry(block: u32, j: u32) -> AssertFields
-    requires { ⌜ (block < 16) × (j < 64) ⌝ }
+// Entry j of a block. The metric and the preference change by turns, so that neighbours differ in one of the two.
+fn entry(ipv6: bool, block: u32, j: u32) -> AssertFields
+    requires { ⌜ (block < 19) × (j < 64) ⌝ }
 {
     let s = shared_in(block);
     let r = (s.first + changes(j, s.r)) % 2;
     let k = changes(j, s.metric);
     AssertFields {
-        group: 0xe801_0000 + 256 * block + changes(j, s.group),
-        source: source(j, r, s),
+        group: group(ipv6, block, changes(j, s.group)),
+        source: source_of(ipv6, j, r, s),
         r_preference: 0x8000_0000 * r + 100 + (k + 1) / 2,
         metric: 10 + k / 2,
     }
 }
 
-fn fill(e: &mut [u8])
-    requires { ⌜ length (now e) ≡ 16384 ⌝ }
+// Where entry i of a list begins.
+pub(crate) fn place(family: AddressFamily, i: usize) -> usize
+    requires { ⌜ i ≤ 1024 ⌝ }
+    ensures { λ r. ⌜ (20 * i ≤ r) × (r ≤ 44 * i) ⌝ }
 {
-    let mut i = 0;
-    while i < COUNT {
-        put_assert(e, 16 * i, entry((i / 64) as u32, (i % 64) as u32));
-        i += 1;
+    match family {
+        AddressFamily::Ipv4 => 20 * i,
+        AddressFamily::Ipv6 => 44 * i,
     }
 }
 
-// Room for the list.
-pub(crate) fn room() -> [u8; 16384]
-    ensures { λ r. ⌜ 16384 ≡ length r ⌝ }
+// The block that a list begins with.
+fn first_block(ipv6: bool) -> usize
+    ensures { λ r. ⌜ r ≤ 3 ⌝ }
 {
-    [0; 16384]
+    if ipv6 {
+        return 3;
+    }
+    0
 }
 
-pub(crate) fn list() -> [u8; 16384]
-    ensures { λ r. ⌜ 16384 ≡ length r ⌝ }
+fn fill(family: AddressFamily, e: &mut [u8]) {
+    let ipv6 = is_ipv6(family);
+    let first = first_block(ipv6);
+    for i in 0..COUNT {
+        let x = entry(ipv6, (first + i / 64) as u32, (i % 64) as u32);
+        put_assert(ipv6, e, place(family, i), x);
+    }
+}
+
+// Room for the list of either family.
+pub(crate) fn room() -> [u8; 45056]
+    ensures { λ r. ⌜ 45056 ≡ length r ⌝ }
+{
+    [0; 45056]
+}
+
+// The list, at the front of its room.
+pub(crate) fn list(family: AddressFamily) -> [u8; 45056]
+    ensures { λ r. ⌜ 45056 ≡ length r ⌝ }
 {
     let mut e = room();
-    fill(&mut e);
+    fill(family, &mut e);
     e
 }

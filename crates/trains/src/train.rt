@@ -1,9 +1,13 @@
 // A train: what packing calls give from the first entry of the list until nothing is left. Each message is read into a
 // second list, one after another, and the two lists are compared at the end. What is wrong is said where it is found.
 use crate::call::pack;
+use crate::call::path;
 use crate::output::answer;
+use crate::output::family_name;
 use crate::rule::COUNT;
+use crate::rule::place;
 use crate::rule::room;
+use format::AddressFamily;
 use packing::Packing;
 use printing::decimal;
 use printing::front;
@@ -50,10 +54,11 @@ fn stopped(start: usize, p: Packing) -> Sent
 
 // Reads a message into the second list, at the place of the first entry that it took. Whether it has as many entries
 // as were taken.
-fn read_back(d: &[u8], s: Sent, start: usize, back: &mut [u8]) -> bool
-    requires { ⌜ 16 * start ≤ length (now back) ⌝ }
+fn read_back(family: AddressFamily, d: &[u8], s: Sent, start: usize, back: &mut [u8]) -> bool
+    requires { ⌜ (start < 1024) × (length (now back) ≡ 45056) ⌝ }
 {
-    let x = reading::read_asserts(front(d, s.length), &mut back[16 * start..]);
+    let at = place(family, start);
+    let x = reading::read_asserts(family, path(), front(d, s.length), &mut back[at..]);
     match x {
         Reading::Refused(r) => {
             came(start);
@@ -75,11 +80,18 @@ fn read_back(d: &[u8], s: Sent, start: usize, back: &mut [u8]) -> bool
 }
 
 // The next message of a train. No answer is believed: it takes an entry or more of those left, and fits the buffer.
-fn next_message(e: &[u8], start: usize, limit: usize, d: &mut [u8], back: &mut [u8]) -> Sent
-    requires { ⌜ (start < 1024) × (length (now d) ≡ 65536) × (length (now back) ≡ 16384) ⌝ }
+fn next_message(
+    family: AddressFamily,
+    e: &[u8],
+    start: usize,
+    limit: usize,
+    d: &mut [u8],
+    back: &mut [u8],
+) -> Sent
+    requires { ⌜ (start < 1024) × (length (now d) ≡ 65536) × (length (now back) ≡ 45056) ⌝ }
     ensures { λ s. ⌜ (start + s .taken ≤ 1024) × (s .length ≤ 65536) ⌝ }
 {
-    let p = pack(e, start, limit, d);
+    let p = pack(family, e, start, limit, d);
     let Packing::Wrote { length, taken } = p else {
         return stopped(start, p);
     };
@@ -93,7 +105,7 @@ fn next_message(e: &[u8], start: usize, limit: usize, d: &mut [u8], back: &mut [
         return stopped(start, p);
     }
     let s = Sent { length, taken };
-    if read_back(d, s, start, back) {
+    if read_back(family, d, s, start, back) {
         return s;
     }
     nothing()
@@ -114,14 +126,22 @@ fn in_turn(one: usize, other: usize, messages: usize) -> usize {
     other
 }
 
-fn pack_all(e: &[u8], one: usize, other: usize, d: &mut [u8], back: &mut [u8]) -> Total
-    requires { ⌜ (length (now d) ≡ 65536) × (length (now back) ≡ 16384) ⌝ }
+fn pack_all(
+    family: AddressFamily,
+    e: &[u8],
+    one: usize,
+    other: usize,
+    d: &mut [u8],
+    back: &mut [u8],
+) -> Total
+    requires { ⌜ (length (now d) ≡ 65536) × (length (now back) ≡ 45056) ⌝ }
 {
     let mut messages = 0;
     let mut octets = 0;
     let mut taken = 0;
     while taken < COUNT {
-        let s = next_message(e, taken, in_turn(one, other, messages), d, back);
+        let limit = in_turn(one, other, messages);
+        let s = next_message(family, e, taken, limit, d, back);
         if s.taken == 0 {
             break;
         }
@@ -137,58 +157,77 @@ fn pack_all(e: &[u8], one: usize, other: usize, d: &mut [u8], back: &mut [u8]) -
 }
 
 // The entries that were read, held to the list that was packed.
-fn compare(packed: &[u8], read: &[u8]) -> bool {
+fn compare(family: AddressFamily, packed: &[u8], read: &[u8]) -> bool {
     let at = in_common(packed, read);
     if at == packed.len() {
         return text(b", read back: the list\n");
     }
-    number(b", read back: another list, from entry ", (at / 16) as u64) && text(b" on\n")
+    number(
+        b", read back: another list, from entry ",
+        (at / place(family, 1)) as u64,
+    )
+        && text(b" on\n")
 }
 
 // A train, with buffers of its own, so that nothing of another train can be read. One that is not whole has said why.
-fn show(list: &[u8], one: usize, other: usize)
-    requires { ⌜ length (now list) ≡ 16384 ⌝ }
-{
+fn show(family: AddressFamily, list: &[u8], one: usize, other: usize) {
     let mut d = io::large_buffer();
     let mut back = room();
     text(b": ");
-    let t = pack_all(list, one, other, &mut d, &mut back);
+    let t = pack_all(family, list, one, other, &mut d, &mut back);
     if t.taken == COUNT {
         number(b"messages ", t.messages as u64);
         number(b", octets ", t.octets as u64);
-        compare(list, &back);
+        compare(family, list, &back);
     }
 }
 
-fn run_at(list: &[u8], limit: usize)
-    requires { ⌜ length (now list) ≡ 16384 ⌝ }
-{
+fn run_at(family: AddressFamily, list: &[u8], limit: usize) {
+    family_name(family);
     number(b"limit ", limit as u64);
-    show(list, limit, limit);
+    show(family, list, limit, limit);
 }
 
-fn run_by_turns(list: &[u8], one: usize, other: usize)
-    requires { ⌜ length (now list) ≡ 16384 ⌝ }
-{
+fn run_by_turns(family: AddressFamily, list: &[u8], one: usize, other: usize) {
+    family_name(family);
     number(b"limits ", one as u64);
     number(b" and ", other as u64);
     text(b" by turns");
-    show(list, one, other);
+    show(family, list, one, other);
 }
 
-pub(crate) fn run(list: &[u8])
-    requires { ⌜ length (now list) ≡ 16384 ⌝ }
-{
+fn name_list(family: AddressFamily, list: &[u8]) {
+    family_name(family);
     number(b"the list: ", COUNT as u64);
     named(b" entries, sum ", checksum::sum(list) as u64);
-    run_at(list, 38);
-    run_at(list, 49);
-    run_at(list, 50);
-    run_at(list, 0);
-    run_at(list, 556);
-    run_by_turns(list, 0, 556);
-    run_at(list, 576);
-    run_at(list, 1480);
-    run_at(list, 9000);
-    run_at(list, 65515);
+}
+
+pub(crate) fn ipv4(list: &[u8]) {
+    let family = AddressFamily::Ipv4;
+    name_list(family, list);
+    run_at(family, list, 38);
+    run_at(family, list, 49);
+    run_at(family, list, 50);
+    run_at(family, list, 0);
+    run_at(family, list, 556);
+    run_by_turns(family, list, 0, 556);
+    run_at(family, list, 576);
+    run_at(family, list, 1480);
+    run_at(family, list, 9000);
+    run_at(family, list, 65515);
+}
+
+pub(crate) fn ipv6(list: &[u8]) {
+    let family = AddressFamily::Ipv6;
+    name_list(family, list);
+    run_at(family, list, 62);
+    run_at(family, list, 68);
+    run_at(family, list, 97);
+    run_at(family, list, 98);
+    run_at(family, list, 0);
+    run_by_turns(family, list, 62, 1480);
+    run_at(family, list, 576);
+    run_at(family, list, 1280);
+    run_at(family, list, 1480);
+    run_at(family, list, 65515);
 }

@@ -1,10 +1,10 @@
 // Plain Asserts that PIM daemons sent on test LANs, FRR pimd 8.4.4 (Debian 8.4.4-1.1~deb12u2) and pimd 2.3.2 (Debian
 // 2.3.2-3+b2), and packed Null-Register and Register-Stop messages made by hand and read by tshark 4.4.18.
-use listing::show_all;
+use crate::show_ipv4;
 
 // Captures ff-lan.pcap, ff2-lan.pcap (an AssertCancel) and tt-lan.pcap. A name has the values that were read.
 fn asserts() {
-    show_all(
+    show_ipv4(
         b"\
 vector assert 1, FRR pimd 8.4.4 at 10.7.0.12
 2500e4e301000020e801010101000a0900640000006e0000001e
@@ -25,7 +25,7 @@ vector assert 6, pimd 2.3.2 at 10.7.0.12
 // What tshark reads no pair of, 01 refuses: subtype 2, the Count word of draft 11, and a cut source. The last one has a pair from
 // 255.255.255.255, which tshark reads and E5 refuses.
 fn registers() {
-    show_all(
+    show_ipv4(
         b"\
 vector register 1, nr 2 pairs
 2d00dab501000020ef01010101000a00000101000020ef01010201000a000002

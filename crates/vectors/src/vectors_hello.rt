@@ -1,10 +1,10 @@
 // Hellos that PIM daemons sent on test LANs: FRR pimd 8.4.4 (Debian 8.4.4-1.1~deb12u2) and pimd 2.3.2 (Debian
 // 2.3.2-3+b2). A name has the sender's address and the values that its peers read; the functions go by capture.
-use listing::show_all;
+use crate::show_ipv4;
 
 // FRR pimd 8.4.4, capture elections-lab.pcap.
 fn frr_elections_lab_1() {
-    show_all(
+    show_ipv4(
         b"\
 vector hello 1, FRR pimd 8.4.4 at 10.7.0.1: holdtime=18 priority=1
 2000b0620001000200120002000401f409c40013000400000001001400043ff7e3a2
@@ -44,7 +44,7 @@ vector hello 16, FRR pimd 8.4.4 at 10.7.0.3: holdtime=18 priority=3951459043
 
 // FRR pimd 8.4.4, capture elections-lab.pcap.
 fn frr_elections_lab_2() {
-    show_all(
+    show_ipv4(
         b"\
 vector hello 17, FRR pimd 8.4.4 at 10.7.0.2: holdtime=18 priority=3458577099
 2000f6c90001000200120002000401f409c400130004ce25b2cb001400042d782eca
@@ -70,7 +70,7 @@ vector hello 25, FRR pimd 8.4.4 at 10.7.0.1: holdtime=0 priority=1
 
 // pimd 2.3.2, capture elections-lab.pcap.
 fn pimd_elections_lab() {
-    show_all(
+    show_ipv4(
         b"\
 vector hello 26, pimd 2.3.2 at 10.7.0.4: holdtime=105 priority=1
 200005c700010002006900130004000000010014000462da76c2
@@ -90,7 +90,7 @@ vector hello 31, pimd 2.3.2 at 10.7.0.150: holdtime=105 priority=4294967294
 
 // FRR pimd 8.4.4, capture ff-lan.pcap.
 fn frr_ff_lan() {
-    show_all(
+    show_ipv4(
         b"\
 vector hello 32, FRR pimd 8.4.4 at 10.7.0.11: holdtime=105 priority=1
 2000e18c0001000200690002000401f409c40013000400000001001400043845b9d3
@@ -106,7 +106,7 @@ vector hello 35, FRR pimd 8.4.4 at 10.7.0.14: holdtime=0 priority=1
 
 // FRR pimd 8.4.4, capture ff-xlan.pcap.
 fn frr_ff_xlan() {
-    show_all(
+    show_ipv4(
         b"\
 vector hello 36, FRR pimd 8.4.4 at 10.10.0.254: holdtime=105 priority=1
 200079310001000200690002000401f409c400130004000000010014000405da549a
@@ -118,7 +118,7 @@ vector hello 37, FRR pimd 8.4.4 at 10.10.0.1: holdtime=0 priority=1
 
 // pimd 2.3.2, capture tt-lan.pcap.
 fn pimd_tt_lan() {
-    show_all(
+    show_ipv4(
         b"\
 vector hello 38, pimd 2.3.2 at 10.7.0.11: holdtime=105 priority=1
 2000bf3a0001000200690013000400000001001400044ec8d160

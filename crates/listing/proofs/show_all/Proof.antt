@@ -10,10 +10,10 @@ use Rattle.listing.proofs.show_all.Statement.{statement}
 use Rattle.listing.proofs.show_all.Tie as tie
 
 abbrev Inv-loop : tie.InvT-loop
-Inv-loop table m₀ at₀ m at = length m ≡ 1480
+Inv-loop family path table m₀ at₀ m at = length m ≡ 1480
 
 abbrev μ-loop : tie.MeasureT-loop
-μ-loop table m₀ at₀ m at = length table - at
+μ-loop family path table m₀ at₀ m at = length table - at
 
 pub show-all-spec : {M : Type 1} → statement M
 show-all-spec =

@@ -10,10 +10,10 @@ use Rattle.runs.proofs.lines.Statement.{statement}
 use Rattle.runs.proofs.lines.Tie as tie
 
 abbrev Inv-loop : tie.InvT-loop
-Inv-loop table m₀ at₀ m at = length m ≡ 1480
+Inv-loop ipv6 table m₀ at₀ m at = length m ≡ 1480
 
 abbrev μ-loop : tie.MeasureT-loop
-μ-loop table m₀ at₀ m at = length table - at
+μ-loop ipv6 table m₀ at₀ m at = length table - at
 
 pub lines-spec : {M : Type 1} → statement M
 lines-spec =

@@ -6,14 +6,14 @@ use Rattle.sheets.proofs.small.cuts.Statement.{statement}
 use Rattle.sheets.proofs.small.cuts.Tie as tie
 
 abbrev Inv-loop : tie.InvT-loop
-Inv-loop o n refused₀ i₀ t6 t7 refused i = (i ≤ n) × (refused ≤ i)
+Inv-loop form o n refused₀ i₀ t6 t7 refused i = (i ≤ n) × (refused ≤ i)
 
 abbrev μ-loop : tie.MeasureT-loop
-μ-loop o n refused₀ i₀ t6 t7 refused i = n - i
+μ-loop form o n refused₀ i₀ t6 t7 refused i = n - i
 
 pub cuts-spec : {M : Type 1} → statement M
 cuts-spec =
     tie.close
-    (tie.spec Inv-loop μ-loop (λ c κs. search needs) (λ c κs. search needs) (λ c. search needs) (λ c. search needs) (λ c κs. search needs)
-    (λ c κs. search needs) (λ c. search needs) (λ c. search needs) (λ c. search needs) (λ c. search needs) (λ c. search needs)
-    (λ c κs. search needs) (λ c. search needs) (λ c κs. search needs) (λ c. search needs))
+    (tie.spec Inv-loop μ-loop (λ c κs. search needs) (λ c κs. search needs) (λ c. search needs) (λ c κs. search needs) (λ c. search needs)
+    (λ c κs. search needs) (λ c κs. search needs) (λ c. search needs) (λ c. search needs) (λ c. search needs) (λ c. search needs)
+    (λ c. search needs) (λ c κs. search needs) (λ c. search needs) (λ c κs. search needs) (λ c. search needs))

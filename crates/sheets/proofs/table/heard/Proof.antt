@@ -6,10 +6,10 @@ use Rattle.sheets.proofs.table.heard.Statement.{statement}
 use Rattle.sheets.proofs.table.heard.Tie as tie
 
 abbrev Inv-loop : tie.InvT-loop
-Inv-loop rows t₀ i₀ t i = i ≤ rows
+Inv-loop family rows t₀ i₀ t i = i ≤ rows
 
 abbrev μ-loop : tie.MeasureT-loop
-μ-loop rows t₀ i₀ t i = rows - i
+μ-loop family rows t₀ i₀ t i = rows - i
 
 pub heard-spec : {M : Type 1} → statement M
 heard-spec =

@@ -15,5 +15,5 @@ slice-aggregate-pack-both-2 c = simp length-take (omega arith)
 pub both-spec : {M : Type 1} → statement M
 both-spec =
     tie.close
-    (tie.spec (λ c. search needs) slice-aggregate-pack-both (λ c. search needs) slice-aggregate-pack-both-2 (λ c κs. search needs)
+    (tie.spec (λ c κs. search needs) (λ c. search needs) slice-aggregate-pack-both (λ c. search needs) slice-aggregate-pack-both-2 (λ c κs. search needs)
     (λ c κs. search needs) (λ c. search needs))

@@ -15,5 +15,5 @@ slice-aggregate-pack-chosen-2 c = simp length-take (omega arith)
 pub chosen-spec : {M : Type 1} → statement M
 chosen-spec =
     tie.close
-    (tie.spec (λ c. search needs) slice-aggregate-pack-chosen (λ c. search needs) slice-aggregate-pack-chosen-2 (λ c κs. search needs)
+    (tie.spec (λ c κs. search needs) (λ c. search needs) slice-aggregate-pack-chosen (λ c. search needs) slice-aggregate-pack-chosen-2 (λ c κs. search needs)
     (λ c κs. search needs) (λ c. search needs))

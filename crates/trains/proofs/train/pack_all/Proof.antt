@@ -9,11 +9,11 @@ use Rattle.trains.proofs.train.pack_all.Statement.{statement}
 use Rattle.trains.proofs.train.pack_all.Tie as tie
 
 abbrev Inv-loop : tie.InvT-loop
-Inv-loop e one other d₀ back₀ messages₀ octets₀ taken₀ d back messages octets taken =
-    (length d ≡ 65536) × (length back ≡ 16384) × (taken ≤ 1024) × (messages ≤ taken) × (octets ≤ 65536 * messages)
+Inv-loop family e one other d₀ back₀ messages₀ octets₀ taken₀ d back messages octets taken =
+    (length d ≡ 65536) × (length back ≡ 45056) × (taken ≤ 1024) × (messages ≤ taken) × (octets ≤ 65536 * messages)
 
 abbrev μ-loop : tie.MeasureT-loop
-μ-loop e one other d₀ back₀ messages₀ octets₀ taken₀ d back messages octets taken = 1024 - taken
+μ-loop family e one other d₀ back₀ messages₀ octets₀ taken₀ d back messages octets taken = 1024 - taken
 
 pub pack-all-spec : {M : Type 1} → statement M
 pack-all-spec =
