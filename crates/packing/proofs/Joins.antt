@@ -1,7 +1,6 @@
 -- Runs of entries that stand one after another.
 --     source-joins, rp-joins, group-joins     two entries are joined, by their octets
 --     entry-there                             the first of some entries is there
---     halves-apart, halves-equal              two addresses compared by their halves
 --     Counting                                where a loop that counts the first entries that pass a test stands: count-run, count-start, count-there, count-stop, count-next, count-end
 --     leading-le, run-range, records-first    the first run, and what is left past it
 --     records-none, all-none                  no entries have no records
@@ -14,7 +13,6 @@ use mathlib.Core.Bool.{Bool, true, false, _&&_, and-true, cond}
 use mathlib.Core.List.{List, [], _∷_, _++_}
 use lib.ListN.{length, take, drop}
 use lib.Dec.{eqb}
-use borrow.Author.Tests.{eq-eqb, ne-eqb, eqb-true, eqb-false}
 use Rattle.octets.specs.Octets.{numberAt}
 use Rattle.records.specs.Records.{AssertRecord, rBit}
 use Rattle.records.specs.Runs.{run, runs, leading}
@@ -25,7 +23,6 @@ use Rattle.format.specs.Family.{Family}
 use Rattle.format.specs.Record.{each}
 use Rattle.format.specs.Entry.{assertAt, assertEntries, entriesAt}
 use Rattle.format.proofs.Entries.{length-entriesAt, take-entries, drop-at}
-use Rattle.addresses.proofs.Laws.{halves}
 use Rattle.packing.specs.Joins.{asserts, entryAt, groupAt, entrySize, joins, runLength, Run, Aggregated, Group}
 use Rattle.packing.specs.Aggregates.{recordsIn, recordsOf, allOf}
 
@@ -53,17 +50,6 @@ module _ (f : Family) (o : List ℕ) (a b : ℕ) where
 pub entry-there : (f : Family) (o : List ℕ) (from n : ℕ) → 0 < n → from + entrySize f * n ≤ length o → from + entrySize f ≤ length o
 entry-there f o from zero h there = absurd (omega arith)
 entry-there f o from (suc m) h there = omega (arith, mul-suc (entrySize f) m)
-
--- two addresses in halves
-pub halves-apart : (ah al bh bl : ℕ) → al < 18446744073709551616 → bl < 18446744073709551616 → (al ≡ bl → ⊥) → false ≡ eqb (halves ah al) (halves bh bl)
-halves-apart ah al bh bl r s n = sym (ne-eqb (halves ah al) (halves bh bl) (λ e. n (omega arith)))
-
-pub halves-equal : (ah al bh bl : ℕ) → al ≡ bl → eqb ah bh ≡ eqb (halves ah al) (halves bh bl)
-halves-equal ah al bh bl e = go (eqb ah bh) refl
-  where
-    go : (b : Bool) → eqb ah bh ≡ b → b ≡ eqb (halves ah al) (halves bh bl)
-    go true t = let same : ah ≡ bh = eqb-true ah bh t in sym (eq-eqb (halves ah al) (halves bh bl) (omega arith))
-    go false t = sym (ne-eqb (halves ah al) (halves bh bl) (λ q. eqb-false ah bh t (omega arith)))
 
 -- what is still to be looked at says how many entries at the front pass a test
 pub record Counting (f : Family) (test : AssertRecord → Bool) (o : List ℕ) (n all k at : ℕ) : Type 0 where

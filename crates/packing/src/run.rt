@@ -2,6 +2,7 @@
 // those of one group. What the entries of a run share is read once, and the others are compared with it. Each run is
 // looked for by a loop in which the family is a literal, so that the compiler makes one for each.
 use addresses::front_size;
+use addresses::is_same;
 use addresses::width;
 use format::Address;
 use octets::number32;
@@ -62,15 +63,6 @@ pub(crate) fn is_none(ipv6: bool, e: &[u8], at: usize) -> bool
         return whole64(&e[at..at + 8], 0) == 0;
     }
     whole32(&e[at..at + 4], 0) == 0
-}
-
-fn is_same(a: Address, b: Address) -> bool
-    ensures { λ r. ⌜ r ≡ eqb (numberOf a) (numberOf b) ⌝ }
-{
-    if a.low != b.low {
-        return false;
-    }
-    a.high == b.high
 }
 
 // Whether this preference, with R, and this metric stand at a place.
