@@ -3,12 +3,12 @@
 --     accepted, refusal               not refused; refused
 --     lengthAnswer                    how many octets were written
 --     headerAnswer, readAnswer, helloAnswer     reading
---     kindOf, halved, recordAnswer    a record read singly, of a kind that a number names, its addresses in two halves
+--     kindOf, recordAnswer            a record read singly, of a kind that a number names, its addresses in two halves
 --     packAnswer, choiceAnswer        packing
 --     tableAnswer, changedBy, allowedAnswer, electAnswer     neighbours
 --     directionOf, refusalOf          counters
 -- Assumes nothing: these are definitions.
-use Prim.Native.Nat.{ℕ, _/_, _%_}
+use Prim.Native.Nat.{ℕ}
 use mathlib.Core.Bool.{Bool, true, false}
 use mathlib.Core.Option.{Option, none, some}
 use Rattle.format.specs.Outcome.{Outcome, gives, refuses}
@@ -22,9 +22,11 @@ use Rattle.format.specs.declared.Kind.{Kind}
 use Rattle.format.specs.declared.Refusal.{Refusal}
 use Rattle.hello.specs.Hello.{Hello as HelloSaid, hello}
 use Rattle.hello.specs.declared.Hello.{Hello}
+use Rattle.neighbours.specs.Rows.{noAddress}
 use Rattle.neighbours.specs.Hearing.{Done, replaced, appended, forgotten, After}
 use Rattle.neighbours.specs.Answers.{doneOf, tableAfter}
 use Rattle.neighbours.specs.declared.Table.{Table}
+use Rattle.sections.specs.Contents.{addressFrom}
 use Rattle.counters.specs.declared.Direction.{Direction}
 use Rattle.counters.specs.declared.Direction.the-variants.{Sent, Received}
 use Rattle.pim.specs.declared.answers.LengthAnswer.{LengthAnswer}
@@ -59,20 +61,13 @@ unfoldable pub kindOf : Option Kind → (Kind → Read Single) → Read Single
 kindOf (some k) reader = reader k
 kindOf none reader = bad 4 0
 
--- an address in two halves
-abbrev pub halved : ℕ → Address
-halved n = record { high = n / 18446744073709551616; low = n % 18446744073709551616 }
-
-abbrev pub zero : Address
-zero = record { high = 0; low = 0 }
-
 -- a pair has no preference and no metric: both are 0
 unfoldable pub recordAnswer : Read Single → RecordAnswer
 recordAnswer (got (anAssert e) next) = record {
   refusal = accepted;
   next = next;
-  group = halved (e .group);
-  source = halved (e .source);
+  group = addressFrom (e .group);
+  source = addressFrom (e .source);
   «r_preference» = e .rPreference;
   metric = e .metric;
   «is_pair» = false;
@@ -80,8 +75,8 @@ recordAnswer (got (anAssert e) next) = record {
 recordAnswer (got (aPair e) next) = record {
   refusal = accepted;
   next = next;
-  group = halved (e .group);
-  source = halved (e .source);
+  group = addressFrom (e .group);
+  source = addressFrom (e .source);
   «r_preference» = 0;
   metric = 0;
   «is_pair» = true;
@@ -89,8 +84,8 @@ recordAnswer (got (aPair e) next) = record {
 recordAnswer (bad n p) = record {
   refusal = refusal n p;
   next = 0;
-  group = zero;
-  source = zero;
+  group = noAddress;
+  source = noAddress;
   «r_preference» = 0;
   metric = 0;
   «is_pair» = false;
@@ -141,7 +136,7 @@ allowedAnswer (refuses n p) = record { refusal = refusal n p; allowed = false }
 
 unfoldable pub electAnswer : Outcome Address → ElectAnswer
 electAnswer (gives a) = record { refusal = accepted; address = a }
-electAnswer (refuses n p) = record { refusal = refusal n p; address = zero }
+electAnswer (refuses n p) = record { refusal = refusal n p; address = noAddress }
 
 -- ---- counters
 
