@@ -4,6 +4,7 @@
 // aggregated.rt     aggregated records
 // whole.rt          assert records and pairs that are there whole
 // entries.rt        the bodies of messages
+#![tactic(auto)]
 mod aggregated;
 mod entries;
 mod whole;

@@ -6,6 +6,7 @@
 // output.rt        a line for each election
 // scenarios.rt     the scenarios
 // calls.rt         calls in IPv6 that no scenario has
+#![tactic(auto)]
 mod calls;
 mod election;
 mod output;

@@ -2,6 +2,7 @@
 // up to the end, by the places of their values; then what these say; then the whole message, which is the public
 // call. It is total; what it answers is a definition of specs/. The known options, and reading one, are in
 // table.rt; Hellos are written in write.rt.
+#![tactic(auto)]
 mod table;
 mod write;
 

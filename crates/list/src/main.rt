@@ -2,6 +2,7 @@
 // error says so.
 //
 // input.rt     standard input read to its end
+#![tactic(auto)]
 mod input;
 
 use input::{Input, read_input};

@@ -7,6 +7,7 @@
 // line.rt      the lines
 //
 // Programs that name what they list, or list what no message holds, call `show`, `show_all`, `list_of`, `record` and `refused`.
+#![tactic(auto)]
 mod line;
 mod value;
 mod words;

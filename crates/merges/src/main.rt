@@ -5,6 +5,7 @@
 // speeds.rt       the speeds of RFC 6807, section 3.1.1, and others, each against each
 // layouts.rt      the three layouts of section 3.2, and damaged attributes
 // merging.rt      0, 1, 2 and 20 contributors, with and without each option, and at the maxima
+#![tactic(auto)]
 mod layouts;
 mod merging;
 mod output;

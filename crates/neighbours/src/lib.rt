@@ -6,6 +6,7 @@
 // hearing.rt     a table without neighbours; hearing and forgetting
 // election.rt    whether packing is allowed; the election over the rows and our own router
 // list.rt        the election over a lent list of rows
+#![tactic(auto)]
 mod election;
 mod hearing;
 mod list;

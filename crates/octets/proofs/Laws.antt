@@ -242,7 +242,7 @@ stores d at j (x ∷ e) = stores (set d (place at j) x) at (suc j) e
 
 stores_sets : (d : List ℕ) (at j : ℕ) (e : List ℕ) → stores d at j e ≡ sets d (at + j) e
 stores_sets d at j [] = refl
-stores_sets d at j (x ∷ e) = rw (place_add, stores_sets _ at (suc j) e, add-suc)
+stores_sets d at j (x ∷ e) = rw (place_add, stores_sets (set d (at + j) x) at (suc j) e, add-suc)
 
 pub stores_put : (d : List ℕ) (at : ℕ) (e : List ℕ) → at + length e ≤ length d → stores d at 0 e ≡ put d at e
 unfolding put

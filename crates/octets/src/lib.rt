@@ -1,6 +1,8 @@
 // Field readers and writers at any place of a slice: numbers of 8, 16 and 32 bits, big-endian, and octets that
 // are skipped. Each is total: a place from which the field does not fit is answered, and never reached.
 // `number16`, `number32`, `whole32`, `whole64`, `copy4`, `copy8` and `copy16` are for callers who know that the octets are there.
+#![tactic(auto)]
+
 ghost use Rattle.std.specs.Prelude.{◌≡◌, ◌-◌, ◌<◌, length};
 ghost use Rattle.octets.specs.Octets.{number_at, whole_at, be, copied};
 ghost use Rattle.octets.specs.Reader.{number};

@@ -11,6 +11,7 @@
 // limit.rt       what a call refuses, in the order 9, 8, 10, 7
 // calls.rt       the five calls
 // choice.rt      both packed assert forms, and the one that is chosen
+#![tactic(auto)]
 mod aggregate;
 mod calls;
 mod choice;

@@ -12,6 +12,7 @@
 // popcounts.rt    Pop-Count attributes
 // stored.rt       the stored sheet
 // sums.rt         the checksum
+#![tactic(auto)]
 mod answers;
 mod families;
 mod messages;

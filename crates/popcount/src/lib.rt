@@ -5,6 +5,7 @@
 // tally.rt       one pass over the contributors, which keeps a tally by value
 // write.rt       an attribute, written
 // merging.rt     the call
+#![tactic(auto)]
 mod merging;
 mod rules;
 mod tally;

@@ -3,6 +3,7 @@
 // line.rt      texts, numbers, addresses and refusals
 // table.rt     cases written as text: a name, and octets in hexadecimal
 // part.rt      the front of a slice, what two have in common, an address or an entry put into one
+#![tactic(auto)]
 mod line;
 mod part;
 mod table;

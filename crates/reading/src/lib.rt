@@ -5,6 +5,7 @@
 // message.rt     the header and the body
 // copy.rt        second pass: entries written by plain indices
 // entries.rt     the reading calls: everything is checked and counted before the first entry is written
+#![tactic(auto)]
 mod copy;
 mod entries;
 mod message;

@@ -4,6 +4,7 @@
 //
 // input.rt     standard input read piece by piece, and its messages counted
 // lines.rt     the report printed
+#![tactic(auto)]
 mod input;
 mod lines;
 

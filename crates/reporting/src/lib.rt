@@ -6,6 +6,7 @@
 // counts.rt     the counts: a state by value that takes one message at a time
 // means.rt      the mean, in lowest terms
 // file.rt       the messages of a file
+#![tactic(auto)]
 mod counts;
 mod file;
 mod judge;

@@ -8,6 +8,7 @@
 // packs.rt         entries packed, and the messages written
 // kinds6.rt        the same in IPv6, and so refusals6.rt, hellos6.rt, written6.rt and packs6.rt
 // shown.rt         the messages of a table listed; octets printed
+#![tactic(auto)]
 mod hellos;
 mod hellos6;
 mod kinds;

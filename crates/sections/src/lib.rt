@@ -4,6 +4,7 @@
 // row.rt         a neighbour's row
 // head.rt        the header
 // section.rt     the sections one by one
+#![tactic(auto)]
 mod head;
 mod layout;
 mod row;

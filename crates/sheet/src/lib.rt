@@ -5,6 +5,7 @@
 // put.rt         a header and rows, written into a lent buffer
 // read.rt        reading a sheet
 // write.rt       writing a sheet
+#![tactic(auto)]
 mod copy;
 mod put;
 mod read;

@@ -11,6 +11,7 @@
 // table.rt         as many neighbours as a table holds, and one more
 // refusals.rt      what reading and writing refuse
 // sources.rt       stored sheets with sources that are not allowed
+#![tactic(auto)]
 mod built;
 mod limits;
 mod output;

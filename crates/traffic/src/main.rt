@@ -7,6 +7,7 @@
 // received.rt     messages of each kind, and damaged ones
 // sent.rt         messages packed, then counted
 // totals.rt       the counters printed
+#![tactic(auto)]
 mod lend;
 mod receive;
 mod received;

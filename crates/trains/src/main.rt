@@ -10,6 +10,7 @@
 // choice.rt       both packed assert forms, and the one that is chosen
 // rule.rt         the rule that makes the list of entries
 // train.rt        the list packed until nothing is left, each message read back, and the two lists compared
+#![tactic(auto)]
 mod call;
 mod choice;
 mod examples;

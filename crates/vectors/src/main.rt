@@ -4,6 +4,7 @@
 // vectors_hello.rt      Hellos
 // vectors_hello6.rt     Hellos of IPv6
 // vectors_assert.rt     plain Asserts, and packed Null-Registers and Register-Stops
+#![tactic(auto)]
 mod vectors_assert;
 mod vectors_hello;
 mod vectors_hello6;

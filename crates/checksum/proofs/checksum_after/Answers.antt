@@ -7,8 +7,8 @@ use native.Mathlib.Omega.{arith}
 use lib.ListN.{length, get_or, drop}
 use Rattle.checksum.specs.Sum.{words, add, sum_from, checksum_from}
 use borrow.Author.Rules.{rules}
-use Rattle.checksum.proofs.checksum_after.Statement.{statement}
-use Rattle.checksum.proofs.checksum_after.Tie as tie
+use Rattle.checksum.proofs.checksum_after.Goals as goal
+use Rattle.checksum.proofs.checksum_after.Goals.{After-add-first}
 
 -- no word 1
 short : (start : ℕ) (o : List ℕ) → length o < 2 → checksum_from start o ≡ 65535 - sum_from start (words o)
@@ -42,35 +42,15 @@ skip start (a ∷ b ∷ x ∷ []) h u hu e = absurd (omega arith)
 skip start (a ∷ b ∷ x ∷ y ∷ o) h u hu e =
     ap (λ (n : ℕ). 65535 - sum_from n (words o)) (sym (add_nothing u hu) ∙ ap (λ (n : ℕ). add n 0) e)
 
-abbrev start : tie.After-add → tie.Start
-start c = c.before.before.before.before.before.before
-
 -- word 0, summed onto what was summed before
-first : (c : tie.After-add) → c.add.result ≡ add (start c).args.start (get_or (start c).args.s.now 0 0 * 256 + get_or (start c).args.s.now 1 0)
-first c = c.add.ensures ∙ ap (add (start c).args.start) c.before.word.ensures
+first : (c : After-add-first) → c.add-first.result ≡ add c.args.start (get_or c.args.s.now 0 0 * 256 + get_or c.args.s.now 1 0)
+first c = c.add-first.ensures ∙ ap (add c.args.start) c.word.ensures
 
-returns : tie.Need-returns
-returns c = rw c.sum-from.ensures (sym (short _ _ c.before.if1.true))
+pub returns-then-s-lt2 : goal.returns-then-s-lt2
+returns-then-s-lt2 c = rw c.sum_from.ensures (sym (short _ _ c.if-s-lt2.true))
 
-returns-2 : tie.Need-returns-2
-returns-2 c = head _ _ (search rules) c.if2.true _ (search rules) (first c.before)
+pub returns-then-s-lt4 : goal.returns-then-s-lt4
+returns-then-s-lt4 c = head _ _ (search rules) c.if-s-lt4.true _ (search rules) (first (goal.at.returns-then-s-lt4 c).After-add-first)
 
-returns-3 : tie.Need-returns-3
-returns-3 c = rw c.sum-from2.ensures (skip _ _ c.before.if2.false _ (search rules) (first c.before.before))
-
-pub checksum-after-spec : {M : Type 1} → statement M
-checksum-after-spec =
-    tie.close
-    (tie.spec
-    (λ c κs. search rules)
-    (λ c. search rules)
-    returns
-    (λ c. search rules)
-    (λ c. search rules)
-    (λ c κs. search rules)
-    (λ c κs. search rules)
-    (λ c. search rules)
-    returns-2
-    (λ c κs. search rules)
-    (λ c. search rules)
-    returns-3)
+pub returns : goal.returns
+returns c = rw c.sum_from-2.ensures (skip _ _ c.if-s-lt4.false _ (search rules) (first (goal.at.returns c).After-add-first))
