@@ -1,6 +1,7 @@
 // The Internet checksum: the one's complement sum of the 16-bit words of a message, big-endian, and its complement.
 // The carry out of 16 bits is added back after each word.
 #![tactic(auto)]
+
 ghost use Rattle.std.specs.Prelude.{◌≡◌, ◌+◌, ◌*◌, ◌≤◌, length, drop};
 ghost use Rattle.octets.specs.Octets.{be};
 ghost use Rattle.checksum.specs.Sum.{words, sum_from, checksum_from, holds_from};

@@ -17,12 +17,11 @@ use native.Mathlib.Omega.{arith}
 use mathlib.Core.Path.{◌≡◌, refl, sym, ap, ◌∙◌}
 use mathlib.Core.Bool.{Bool, true, false, not, ◌&&◌, and-eq-true_iff}
 use mathlib.Core.List.{List, []}
-use borrow.Author.Tests.{lt-ltb, le-ltb, le-leb, ltb-false, not_false, leb-true, ne_eqb}
+use borrow.Author.Tests.{lt-ltb, le-ltb, le-leb, ltb-false, not-false, leb-true, ne_eqb}
 use lib.ListN.{length, take, drop}
 use lib.Dec.{eqb, leb, ltb}
 use Rattle.octets.specs.Octets.{put}
 use Rattle.octets.proofs.Laws.{take_put, drop_put}
-use Rattle.records.specs.Most.{most}
 use Rattle.records.proofs.Most.{most_le, most_fits}
 use Rattle.format.specs.Outcome
 use Rattle.format.specs.Outcome.{Outcome, gives, refuses, refuse_if}
@@ -91,7 +90,7 @@ module _ (E : Entries) (o : List ℕ) (start limit room l : ℕ) where
       unless_gives (not (whole E o && leb start (count E o))) 10 0 _ _ rest₁ (λ listed rest₂.
       then_gives (first_bad E o start) _ _ rest₂ (λ x fine rest₃.
       let same : m ≡ l = cc in
-      let list = (and-eq-true_iff (whole E o) (leb start (count E o))).0 (not_false _ listed) in (
+      let list = (and-eq-true_iff (whole E o) (leb start (count E o))).0 (not-false _ listed) in (
         record {
           limit_read = rw same at read;
           enough = rw same at (ltb-false room m short);

@@ -23,7 +23,6 @@ use Rattle.records.specs.Every.{Every}
 use Rattle.records.specs.Records.{AssertRecord, PairRecord}
 use Rattle.format.specs.Outcome
 use Rattle.format.specs.Outcome.{Outcome, gives, refuse_if}
-use Rattle.format.specs.Reader
 use Rattle.format.specs.Reader.{Reader, got, records, outcome, from}
 use Rattle.format.specs.Family.{Family, Lawful}
 use Rattle.format.specs.Header.{assert_kind, register_kind, kind_of, octet0, octet1, before, sums, header, message, longest}

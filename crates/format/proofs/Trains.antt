@@ -33,8 +33,7 @@ use Rattle.format.specs.Outcome.{gives}
 use Rattle.format.specs.Family.{Family, Lawful}
 use Rattle.format.specs.Path.{nowhere}
 use Rattle.format.specs.Header.{longest}
-use Rattle.format.specs.Record.{each, aggregated_octets}
-use Rattle.format.specs.Body.{zeros, aggregated_body}
+use Rattle.format.specs.Body.{aggregated_body}
 use Rattle.format.specs.Entry.{assert_entries, count, entries_of}
 use Rattle.format.specs.Unpacking.{unpacked, unpack_asserts}
 use Rattle.format.specs.Packing.{least_limit, aggregated, size_of, canonical, taken, PackingCall, wrote, packing}
@@ -42,7 +41,6 @@ use Rattle.format.specs.Train.{Lent, Made, Sent, taken_by, message_of, calls, ta
 use Rattle.format.specs.declared.Kind.TheVariants.{Aggregated}
 use Rattle.format.specs.declared.Path.{Path}
 use Rattle.format.proofs.Lengths.{length_all}
-use Rattle.format.proofs.Messages.{length_message}
 use Rattle.format.proofs.Joined.{Good}
 use Rattle.format.proofs.Entries.{length_entries, every_allowed, allowed_from}
 use Rattle.format.proofs.Calls.{Asked, limit_itself, canonical_long, taken_most, taken_fits, pack_none, pack_some, packing_gives, packing_short}

@@ -8,7 +8,7 @@
 --     may_be_source       an address that a source field may hold
 --     Lawful            what the theorems ask of a family
 -- Assumes nothing: these are definitions.
-use Rattle.std.specs.Prelude.{ℕ, ◌*◌, ◌/◌, ◌^◌, ◌<◌, ◌≤◌, ◌≡◌, Bool, true, false, not, ◌&&◌, ◌||◌, cond, List, [], ◌∷◌, length, leb, ltb, eqb}
+use Rattle.std.specs.Prelude.{ℕ, ◌*◌, ◌/◌, ◌^◌, ◌<◌, ◌≡◌, Bool, true, false, not, ◌&&◌, ◌||◌, cond, List, [], ◌∷◌, length, leb, ltb, eqb}
 use Rattle.octets.specs.Octets.{Octets}
 use Rattle.format.specs.Path.{pseudo_header}
 use Rattle.format.specs.declared.AddressFamily.{AddressFamily}

@@ -2,6 +2,7 @@
 // octets did, the families of addresses, an address and a path of two, the two records and the R bit. What each means in
 // octets is in specs/, and so are the theorems' statements; there is hardly any code.
 #![tactic(auto)]
+
 ghost use Rattle.std.specs.Prelude.{◌≡◌};
 ghost use Rattle.records.specs.Records.{r_bit};
 ghost use Rattle.format.specs.Family.{is_ipv6};

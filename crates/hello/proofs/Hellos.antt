@@ -13,7 +13,7 @@ use mathlib.Core.List.{List, [], ◌∷◌}
 use mathlib.Core.Option.{none, some}
 use mathlib.Core.Logic.{⊎_elim}
 use native.Mathlib.Omega.{arith}
-use borrow.Author.Tests.{not_false}
+use borrow.Author.Tests.{not-false}
 use types.Run.{OneOf}
 use denote.Enum.Declared.{tag_of}
 use lib.Dec.{eqb}
@@ -47,7 +47,7 @@ placed_zero at n = go (eqb at 0)
     go false = refl
 
 pub placed_none : (at n : ℕ) → not (eqb at 0) ≡ false → cond (eqb at 0) 0 n ≡ 0
-placed_none at n e = rw (not_false (eqb at 0) e)
+placed_none at n e = rw (not-false (eqb at 0) e)
 
 pub hello_all : (o : List ℕ) {s : Said} → from 4 (options (length o) nothing) o ≡ gives s → hello_options o ≡ gives (hello_of s)
 unfolding hello_options ◌>>=◌

@@ -12,7 +12,7 @@
 use Prim.Native.Nat.{ℕ, zero, suc, ◌+◌, ◌*◌, ◌≤◌, ◌<◌}
 use native.Mathlib.Omega.{arith}
 use mathlib.Core.Path.{◌≡◌, refl, sym, ap, ◌∙◌}
-use mathlib.Core.Bool.{Bool, true, false, and_true, and_false}
+use mathlib.Core.Bool.{Bool, true, false, and-true, and-false}
 use mathlib.Core.List.{List, [], ◌∷◌, ◌++◌, map, append_assoc, append-nil}
 use borrow.Author.Tests.{le-leb, lt-leb, leb-true, leb-false, lt-ltb, le-ltb, eq-eqb, ne_eqb}
 use lib.ListN.{length, replicate, length-append, length-map}
@@ -115,12 +115,12 @@ module _ (ipv6 : Bool) (o : List ℕ) (at k : ℕ) where
 
   pub many_apart : few ipv6 < k → apart (family_of ipv6) entries ≡ false
   unfolding apart
-  many_apart h = rw (sources_long (family_of ipv6) o at k, few_is ipv6 k, lt-leb k (few ipv6) h, and_false)
+  many_apart h = rw (sources_long (family_of ipv6) o at k, few_is ipv6 k, lt-leb k (few ipv6) h, and-false)
 
   pub few_apart : k ≤ few ipv6 → apart (family_of ipv6) entries ≡ eqb (leading zero_source entries) k
   unfolding apart
   few_apart h =
-      rw (sources_long (family_of ipv6) o at k, few_is ipv6 k, le-leb k (few ipv6) h, and_true, all_zero_lem (family_of ipv6) o k k at (omega arith))
+      rw (sources_long (family_of ipv6) o at k, few_is ipv6 k, le-leb k (few ipv6) h, and-true, all_zero_lem (family_of ipv6) o k k at (omega arith))
       (go (leading zero_source entries) (omega (arith, leading_le zero_source entries, length_entries_at (assert_entries (family_of ipv6)) o at k)))
     where
       go : (z : ℕ) → z ≤ k → leb k z ≡ eqb z k

@@ -9,7 +9,7 @@ use Prim.Native.Nat.{ℕ, zero, suc, ◌+◌, ◌-◌, ◌*◌, ◌≤◌, ◌<�
 use native.Mathlib.Nat.{mul-suc}
 use native.Mathlib.Omega.{arith}
 use mathlib.Core.Path.{◌≡◌, refl, sym, ap, ◌∙◌}
-use mathlib.Core.Bool.{Bool, true, false, ◌&&◌, and_true, cond}
+use mathlib.Core.Bool.{Bool, true, false, ◌&&◌, and-true, cond}
 use mathlib.Core.List.{List, [], ◌∷◌, ◌++◌}
 use lib.ListN.{length, take, drop}
 use lib.Dec.{eqb}
@@ -40,7 +40,7 @@ module _ (f : Family) (o : List ℕ) (a b : ℕ) where
 
   pub rp_joins : r_bit (number_at 4 o (group_at f a + 2 * f.width)) ≡ true → joins Aggregated (entry_at f o a) (entry_at f o b) ≡ same-metric
   unfolding joins together assert_at
-  rp_joins r = rw (r, and_true)
+  rp_joins r = rw (r, and-true)
 
   pub group_joins : joins Group (entry_at f o a) (entry_at f o b) ≡ eqb (number_at f.width o (group_at f a)) (number_at f.width o (group_at f b))
   unfolding joins same_group assert_at

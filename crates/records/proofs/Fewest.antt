@@ -46,7 +46,7 @@ module _ {A : Type 0} (Fits : List A → Type 0) (closed : (k : ℕ) (l : List A
   frontier (b ∷ bs) f q h n stop e = zero-le
   frontier {p} {i} (b ∷ bs) f q h n (step g s) e =
       let cut : drop q es ≡ b ++ (flatten bs ++ drop p es) = e ∙ append_assoc b (flatten bs) (drop p es) in
-      suc-le-suc (frontier bs f.1 (q + length b) (ahead q i b _ h (omega (arith, steps_le s)) f.0 cut) n s
+      suc-le-suc (frontier {i = i + next i} bs f.1 (q + length b) (ahead q i b _ h (omega (arith, steps_le s)) f.0 cut) n s
       (sym (drop-drop (length b) q es) ∙ ap (drop (length b)) cut ∙ drop-append_seam b (flatten bs ++ drop p es)))
 
   pub fewest : {p j : ℕ} → Steps next 0 p j → (bs : List (List A)) → Every Fits bs → flatten bs ≡ take p es → p ≤ length es → j ≤ length bs

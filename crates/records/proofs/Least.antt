@@ -84,7 +84,7 @@ group_runs_size w (run e es ∷ rs) = simp (group_records_size_append, group_siz
 group_cost_parts : (w : ℕ) (a b : AssertRecord) (l m : List AssertRecord)
     → Parts (w + 8) (group_cost w (run a l)) (group_cost w (run b m)) (group_cost w (run a (l ++ b ∷ m)))
 unfolding group_cost
-group_cost_parts w a b l m = rw (map-append _ l (b ∷ m)) (sources_parts w (sources (a ∷ l)) (sources (b ∷ m)))
+group_cost_parts w a b l m = rw (map-append (λ (x : AssertRecord). x.source) l (b ∷ m)) (sources_parts w (sources (a ∷ l)) (sources (b ∷ m)))
 
 pub groups_parts : (w : ℕ) (l m : List AssertRecord) → Parts (w + 8) (groups_cost w l) (groups_cost w m) (groups_cost w (l ++ m))
 unfolding groups_cost

@@ -142,7 +142,7 @@ module _ {A : Type 0} (same : A → A → Bool) (cong : (a b : A) → same a b �
     where
       go : (t : Bool) → same a b ≡ t → runs same (b ∷ l) ≡ run b (take (leading (same b) l) l) ∷ runs same (drop (leading (same b) l) l)
           → runs same (a ∷ b ∷ l) ≡ run a (take (leading (same a) (b ∷ l)) (b ∷ l)) ∷ runs same (drop (leading (same a) (b ∷ l)) (b ∷ l))
-      go true e ih = rw (ih, e, cong a b e)
+      go true e ih = rw (ih, e, ← cong a b e)
       go false e ih = rw (e, ih, e)
 
   -- ---- the cost of runs

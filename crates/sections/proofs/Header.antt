@@ -14,7 +14,7 @@ use mathlib.Core.List.{List}
 use Prim.Native.Nat.{ℕ, ◌+◌, ◌*◌, ◌≤◌, ◌<◌}
 use native.Mathlib.Nat.{mul-le-mul_left}
 use native.Mathlib.Omega.{arith}
-use borrow.Author.Tests.{lt-ltb, le-ltb, leb-true, ltb-false, eqb-true, not_false}
+use borrow.Author.Tests.{lt-ltb, le-ltb, leb-true, ltb-false, eqb-true, not-false}
 use lib.ListN.{length}
 use lib.Dec.{lit≤, eqb, leb}
 use Rattle.format.specs.Outcome.{gives, refuses, refuse_if, ◌>>◌}
@@ -178,10 +178,10 @@ module _ (L : Layout) (f : Family) (o : List ℕ) (c : Counts) where
       let is : counts_in L o ≡ c = gives_same e₄ in
       record {
         there = ltb-false _ _ short;
-        front = not_false (begins L o) other;
+        front = not-false (begins L o) other;
         counts = is;
-        allowed = rw is at (not_false (counts_allowed L (counts_in L o)) over);
-        agree = rw is at (not_false (offsets_agree L f o (counts_in L o)) apart);
+        allowed = rw is at (not-false (counts_allowed L (counts_in L o)) over);
+        agree = rw is at (not-false (offsets_agree L f o (counts_in L o)) apart);
       }))))
 
   pub agreed : offsets_agree L f o c ≡ true → Offsets L f o c × (length o ≡ end L f c)

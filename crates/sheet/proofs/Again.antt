@@ -17,7 +17,7 @@ use native.Mathlib.Omega.{arith}
 use mathlib.Core.Path.{◌≡◌, refl, sym, ap, subst, ◌∙◌}
 use mathlib.Core.Bool.{Bool, true, false, not}
 use mathlib.Core.List.{List, [], ◌∷◌, ◌++◌, append_assoc, append-nil}
-use borrow.Author.Tests.{not_false, lt-ltb, le-ltb, eq-eqb, eqb-true}
+use borrow.Author.Tests.{not-false, lt-ltb, le-ltb, eq-eqb, eqb-true}
 use lib.Dec.{lit<}
 use lib.ListN.{length, take, drop, length-append, length-drop, take-append-drop}
 use lib.Seq.{length-take-le, drop-drop, drop-length}
@@ -158,7 +158,7 @@ module _ {E G : Entries} {x : List ℕ} (newer : Newer E G x) (o : List ℕ) whe
       unless_gives (not (E.allowed_at o at)) 14 at (check_entries E o (at + E.size) n) tt g
       (λ t more.
       let here : E.allowed_at y (p + length x) ≡ true =
-      newer.loc.same entry (at_right x entry whole) 0 (omega arith) (omega (arith, long)) ∙ sym (alone at (omega arith)) ∙ not_false _ t in
+      newer.loc.same entry (at_right x entry whole) 0 (omega arith) (omega (arith, long)) ∙ sym (alone at (omega arith)) ∙ not-false _ t in
       (newer.joined y p entry whole here, all_joined n (at + E.size) (p + G.size) y (omega arith) more (rw both at (at_right (x ++ entry) rest stands))))
 
   newer_listed : (at n : ℕ) → at + E.size * n ≤ length o → check_entries E o at n ≡ gives tt → Listed G (fronted x E.size o at n) n

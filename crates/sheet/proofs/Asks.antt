@@ -15,7 +15,7 @@ use native.Mathlib.Omega.{arith}
 use mathlib.Core.Path.{◌≡◌, refl, sym, ap, ◌∙◌}
 use mathlib.Core.Bool.{Bool, true, false, not, cond, ◌&&◌}
 use mathlib.Core.List.{List, ◌++◌}
-use borrow.Author.Tests.{not-true, not_false, lt-ltb, le-ltb, leb-true, leb-false, eq-eqb, ne_eqb}
+use borrow.Author.Tests.{not-true, not-false, lt-ltb, le-ltb, leb-true, leb-false, eq-eqb, ne_eqb}
 use lib.Dec.{eqb, leb}
 use lib.ListN.{length, take, drop, length-append}
 use lib.Seq.{take-length}
@@ -133,7 +133,7 @@ pub seven_not : (b : Bool) {x : Outcome (Unit {0})} → x ≡ cond b (gives tt) 
 seven_not b p q = p ∙ ap (λ c. cond c (gives tt) (refuses 7 0)) (not-true b q)
 
 pub seven_fine : (b : Bool) {x : Outcome (Unit {0})} → x ≡ cond b (gives tt) (refuses 7 0) → not b ≡ false → x ≡ gives tt
-seven_fine b p q = p ∙ ap (λ c. cond c (gives tt) (refuses 7 0)) (not_false b q)
+seven_fine b p q = p ∙ ap (λ c. cond c (gives tt) (refuses 7 0)) (not-false b q)
 
 -- ---- what writing asks
 

@@ -13,7 +13,7 @@ use native.Mathlib.Decide.{dec_le}
 use mathlib.Core.Path.{◌≡◌, refl, sym, ap, ◌∙◌}
 use mathlib.Core.Bool.{Bool, true, not}
 use mathlib.Core.List.{List, [], ◌∷◌, ◌++◌}
-use borrow.Author.Tests.{not_false, lt-ltb, le-ltb}
+use borrow.Author.Tests.{not-false, lt-ltb, le-ltb}
 use lib.ListN.{length, set, replicate, length-append}
 use lib.Seq.{append_snoc, set_at}
 use Rattle.octets.specs.Octets.{put}
@@ -106,7 +106,7 @@ module _ (a : AddressFamily) (o : List ℕ) {x : Verdict} (said : checked_by x �
 -- a sheet that passes is of the family, and passes in its form
 pub passed : (ipv6 : Bool) (k : Form) (o : List ℕ) (c : Counts) → check_form ipv6 k o ≡ gives c → (is_of ipv6 k ≡ true) × (checking (layout_of k) (family_in k) o ≡ gives c)
 unfolding fault
-passed ipv6 k o c e = unless_gives (not (is_of ipv6 k)) 14 0 (checking (layout_of k) (family_in k) o) c e (λ t rest. (not_false (is_of ipv6 k) t, rest))
+passed ipv6 k o c e = unless_gives (not (is_of ipv6 k)) 14 0 (checking (layout_of k) (family_in k) o) c e (λ t rest. (not-false (is_of ipv6 k) t, rest))
 
 -- ---- the call
 

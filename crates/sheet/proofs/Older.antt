@@ -17,7 +17,7 @@ use native.Mathlib.Decide.{dec_le}
 use mathlib.Core.Path.{◌≡◌, refl, sym, ap, ◌∙◌}
 use mathlib.Core.Bool.{Bool, true, false, cond}
 use mathlib.Core.List.{List, [], ◌∷◌, ◌++◌, map}
-use borrow.Author.Tests.{not_false, lt-ltb, le-ltb, lt-leb, eq-eqb, ne_eqb, eqb-true}
+use borrow.Author.Tests.{not-false, lt-ltb, le-ltb, lt-leb, eq-eqb, ne_eqb, eqb-true}
 use lib.ListN.{length, take, drop, length-append, length-drop}
 use lib.Seq.{length-take-le}
 use lib.Dec.{eqb}
@@ -240,7 +240,7 @@ first_words o c e =
     bind_gives (header_large o) _ c e (λ a h rest.
     unless_gives _ 14 0 _ a h (λ short h₁.
     unless_gives _ 14 0 _ a h₁ (λ other h₂.
-    let both = and_true (eqb (number_at 2 o 0) 0xFFFF) (eqb (number_at 2 o 2) 2) (not_false _ other) in
+    let both = and_true (eqb (number_at 2 o 0) 0xFFFF) (eqb (number_at 2 o 2) 2) (not-false _ other) in
     (eqb-true _ _ both.0, eqb-true _ _ both.1))))
 
 large_kept : (o : List ℕ) (c : Counts) → check_large o ≡ gives c → Kept 28 o c

@@ -11,7 +11,7 @@ use native.Mathlib.Omega.{arith}
 use mathlib.Core.Path.{◌≡◌, refl, sym, ap, ◌∙◌}
 use mathlib.Core.Bool.{true, not, ◌&&◌}
 use mathlib.Core.List.{List, ◌++◌}
-use borrow.Author.Tests.{not_false}
+use borrow.Author.Tests.{not-false}
 use lib.Dec.{eqb}
 use lib.ListN.{length, take, drop, length-drop, take-append-drop}
 use lib.Seq.{take-take, length-take-le, drop-drop}
@@ -99,7 +99,7 @@ module _ (E : Entries) (loc : Local E) {o : List ℕ} {at : ℕ} (e : List ℕ) 
   check_every (suc n) j {p} q fits g =
       let s = mul-suc E.size n in
       unless_gives (not (E.allowed_at o p)) 14 p (check_entries E o (p + E.size) n) tt g
-      (λ t rest. (rw (← loc.same e h j q (omega arith)) (not_false _ t), check_every n (j + E.size) (omega arith) (omega arith) rest))
+      (λ t rest. (rw (← loc.same e h j q (omega arith)) (not-false _ t), check_every n (j + E.size) (omega arith) (omega arith) rest))
 
 -- ---- and back: octets from the numbers read
 

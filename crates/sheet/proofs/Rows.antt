@@ -12,7 +12,7 @@ use native.Mathlib.Omega.{arith}
 use mathlib.Core.Path.{◌≡◌, refl, sym, ap, ◌∙◌}
 use mathlib.Core.Bool.{Bool, true, false, not, cond, ◌&&◌, ◌||◌}
 use mathlib.Core.List.{List, [], ◌∷◌, ◌++◌, append_assoc}
-use borrow.Author.Tests.{not-true, not_false, eqb-true, eqb-false, ltb-true, lt-ltb, eq-eqb, ne_eqb}
+use borrow.Author.Tests.{not-true, not-false, eqb-true, eqb-false, ltb-true, lt-ltb, eq-eqb, ne_eqb}
 use lib.Dec.{eqb, lit<}
 use lib.ListN.{length, drop, length-append}
 use Rattle.octets.specs.Octets.{Octets, number_at, value, be}
@@ -200,7 +200,7 @@ module _ (f : Family) (o : List ℕ) where
   fine : (at : ℕ) (earlier : List Neighbour) → not (row_fits f o at earlier) ≡ false → Fine at earlier
   unfolding row_fits
   fine at earlier t =
-      let front = and_true (has_front f o at) _ (not_false _ t) in
+      let front = and_true (has_front f o at) _ (not-false _ t) in
       let form = and_true (row_form f o (at + front_size f)) _ front.1 in
       let parts = and_true (allowed f (row_at f o at)) _ form.1 in
       record { front = front.0; form = form.0; ok = parts.0; new = not-true _ parts.1 }

@@ -14,7 +14,7 @@ use native.Mathlib.Omega.{arith}
 use mathlib.Core.Path.{◌≡◌, refl, sym, ap, ◌∙◌}
 use mathlib.Core.Bool.{true, false}
 use mathlib.Core.List.{List, [], ◌∷◌, ◌++◌}
-use borrow.Author.Tests.{not_false, ltb-false, le-ltb, eq-eqb}
+use borrow.Author.Tests.{not-false, ltb-false, le-ltb, eq-eqb}
 use lib.ListN.{length, take, drop, length-append}
 use Rattle.octets.specs.Octets.{number_at, value, be}
 use Rattle.octets.proofs.Laws.{length_be}
@@ -67,8 +67,8 @@ accepted L f ea ep t room o e =
     unless_gives _ 8 0 _ o e2 (λ c e3.
     then_gives (at_zero (first_bad (asserts_in f) ea 0)) _ o e3 (λ u x e4.
     then_gives (at_zero (first_bad (pairs_in f) ep 0)) _ o e4 (λ v y e5.
-    let lists = and_true _ _ (not_false _ a) in
-    let rest = and_true _ _ (not_false _ b) in
+    let lists = and_true _ _ (not-false _ a) in
+    let rest = and_true _ _ (not-false _ b) in
     record {
       asserts = lists.0;
       pairs = lists.1;

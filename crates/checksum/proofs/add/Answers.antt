@@ -2,7 +2,6 @@
 -- Assumes nothing.
 use native.Mathlib.Omega.{arith}
 use Rattle.checksum.specs.Sum.{add}
-use borrow.Author.Rules.{rules}
 use Rattle.checksum.proofs.add.Goals as goal
 
 pub returns-then-a-b : goal.returns-then-a-b

@@ -1,11 +1,8 @@
 -- `checksum::holds` meets its contract: it is the test after nothing.
 -- Assumes nothing.
 use Rattle.checksum.specs.Sum.{holds}
-use borrow.Author.Rules.{rules}
 use Rattle.checksum.proofs.holds.Goals as goal
 
 pub returns : goal.returns
 unfolding holds
 returns c = c.holds_after.ensures
-
--- OPEN checksum::holds_after

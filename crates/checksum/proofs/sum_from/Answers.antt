@@ -2,12 +2,9 @@
 -- words so far. The measure is what is left of the length.
 -- Assumes nothing.
 use mathlib.Core.Path.{ap, ◌∙◌}
-use Prim.Native.Nat.{◌-◌}
 use Rattle.checksum.specs.Sum.{add}
 use native.Mathlib.Omega.{arith}
-use borrow.Author.Rules.{rules}
-use lib.ListN.{length}
-use Rattle.checksum.proofs.SoFar.{SoFar, so_far_start, so_far_there, so_far_next, so_far_end, so_far_odd}
+use Rattle.checksum.proofs.SoFar.{so_far_start, so_far_there, so_far_next, so_far_end, so_far_odd}
 use Rattle.checksum.proofs.sum_from.Goals as goal
 
 pub loop-i-init : goal.loop-i-init

@@ -8,5 +8,3 @@ pub returns : goal.returns
 returns c =
     let a = c.args in
     eight_summed a.start a.n _ _ _ _ (search rules) c.add-a.ensures c.add-b.ensures c.add-c.ensures c.add.ensures
-
--- OPEN checksum::add

@@ -4,7 +4,7 @@ use Prim.Native.Nat.{◌+◌, ◌*◌, ◌≤◌}
 use native.Mathlib.Omega.{arith}
 use mathlib.Core.Path.{◌≡◌, sym, ap, ◌∙◌}
 use lib.ListN.{length}
-use borrow.Author.Tests.{not-true, not_false}
+use borrow.Author.Tests.{not-true, not-false}
 use borrow.Author.Rules.{rules}
 use Rattle.octets.specs.Octets.{number_at}
 use Rattle.addresses.proofs.Laws.{width_range, group_at}
@@ -45,7 +45,7 @@ group_is c =
 returns-2 : tie.Need-returns-2
 returns-2 c =
     let a = c.before.before.before.before.before.before.before.args in
-    entry_no (family_with a.ipv6 a.prefixed) a.asserts a.stop a.e.now a.at c.before.before.before.before.before.has-front.ensures (not_false c.before.before.before.before.before.has-front.result c.before.before.before.before.if1.false) (ap (λ x. a.at + x) c.before.before.before.front_by.ensures.0)
+    entry_no (family_with a.ipv6 a.prefixed) a.asserts a.stop a.e.now a.at c.before.before.before.before.before.has-front.ensures (not-false c.before.before.before.before.before.has-front.result c.before.before.before.before.if1.false) (ap (λ x. a.at + x) c.before.before.before.front_by.ensures.0)
     (group_is c.before) (not-true c.before.is-multicast.result c.if2.true)
 
 part-may-be-source-end : tie.Need-slice-bounds-may-be-source-end
@@ -62,8 +62,8 @@ returns-3 c =
     let w = c.before.before.before.width.result in
     let group = a.at + s.front_by.result in
     let there-whole : group + 2 * w ≤ length a.e.now = omega (arith, pair_there s, c.before.before.before.width.ensures) in
-    entry_by (family_with a.ipv6 a.prefixed) a.asserts a.stop a.e.now a.at c.before.before.before.before.before.before.before.before.before.has-front.ensures (not_false c.before.before.before.before.before.before.before.before.before.has-front.result c.before.before.before.before.before.before.before.before.if1.false) (ap (λ x. a.at + x) s.front_by.ensures.0)
-    (group_is c.before.before.before.before.before) (not_false c.before.before.before.before.before.is-multicast.result c.before.before.before.before.if2.false)
+    entry_by (family_with a.ipv6 a.prefixed) a.asserts a.stop a.e.now a.at c.before.before.before.before.before.before.before.before.before.has-front.ensures (not-false c.before.before.before.before.before.before.before.before.before.has-front.result c.before.before.before.before.before.before.before.before.if1.false) (ap (λ x. a.at + x) s.front_by.ensures.0)
+    (group_is c.before.before.before.before.before) (not-false c.before.before.before.before.before.is-multicast.result c.before.before.before.before.if2.false)
     (c.before.zero-allowed.ensures ∙ zero_with a.ipv6 a.prefixed a.asserts a.stop a.e.now group) (source_cut a.ipv6 a.e.now group w c.before.before.before.width.ensures.0 there-whole) c.may-be-source.ensures
 
 pub allowed-spec : {M : Type 1} → statement M

@@ -5,7 +5,7 @@ use native.Mathlib.Omega.{arith}
 use mathlib.Core.Path.{◌≡◌, refl, sym, ap, ◌∙◌}
 use mathlib.Core.Bool.{true}
 use lib.ListN.{length, get_or}
-use borrow.Author.Tests.{not_false}
+use borrow.Author.Tests.{not-false}
 use borrow.Author.Rules.{rules}
 use Rattle.octets.specs.Octets.{Octets}
 use Rattle.addresses.specs.Addresses.{source_first}
@@ -36,8 +36,8 @@ returns-3 c asserts stop t =
     let source-there : group + f.width + f.width ≤ length a.e.now = omega (arith, there s) in
     let first : source_first a.ipv6 (get_or a.e.now (group + f.width) 0) ≡ true =
     ap (λ x. source_first a.ipv6 (get_or a.e.now (group + x) 0)) (sym c.before.before.width.ensures.0) ∙ sym c.begins-source.ensures ∙ t in
-    sym (entry_by f asserts stop a.e.now a.at c.before.before.before.before.before.before.before.before.has-front.ensures (not_false c.before.before.before.before.before.before.before.before.has-front.result c.before.before.before.before.before.before.before.if1.false) (ap (λ x. a.at + x) s.front_by.ensures.0)
-    (group_at a.ipv6 a.e.now group octet group-there ∙ sym c.before.before.before.before.is-multicast.ensures) (not_false c.before.before.before.before.is-multicast.result c.before.before.before.if2.false)
+    sym (entry_by f asserts stop a.e.now a.at c.before.before.before.before.before.before.before.before.has-front.ensures (not-false c.before.before.before.before.before.before.before.before.has-front.result c.before.before.before.before.before.before.before.if1.false) (ap (λ x. a.at + x) s.front_by.ensures.0)
+    (group_at a.ipv6 a.e.now group octet group-there ∙ sym c.before.before.before.before.is-multicast.ensures) (not-false c.before.before.before.before.is-multicast.result c.before.before.before.if2.false)
     refl refl (may_some f (zero_by f asserts stop a.e.now group) _ (source_at a.ipv6 a.e.now (group + f.width) octet source-there first)))
 
 pub begins-spec : {M : Type 1} → statement M

@@ -6,7 +6,7 @@ use mathlib.Core.Path.{◌≡◌, sym, ap, ◌∙◌}
 use mathlib.Core.Bool.{true}
 use lib.Dec.{eqb}
 use lib.ListN.{length}
-use borrow.Author.Tests.{not_false}
+use borrow.Author.Tests.{not-false}
 use borrow.Author.Rules.{rules}
 use Rattle.octets.specs.Octets.{number_at}
 use Rattle.addresses.proofs.Laws.{width_range, group_at, may_zero}
@@ -58,9 +58,9 @@ returns-4 c t =
     let group = a.at + s.front_by.result in
     let there-whole : group + 2 * w ≤ length a.e.now = omega (arith, pair_there s, c.before.before.before.before.before.width.ensures) in
     let source = c.before.before.before.address-at.ensures ∙ source_cut a.ipv6 a.e.now group w c.before.before.before.before.before.width.ensures.0 there-whole in
-    let none : eqb (number_of c.before.before.before.address-at.result) 0 ≡ true = sym c.before.before.is_zero.ensures ∙ not_false _ c.before.if3.false in
-    sym (entry_by f a.asserts a.stop a.e.now a.at c.before.before.before.before.before.before.before.before.before.before.before.has-front.ensures (not_false c.before.before.before.before.before.before.before.before.before.before.before.has-front.result c.before.before.before.before.before.before.before.before.before.before.if1.false) (ap (λ x. a.at + x) s.front_by.ensures.0)
-    (group_is c.before.before.before.before.before.before.before) (not_false c.before.before.before.before.before.before.before.is-multicast.result c.before.before.before.before.before.before.if2.false)
+    let none : eqb (number_of c.before.before.before.address-at.result) 0 ≡ true = sym c.before.before.is_zero.ensures ∙ not-false _ c.before.if3.false in
+    sym (entry_by f a.asserts a.stop a.e.now a.at c.before.before.before.before.before.before.before.before.before.before.before.has-front.ensures (not-false c.before.before.before.before.before.before.before.before.before.before.before.has-front.result c.before.before.before.before.before.before.before.before.before.before.if1.false) (ap (λ x. a.at + x) s.front_by.ensures.0)
+    (group_is c.before.before.before.before.before.before.before) (not-false c.before.before.before.before.before.before.before.is-multicast.result c.before.before.before.before.before.before.if2.false)
     (c.zero-allowed.ensures ∙ zero_with a.ipv6 a.prefixed a.asserts a.stop a.e.now group) source (may_zero a.ipv6 c.zero-allowed.result _ none))
     ∙ t
 

@@ -4,7 +4,7 @@ use Prim.Native.Nat.{◌+◌, ◌*◌, ◌-◌, ◌≤◌}
 use native.Mathlib.Omega.{arith}
 use mathlib.Core.Path.{◌≡◌, refl, ap, ◌∙◌}
 use lib.ListN.{length}
-use borrow.Author.Tests.{not_false}
+use borrow.Author.Tests.{not-false}
 use borrow.Author.Rules.{rules}
 use Rattle.format.specs.Packing.{first_bad}
 use Rattle.entries.specs.Kinds.{family_with, entries_by}
@@ -60,7 +60,7 @@ loop-again c =
     let a = s.args in
     let inv = l.loop.invariant in
     let E = entries_by (family_with a.ipv6 a.prefixed) a.asserts a.stop in
-    let on = first_on E a.e.now l.loop.i (l.loop.i + 1) l.loop.at refl inv.2 (omega (arith, t.loop-test.true, s.pre.1)) (c.before.has-none.ensures (not_false c.before.has-none.result c.if1.false)) in (
+    let on = first_on E a.e.now l.loop.i (l.loop.i + 1) l.loop.at refl inv.2 (omega (arith, t.loop-test.true, s.pre.1)) (c.before.has-none.ensures (not-false c.before.has-none.result c.if1.false)) in (
       omega (arith, inv.0),
       omega (arith, t.loop-test.true),
       ap (λ x. l.loop.at + x) (l.before.size-by.ensures a.stop) ∙ on.1,

@@ -5,7 +5,7 @@ use native.Mathlib.Omega.{arith}
 use mathlib.Core.Path.{◌≡◌, refl, ap, ◌∙◌}
 use mathlib.Core.Bool.{Bool, false}
 use lib.ListN.{length}
-use borrow.Author.Tests.{not_false}
+use borrow.Author.Tests.{not-false}
 use borrow.Author.Rules.{rules}
 use Rattle.format.specs.Packing.{first_bad}
 use Rattle.entries.specs.Kinds.{family_with, entries_by}
@@ -67,7 +67,7 @@ loop-again c =
       omega (arith, inv.0),
       omega (arith, t.loop-test.true),
       λ stop.
-          let three = first_three (entries_by (family_with a.ipv6 a.prefixed) a.asserts stop) a.e.now l.loop.i l.loop.at (inv.2 stop).0 (omega (arith, t.loop-test.true, s.pre.1 stop)) (c.before.three-begin.ensures stop (not_false c.before.three-begin.result c.if1.false)) in
+          let three = first_three (entries_by (family_with a.ipv6 a.prefixed) a.asserts stop) a.e.now l.loop.i l.loop.at (inv.2 stop).0 (omega (arith, t.loop-test.true, s.pre.1 stop)) (c.before.three-begin.ensures stop (not-false c.before.three-begin.result c.if1.false)) in
           (ap (λ x. l.loop.at + 3 * x) (l.before.size-by.ensures stop) ∙ three.1, three.0 ∙ (inv.2 stop).1),
     )
 

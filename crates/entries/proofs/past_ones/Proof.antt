@@ -5,7 +5,7 @@ use native.Mathlib.Omega.{arith}
 use mathlib.Core.Path.{◌≡◌, refl, ap, ◌∙◌}
 use mathlib.Core.Bool.{Bool, false}
 use lib.ListN.{length}
-use borrow.Author.Tests.{not_false}
+use borrow.Author.Tests.{not-false}
 use borrow.Author.Rules.{rules}
 use Rattle.format.specs.Packing.{first_bad}
 use Rattle.entries.specs.Kinds.{family_with, entries_by}
@@ -69,7 +69,7 @@ loop-again c =
       omega (arith, t.loop-test.true),
       λ stop.
           let E = entries_by (family_with a.ipv6 a.prefixed) a.asserts stop in
-          let on = first_on E a.e.now l.loop.i (l.loop.i + 1) l.loop.at refl (inv.2 stop).0 (omega (arith, t.loop-test.true, s.pre.1 stop)) (c.before.begins.ensures a.asserts stop (not_false c.before.begins.result c.if1.false)) in
+          let on = first_on E a.e.now l.loop.i (l.loop.i + 1) l.loop.at refl (inv.2 stop).0 (omega (arith, t.loop-test.true, s.pre.1 stop)) (c.before.begins.ensures a.asserts stop (not-false c.before.begins.result c.if1.false)) in
           (ap (λ x. l.loop.at + x) (l.before.size-by.ensures stop) ∙ on.1, on.0 ∙ (inv.2 stop).1),
     )
 

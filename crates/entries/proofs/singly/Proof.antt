@@ -4,7 +4,7 @@ use Prim.Native.Nat.{◌+◌, ◌*◌, ◌-◌, ◌≤◌}
 use native.Mathlib.Omega.{arith}
 use mathlib.Core.Path.{◌≡◌, refl, sym, ap, ◌∙◌}
 use lib.ListN.{length}
-use borrow.Author.Tests.{not-true, not_false}
+use borrow.Author.Tests.{not-true, not-false}
 use borrow.Author.Rules.{rules}
 use Rattle.format.specs.Packing.{first_bad}
 use Rattle.entries.specs.Kinds.{family_with, entries_by}
@@ -51,7 +51,7 @@ loop-again c =
     let E = entries_by (family_with a.ipv6 a.prefixed) a.asserts a.stop in (
       omega (arith, l.loop.invariant.0),
       omega (arith, t.loop-test.true),
-      first_next E a.e.now l.loop.i (omega (arith, t.loop-test.true, s.pre.1)) (ap (E.allowed_at a.e.now) (sym (place t)) ∙ sym c.before.allowed.ensures ∙ not_false _ c.if1.false) ∙ l.loop.invariant.2,
+      first_next E a.e.now l.loop.i (omega (arith, t.loop-test.true, s.pre.1)) (ap (E.allowed_at a.e.now) (sym (place t)) ∙ sym c.before.allowed.ensures ∙ not-false _ c.if1.false) ∙ l.loop.invariant.2,
     )
 
 returns-2 : tie.Need-returns-2 invariant-loop decreases-loop

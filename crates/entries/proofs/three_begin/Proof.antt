@@ -5,7 +5,7 @@ use native.Mathlib.Omega.{arith}
 use mathlib.Core.Path.{◌≡◌}
 use mathlib.Core.Bool.{true, false}
 use lib.ListN.{length}
-use borrow.Author.Tests.{not_false}
+use borrow.Author.Tests.{not-false}
 use borrow.Author.Rules.{rules}
 use Rattle.format.specs.Entry.{front_size}
 use Rattle.entries.specs.Kinds.{family_with, entries_by}
@@ -30,8 +30,8 @@ returns-3 c stop t =
     let z = one.before.before in
     let a = z.before.before.args in
     three_allowed (entries_by (family_with a.ipv6 a.prefixed) a.asserts stop) a.e.now a.at z.size-by.result (z.size-by.ensures stop)
-    (one.before.begins.ensures a.asserts stop (not_false one.before.begins.result one.if1.false))
-    (two.before.begins2.ensures a.asserts stop (not_false two.before.begins2.result two.if2.false))
+    (one.before.begins.ensures a.asserts stop (not-false one.before.begins.result one.if1.false))
+    (two.before.begins2.ensures a.asserts stop (not-false two.before.begins2.result two.if2.false))
     (c.begins3.ensures a.asserts stop t)
 
 pub three-begin-spec : {M : Type 1} → statement M

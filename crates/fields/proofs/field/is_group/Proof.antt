@@ -2,7 +2,7 @@
 -- Assumes nothing.
 use mathlib.Core.Path.{◌≡◌, ap, ◌∙◌}
 use mathlib.Core.Bool.{◌&&◌}
-use borrow.Author.Tests.{eq-eqb, ne_eqb, not-true, not_false}
+use borrow.Author.Tests.{eq-eqb, ne_eqb, not-true, not-false}
 use borrow.Author.Rules.{rules}
 use lib.Dec.{eqb}
 use lib.ListN.{length}
@@ -35,14 +35,14 @@ returns-3 : tie.Need-returns-3
 returns-3 c =
     let e = c.before.before.before in
     let n = e.before in
-    rw (asked n.before, ← n.is-native.ensures, not_false n.is-native.result e.if2.false, ← c.before.mask-length.ensures, ne_eqb _ _ c.if3.true)
+    rw (asked n.before, ← n.is-native.ensures, not-false n.is-native.result e.if2.false, ← c.before.mask-length.ensures, ne_eqb _ _ c.if3.true)
 
 returns-4 : tie.Need-returns-4
 returns-4 c =
     let m = c.before.before in
     let e = m.before.before.before in
     let n = e.before in
-    rw (asked n.before, ← n.is-native.ensures, not_false n.is-native.result e.if2.false, ← m.before.mask-length.ensures, eq-eqb _ _ m.if3.false)
+    rw (asked n.before, ← n.is-native.ensures, not-false n.is-native.result e.if2.false, ← m.before.mask-length.ensures, eq-eqb _ _ m.if3.false)
     c.is-multicast.ensures
 
 pub is-group-spec : {M : Type 1} → statement M

@@ -3,7 +3,7 @@
 use native.Mathlib.Omega.{arith}
 use mathlib.Core.Path.{◌≡◌, sym, ap, ◌∙◌}
 use mathlib.Core.Bool.{Bool, ◌&&◌}
-use borrow.Author.Tests.{eq-eqb, ne_eqb, not-true, not_false}
+use borrow.Author.Tests.{eq-eqb, ne_eqb, not-true, not-false}
 use borrow.Author.Rules.{rules}
 use lib.Dec.{eqb}
 use lib.ListN.{length}
@@ -47,7 +47,7 @@ left c =
     let a = (start (past c)).args in
     let f = family_of a.ipv6 in
     asked (past c)
-    ∙ ap (λ (b : Bool). b && may_be_source f a.zero-allowed (number_at f.width a.s.now 2)) (sym c.before.is-native.ensures ∙ not_false c.before.is-native.result c.if2.false)
+    ∙ ap (λ (b : Bool). b && may_be_source f a.zero-allowed (number_at f.width a.s.now 2)) (sym c.before.is-native.ensures ∙ not-false c.before.is-native.result c.if2.false)
 
 returns-3 : tie.Need-returns-3
 returns-3 c =

@@ -5,7 +5,7 @@ use mathlib.Core.Bool.{true, false}
 use mathlib.Core.Logic.{⊎_elim}
 use Prim.Native.Nat.{ℕ, ◌-◌, ◌≤◌}
 use native.Mathlib.Omega.{arith}
-use borrow.Author.Tests.{ltb-true, ltb-false, not-true, not_false}
+use borrow.Author.Tests.{ltb-true, ltb-false, not-true, not-false}
 use borrow.Author.Rules.{rules}
 use lib.ListN.{length, get_or, take, drop, drop_of_length-le}
 use Rattle.format.specs.Family.{family_of}
@@ -46,7 +46,7 @@ unused : (c : tie.Joined2 invariant-loop decreases-loop) → all_zero (drop c.be
 unfolding all_zero
 unused c =
     let t = c.before.before.args.t2 in
-    ⊎_elim {C = all_zero (drop t.count t.rows) ≡ true} (λ y. sym y.1.ensures ∙ not_false _ y.2.left)
+    ⊎_elim {C = all_zero (drop t.count t.rows) ≡ true} (λ y. sym y.1.ensures ∙ not-false _ y.2.left)
     (λ n. ap all_zero (drop_of_length-le t.rows {i = t.count} (omega (arith, full c.before.before, n.left)))) c.if2.branch
 
 loop-holds : tie.Need-loop-init invariant-loop decreases-loop
@@ -82,7 +82,7 @@ loop-again c =
     let x = get_or t.rows i no_row in
     let last = halves_octet x.address.high x.address.low in
     let new = ⊎_elim {C = has (address_of x) (take i (used t)) ≡ false} (λ y. none_before _ i (used t) (ltb-false _ _ (rw y.1.ensures at y.2.left))) (λ n. marked_new h.marked (address_of x) false (ap (λ (k : ℕ). get_or c.before.before.before.before.before.before.before.loop.met k false) last ∙ n.left)) c.if5.branch in
-    (omega (arith, c.before.before.before.before.before.before.loop-test.true), rw last at (holding_next h (next_row t.rows t.count (within k) i no_row c.before.before.before.before.before.before.loop-test.true) (sym c.before.before.before.before.is-allowed.ensures ∙ not_false _ c.before.before.before.if4.false) new))
+    (omega (arith, c.before.before.before.before.before.before.loop-test.true), rw last at (holding_next h (next_row t.rows t.count (within k) i no_row c.before.before.before.before.before.before.loop-test.true) (sym c.before.before.before.before.is-allowed.ensures ∙ not-false _ c.before.before.before.if4.false) new))
 
 returns-5 : tie.Need-returns-5 invariant-loop decreases-loop
 returns-5 c =

@@ -4,7 +4,7 @@ use native.Mathlib.Omega.{arith}
 use mathlib.Core.Path.{◌≡◌, sym, ap, ◌∙◌}
 use Prim.Native.Nat.{◌+◌, ◌-◌, ◌≤◌}
 use lib.ListN.{length}
-use borrow.Author.Tests.{not-true, not_false}
+use borrow.Author.Tests.{not-true, not-false}
 use borrow.Author.Rules.{rules}
 use Rattle.format.specs.Family.{family_of}
 use Rattle.packing.specs.Joins.{joins, entry_at, entry_size, run_length, Group}
@@ -39,7 +39,7 @@ returns : tie.Need-returns invariant-loop decreases-loop
 returns c = count_stop c.before.before.before.before.loop.invariant c.before.before.before.loop-test.true (tested c.before ∙ not-true _ c.if1.true)
 
 loop-again : tie.Need-loop-preserved invariant-loop decreases-loop
-loop-again c = count_next c.before.before.before.before.loop.invariant c.before.before.before.loop-test.true _ (tested c.before ∙ not_false _ c.if1.false) (ap (λ x. c.before.before.before.before.loop.at + x) c.before.before.before.before.before.before.assert-size.ensures.0)
+loop-again c = count_next c.before.before.before.before.loop.invariant c.before.before.before.loop-test.true _ (tested c.before ∙ not-false _ c.if1.false) (ap (λ x. c.before.before.before.before.loop.at + x) c.before.before.before.before.before.before.assert-size.ensures.0)
 
 returns-2 : tie.Need-returns-2 invariant-loop decreases-loop
 returns-2 c = count_end c.before.loop.invariant c.loop-test.false

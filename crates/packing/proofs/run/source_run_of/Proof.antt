@@ -8,7 +8,7 @@ use Rattle.octets.specs.Octets.{number_at}
 use Rattle.format.specs.Path.{number_of}
 use Prim.Native.Nat.{◌+◌, ◌-◌, ◌*◌, ◌≤◌}
 use lib.ListN.{length}
-use borrow.Author.Tests.{not-true, not_false}
+use borrow.Author.Tests.{not-true, not-false}
 use borrow.Author.Rules.{rules}
 use Rattle.format.specs.Family.{family_of}
 use Rattle.packing.specs.Joins.{joins, entry_at, run_length, Aggregated}
@@ -43,7 +43,7 @@ tested c =
 
 both : (c : tie.After-is-same invariant-loop decreases-loop)
     → joins Aggregated (entry_at (family_of c.before.before.before.before.before.before.before.before.before.before.before.before.before.args.ipv6) c.before.before.before.before.before.before.before.before.before.before.before.before.before.args.e.now c.before.before.before.before.before.before.before.before.before.before.before.before.before.args.from) (entry_at (family_of c.before.before.before.before.before.before.before.before.before.before.before.before.before.args.ipv6) c.before.before.before.before.before.before.before.before.before.before.before.before.before.args.e.now c.before.before.before.before.before.loop.at) ≡ c.is_same.result
-both c = tested c.before.before.before ∙ rw (not_false c.before.before.before.has-metric.result c.before.before.if1.false, ← c.before.address2.ensures) (sym c.is_same.ensures)
+both c = tested c.before.before.before ∙ rw (not-false c.before.before.before.has-metric.result c.before.before.if1.false, ← c.before.address2.ensures) (sym c.is_same.ensures)
 
 loop-holds : tie.Need-loop-init invariant-loop decreases-loop
 loop-holds c =
@@ -57,7 +57,7 @@ returns-2 : tie.Need-returns-2 invariant-loop decreases-loop
 returns-2 c = count_stop c.before.before.before.before.before.before.loop.invariant c.before.before.before.before.before.loop-test.true (both c.before ∙ not-true _ c.if2.true)
 
 loop-again : tie.Need-loop-preserved invariant-loop decreases-loop
-loop-again c = count_next c.before.before.before.before.before.before.loop.invariant c.before.before.before.before.before.loop-test.true _ (both c.before ∙ not_false _ c.if2.false) (ap (λ x. c.before.before.before.before.before.before.loop.at + x) c.before.before.before.before.before.before.before.before.before.before.assert-size.ensures.0)
+loop-again c = count_next c.before.before.before.before.before.before.loop.invariant c.before.before.before.before.before.loop-test.true _ (both c.before ∙ not-false _ c.if2.false) (ap (λ x. c.before.before.before.before.before.before.loop.at + x) c.before.before.before.before.before.before.before.before.before.before.assert-size.ensures.0)
 
 returns-3 : tie.Need-returns-3 invariant-loop decreases-loop
 returns-3 c = count_end c.before.loop.invariant c.loop-test.false

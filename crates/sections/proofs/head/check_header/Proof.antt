@@ -4,7 +4,7 @@ use mathlib.Core.Path.{sym, ◌∙◌}
 use Prim.Native.Nat.{◌≤◌}
 use native.Mathlib.Omega.{arith}
 use lib.ListN.{length}
-use borrow.Author.Tests.{not_false}
+use borrow.Author.Tests.{not-false}
 use borrow.Author.Rules.{rules}
 use Rattle.sections.specs.Layout.{layout_of, family_in, header_size}
 use Rattle.sections.specs.Checking.{checked_by}
@@ -35,7 +35,7 @@ returns-3 c =
     c.before.before.before.counts-in.ensures c.before.before.counts-allowed.ensures c.before.if3.true)
 
 offsets-agree-requires : tie.Need-offsets-agree-requires
-offsets-agree-requires c κs = sym c.before.counts-allowed.ensures ∙ not_false _ c.if3.false
+offsets-agree-requires c κs = sym c.before.counts-allowed.ensures ∙ not-false _ c.if3.false
 
 returns-4 : tie.Need-returns-4
 returns-4 c =

@@ -4,7 +4,7 @@ use mathlib.Core.Path.{◌≡◌, sym, ◌∙◌}
 use mathlib.Core.Bool.{true}
 use Prim.Native.Nat.{◌*◌, ◌≤◌}
 use native.Mathlib.Omega.{arith}
-use borrow.Author.Tests.{not-true, not_false}
+use borrow.Author.Tests.{not-true, not-false}
 use borrow.Author.Rules.{rules}
 use Rattle.format.specs.declared.Kind.TheVariants.{Simple, RegisterStop}
 use Rattle.entries.proofs.ByKind.{with_range}
@@ -15,7 +15,7 @@ use Rattle.sections.proofs.layout.places_of.Statement.{statement}
 use Rattle.sections.proofs.layout.places_of.Tie as tie
 
 allowed : (c : tie.Else1) → counts_allowed (layout_of c.before.before.args.form) c.before.before.args.c ≡ true
-allowed c = sym c.before.counts-allowed.ensures ∙ not_false _ c.if1.false
+allowed c = sym c.before.counts-allowed.ensures ∙ not-false _ c.if1.false
 
 -- the octets of the asserts, of the pairs and of the rows
 first : (c : tie.After-struct-known) → c.before.entry-size.result * c.before.before.before.before.before.before.before.args.c.asserts ≤ 360448

@@ -5,7 +5,7 @@ use mathlib.Core.Path.{◌≡◌, refl, ap, ◌∙◌}
 use Prim.Native.Nat.{◌+◌, ◌*◌, ◌-◌, ◌≤◌}
 use native.Mathlib.Omega.{arith}
 use lib.ListN.{length}
-use borrow.Author.Tests.{not-true, not_false}
+use borrow.Author.Tests.{not-true, not-false}
 use borrow.Author.Rules.{rules}
 use Rattle.format.specs.Outcome.{refuses}
 use Rattle.format.specs.Family.{family_of}
@@ -66,7 +66,7 @@ returns c =
 loop-again : tie.Need-loop-preserved invariant-loop decreases-loop
 loop-again c =
     let t = c.before.before.before.before in (
-      rows_next c.before.before.before.before.before.loop.invariant.0 c.before.row-fits.ensures c.before.before.before.before.loop-test.true (not_false _ c.if1.false),
+      rows_next c.before.before.before.before.before.loop.invariant.0 c.before.row-fits.ensures c.before.before.before.before.loop-test.true (not-false _ c.if1.false),
       row_marked (family_with c.before.before.before.before.before.before.before.before.before.args.ipv6 c.before.before.before.before.before.before.before.before.before.args.prefixed) c.before.before.before.before.before.before.before.before.before.args.o.now c.before.before.before.before.before.before.before.before.before.args.from c.before.before.before.before.before.loop.i c.before.before.before.address-at.result c.before.before.before.before.before.loop.invariant.1
           (c.before.before.before.address-at.ensures ∙ address_with c.before.before.before.before.before.before.before.before.before.args.ipv6 c.before.before.before.before.before.before.before.before.before.args.prefixed c.before.before.before.before.before.before.before.before.before.args.o.now _) (past t),
     )

@@ -4,7 +4,7 @@ use mathlib.Core.Path.{◌≡◌, sym, ap, ◌∙◌}
 use Prim.Native.Nat.{◌+◌, ◌*◌, ◌≤◌}
 use native.Mathlib.Omega.{arith}
 use lib.ListN.{length}
-use borrow.Author.Tests.{not-true, not_false}
+use borrow.Author.Tests.{not-true, not-false}
 use borrow.Author.Rules.{rules}
 use Rattle.format.specs.Family.{family_of}
 use Rattle.format.specs.Entry.{front_size}
@@ -60,7 +60,7 @@ returns-2 : tie.Need-returns-2
 returns-2 c =
     let F = family_with c.before.before.before.before.before.before.before.args.ipv6 c.before.before.before.before.before.before.before.args.prefixed in
     let earlier = earlier_rows F c.before.before.before.before.before.before.before.args.o.now c.before.before.before.before.before.before.before.args.from c.before.before.before.before.before.before.before.args.i in
-    fits_form F c.before.before.before.before.before.before.before.args.o.now (c.before.before.before.before.before.before.before.args.from + c.before.before.before.before.before.row-size.result * c.before.before.before.before.before.before.before.args.i) earlier c.before.before.before.before.has-front.ensures (not_false _ c.before.before.before.if1.false) (form c.before) (not-true _ c.if2.true)
+    fits_form F c.before.before.before.before.before.before.before.args.o.now (c.before.before.before.before.before.before.before.args.from + c.before.before.before.before.before.row-size.result * c.before.before.before.before.before.before.before.args.i) earlier c.before.before.before.before.has-front.ensures (not-false _ c.before.before.before.if1.false) (form c.before) (not-true _ c.if2.true)
     ∙ ap (λ x. row_fits F c.before.before.before.before.before.before.before.args.o.now x earlier) (place c.before.before.before.before.before)
 
 returns-3 : tie.Need-returns-3
@@ -68,7 +68,7 @@ returns-3 c =
     let F = family_with c.before.before.before.before.before.before.before.before.before.before.args.ipv6 c.before.before.before.before.before.before.before.before.before.before.args.prefixed in
     let earlier = earlier_rows F c.before.before.before.before.before.before.before.before.before.before.args.o.now c.before.before.before.before.before.before.before.before.before.before.args.from c.before.before.before.before.before.before.before.before.before.before.args.i in
     let none = sym (allowed_with c.before.before.before.before.before.before.before.before.before.before.args.ipv6 c.before.before.before.before.before.before.before.before.before.before.args.prefixed c.before.before.neighbour-in.result) ∙ sym c.before.is-allowed.ensures ∙ not-true _ c.if3.true in
-    fits_not F c.before.before.before.before.before.before.before.before.before.before.args.o.now (c.before.before.before.before.before.before.before.before.before.before.args.from + c.before.before.before.before.before.before.before.before.row-size.result * c.before.before.before.before.before.before.before.before.before.before.args.i) earlier c.before.before.before.before.before.before.before.has-front.ensures (not_false _ c.before.before.before.before.before.before.if1.false) (form c.before.before.before.before) (not_false _ c.before.before.before.if2.false)
+    fits_not F c.before.before.before.before.before.before.before.before.before.before.args.o.now (c.before.before.before.before.before.before.before.before.before.before.args.from + c.before.before.before.before.before.before.before.before.row-size.result * c.before.before.before.before.before.before.before.before.before.before.args.i) earlier c.before.before.before.before.before.before.before.has-front.ensures (not-false _ c.before.before.before.before.before.before.if1.false) (form c.before.before.before.before) (not-false _ c.before.before.before.if2.false)
     (row c.before.before) none
     ∙ ap (λ x. row_fits F c.before.before.before.before.before.before.before.before.before.before.args.o.now x earlier) (place c.before.before.before.before.before.before.before.before)
 
@@ -76,8 +76,8 @@ returns-4 : tie.Need-returns-4
 returns-4 c =
     let F = family_with c.before.before.before.before.before.before.before.before.before.before.before.before.args.ipv6 c.before.before.before.before.before.before.before.before.before.before.before.before.args.prefixed in
     let earlier = earlier_rows F c.before.before.before.before.before.before.before.before.before.before.before.before.args.o.now c.before.before.before.before.before.before.before.before.before.before.before.before.args.from c.before.before.before.before.before.before.before.before.before.before.before.before.args.i in
-    let fine = sym (allowed_with c.before.before.before.before.before.before.before.before.before.before.before.before.args.ipv6 c.before.before.before.before.before.before.before.before.before.before.before.before.args.prefixed c.before.before.before.before.neighbour-in.result) ∙ sym c.before.before.before.is-allowed.ensures ∙ not_false _ c.before.before.if3.false in
-    fits_is F c.before.before.before.before.before.before.before.before.before.before.before.before.args.o.now (c.before.before.before.before.before.before.before.before.before.before.before.before.args.from + c.before.before.before.before.before.before.before.before.before.before.row-size.result * c.before.before.before.before.before.before.before.before.before.before.before.before.args.i) earlier c.before.before.before.before.before.before.before.before.before.has-front.ensures (not_false _ c.before.before.before.before.before.before.before.before.if1.false) (form c.before.before.before.before.before.before) (not_false _ c.before.before.before.before.before.if2.false)
+    let fine = sym (allowed_with c.before.before.before.before.before.before.before.before.before.before.before.before.args.ipv6 c.before.before.before.before.before.before.before.before.before.before.before.before.args.prefixed c.before.before.before.before.neighbour-in.result) ∙ sym c.before.before.before.is-allowed.ensures ∙ not-false _ c.before.before.if3.false in
+    fits_is F c.before.before.before.before.before.before.before.before.before.before.before.before.args.o.now (c.before.before.before.before.before.before.before.before.before.before.before.before.args.from + c.before.before.before.before.before.before.before.before.before.before.row-size.result * c.before.before.before.before.before.before.before.before.before.before.before.before.args.i) earlier c.before.before.before.before.before.before.before.before.before.has-front.ensures (not-false _ c.before.before.before.before.before.before.before.before.if1.false) (form c.before.before.before.before.before.before) (not-false _ c.before.before.before.before.before.if2.false)
     (row c.before.before.before.before) fine c.is-earlier.ensures
     ∙ ap (λ x. row_fits F c.before.before.before.before.before.before.before.before.before.before.before.before.args.o.now x earlier) (place c.before.before.before.before.before.before.before.before.before.before)
 
@@ -85,9 +85,9 @@ returns-5 : tie.Need-returns-5
 returns-5 c =
     let F = family_with c.before.before.before.before.before.before.before.before.before.before.before.args.ipv6 c.before.before.before.before.before.before.before.before.before.before.before.args.prefixed in
     let earlier = earlier_rows F c.before.before.before.before.before.before.before.before.before.before.before.args.o.now c.before.before.before.before.before.before.before.before.before.before.before.args.from c.before.before.before.before.before.before.before.before.before.before.before.args.i in
-    let fine = sym (allowed_with c.before.before.before.before.before.before.before.before.before.before.before.args.ipv6 c.before.before.before.before.before.before.before.before.before.before.before.args.prefixed c.before.before.before.neighbour-in.result) ∙ sym c.before.before.is-allowed.ensures ∙ not_false _ c.before.if3.false in
+    let fine = sym (allowed_with c.before.before.before.before.before.before.before.before.before.before.before.args.ipv6 c.before.before.before.before.before.before.before.before.before.before.before.args.prefixed c.before.before.before.neighbour-in.result) ∙ sym c.before.before.is-allowed.ensures ∙ not-false _ c.before.if3.false in
     let new = ap (λ r. has (address_of r) earlier) (row c.before.before.before ∙ ap (row_at F c.before.before.before.before.before.before.before.before.before.before.before.args.o.now) (place c.before.before.before.before.before.before.before.before.before)) ∙ c.before.before.before.before.before.before.before.before.before.before.before.requires.2 c.if4.false in
-    fits_is F c.before.before.before.before.before.before.before.before.before.before.before.args.o.now (c.before.before.before.before.before.before.before.before.before.before.before.args.from + c.before.before.before.before.before.before.before.before.before.row-size.result * c.before.before.before.before.before.before.before.before.before.before.before.args.i) earlier c.before.before.before.before.before.before.before.before.has-front.ensures (not_false _ c.before.before.before.before.before.before.before.if1.false) (form c.before.before.before.before.before) (not_false _ c.before.before.before.before.if2.false)
+    fits_is F c.before.before.before.before.before.before.before.before.before.before.before.args.o.now (c.before.before.before.before.before.before.before.before.before.before.before.args.from + c.before.before.before.before.before.before.before.before.before.row-size.result * c.before.before.before.before.before.before.before.before.before.before.before.args.i) earlier c.before.before.before.before.before.before.before.before.has-front.ensures (not-false _ c.before.before.before.before.before.before.before.if1.false) (form c.before.before.before.before.before) (not-false _ c.before.before.before.before.if2.false)
     (row c.before.before.before) fine (sym new)
     ∙ ap (λ x. row_fits F c.before.before.before.before.before.before.before.before.before.before.before.args.o.now x earlier) (place c.before.before.before.before.before.before.before.before.before)
 

@@ -4,7 +4,7 @@ use Prim.Native.Nat.{ℕ}
 use mathlib.Core.Path.{◌≡◌, sym, ◌∙◌}
 use mathlib.Core.Bool.{true, ◌&&◌}
 use mathlib.Core.List.{List}
-use borrow.Author.Tests.{not-true, not_false}
+use borrow.Author.Tests.{not-true, not-false}
 use borrow.Author.Rules.{rules}
 use lib.ListN.{length}
 use Rattle.format.specs.Family.{Family, family_of}
@@ -46,7 +46,7 @@ full : (c : tie.Start) → length c.args.table.rows ≡ most
 full c = all_rows c.args.table.rows c.well-formed.1.1.1.0.1.1.0.1.0.1
 
 both : (c : tie.After-counts-of) → (whole (asserts_in (family c)) (asserts c) && whole (pairs_in (family c)) (pairs c)) ≡ true
-both c = sym c.before.before.are-whole.ensures ∙ not_false _ c.before.if1.false
+both c = sym c.before.before.are-whole.ensures ∙ not-false _ c.before.if1.false
 
 -- what the second test asked
 kept : (c : tie.After-are-storable)
@@ -55,7 +55,7 @@ kept c = storable_is (layout c.before) (family c.before) (asserts c.before) (pai
 
 fine : (c : tie.Else2)
     → (counts_allowed (layout c.before.before) (counts_of (family c.before.before) (contents_of (asserts c.before.before) (pairs c.before.before) (table c.before.before))) && valid (family c.before.before) (table c.before.before)) ≡ true
-fine c = sym (kept c.before) ∙ not_false _ c.if2.false
+fine c = sym (kept c.before) ∙ not-false _ c.if2.false
 
 -- the length as code has it
 long : (c : tie.After-places-of)
@@ -63,7 +63,7 @@ long : (c : tie.After-places-of)
 long c =
     let k = c.before.before.before.before in
     due_long (layout k) (family k) (asserts k) (pairs k) (table k) (full (start k)) k.counts_of.ensures (both k)
-    (sym c.before.before.before.are-storable.ensures ∙ not_false _ c.before.before.if2.false) (written_places (start k).args.ipv6 k.counts_of.result c.before.form-for.ensures c.places_of.ensures)
+    (sym c.before.before.before.are-storable.ensures ∙ not-false _ c.before.before.if2.false) (written_places (start k).args.ipv6 k.counts_of.result c.before.form-for.ensures c.places_of.ensures)
 
 returns : tie.Need-returns
 returns c =
