@@ -26,7 +26,7 @@ pub const TIME_ZONE: u16 = 0x0100;
 
 // The values of the options: 0 where one is not present.
 #[repr(C)]
-#[derive(Drop)]
+#[derive(Clone, Copy)]
 pub struct Values {
     pub transit: u32,
     pub stub: u32,

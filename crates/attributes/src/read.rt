@@ -14,7 +14,7 @@ use octets::Field;
 
 // An attribute: which options are present is told by `options`, as the attribute has it.
 #[repr(C)]
-#[derive(Drop)]
+#[derive(Clone, Copy)]
 pub struct Attribute {
     pub e: bool,
     pub mtu: u16,
@@ -24,7 +24,7 @@ pub struct Attribute {
 }
 
 // What reading an attribute finds.
-#[derive(Drop)]
+#[derive(Clone, Copy)]
 pub enum AttributeRead {
     // The attribute, and the place past it.
     Is(Attribute, usize),
@@ -32,7 +32,7 @@ pub enum AttributeRead {
 }
 
 // The fields of a fixed size.
-#[derive(Drop)]
+#[derive(Clone, Copy)]
 struct Fixed {
     e: bool,
     mtu: u16,

@@ -20,7 +20,7 @@ pub use sums::saturating;
 
 // How many messages, and how many records they had.
 #[repr(C)]
-#[derive(Drop)]
+#[derive(Clone, Copy)]
 pub struct Totals {
     pub messages: u64,
     pub records: u64,
@@ -28,7 +28,7 @@ pub struct Totals {
 
 // The totals of each kind, in 01's order.
 #[repr(C)]
-#[derive(Drop)]
+#[derive(Clone, Copy)]
 pub struct ByKind {
     pub hello: Totals,
     pub assert: Totals,
@@ -40,27 +40,27 @@ pub struct ByKind {
 
 // All counters: one record.
 #[repr(C)]
-#[derive(Drop)]
+#[derive(Clone, Copy)]
 pub struct Counters {
     pub sent: ByKind,
     pub received: ByKind,
 }
 
-#[derive(Drop)]
+#[derive(Clone, Copy)]
 pub enum Direction {
     Sent,
     Received,
 }
 
 // What a call did.
-#[derive(Drop)]
+#[derive(Clone, Copy)]
 pub enum Answer {
     Added,
     Refused(Refusal),
 }
 
 // What a call did, and the counters after it.
-#[derive(Drop)]
+#[derive(Clone, Copy)]
 pub struct CountersAfter {
     pub answer: Answer,
     pub counters: Counters,

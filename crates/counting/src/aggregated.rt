@@ -12,7 +12,7 @@ use format::{Refusal, r_bit};
 use octets::{number16, number32};
 
 // What counting finds.
-#[derive(Drop)]
+#[derive(Clone, Copy)]
 pub enum Counted {
     // The number of entries, and the place past what they were read from.
     All { entries: usize, next: usize },

@@ -16,7 +16,7 @@ use format::{Kind, r_bit};
 use octets::number32;
 
 // Whether the entries of a list are allowed.
-#[derive(Drop)]
+#[derive(Clone, Copy)]
 pub enum Listed {
     Allowed,
     // The number of the first that is not.

@@ -12,7 +12,7 @@ use addresses::{begins_source, family_number, is_multicast, mask_length, may_be_
 use format::Refusal;
 
 // What a check finds.
-#[derive(Drop)]
+#[derive(Clone, Copy)]
 pub enum Checked {
     // The place past what was checked.
     Next(usize),

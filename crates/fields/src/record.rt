@@ -116,7 +116,7 @@ fn record_at(ipv6: bool, kind: Kind, m: &[u8], at: usize) -> Record
 }
 
 // A record read singly.
-#[derive(Drop)]
+#[derive(Clone, Copy)]
 pub enum Single {
     Got { record: Record, next: usize },
     Refused(Refusal),

@@ -11,7 +11,7 @@ ghost use Rattle.format.specs.Path.{nowhere};
 ghost use Rattle.format.specs.Values.{kind_number, kind_named, named_by};
 
 // The six kinds of message, in 01's order.
-#[derive(Drop)]
+#[derive(Clone, Copy)]
 pub enum Kind {
     Hello,
     Assert,
@@ -22,7 +22,7 @@ pub enum Kind {
 }
 
 // The kind that a number names.
-#[derive(Drop)]
+#[derive(Clone, Copy)]
 pub enum Named {
     Is(Kind),
     Nothing,
@@ -70,14 +70,14 @@ pub fn usual_limit() -> usize
 
 // A number of 01's table, and the place at fault.
 #[repr(C)]
-#[derive(Drop)]
+#[derive(Clone, Copy)]
 pub struct Refusal {
     pub number: u8,
     pub place: usize,
 }
 
 // What a call that writes octets into a lent buffer did.
-#[derive(Drop)]
+#[derive(Clone, Copy)]
 pub enum Writing {
     // So many octets stand at its front.
     Wrote(usize),
@@ -85,7 +85,7 @@ pub enum Writing {
 }
 
 // The family that a caller names.
-#[derive(Drop)]
+#[derive(Clone, Copy)]
 pub enum AddressFamily {
     Ipv4,
     Ipv6,
@@ -103,7 +103,7 @@ pub fn is_ipv6(family: AddressFamily) -> bool
 
 // An address as a number, in two halves; an IPv4 address has 0 in the high one.
 #[repr(C)]
-#[derive(Drop)]
+#[derive(Clone, Copy)]
 pub struct Address {
     pub high: u64,
     pub low: u64,
@@ -111,7 +111,7 @@ pub struct Address {
 
 // Where a datagram goes: an IPv6 message is summed with both addresses, an IPv4 message with neither.
 #[repr(C)]
-#[derive(Drop)]
+#[derive(Clone, Copy)]
 pub struct Path {
     pub source: Address,
     pub destination: Address,
@@ -135,7 +135,7 @@ pub fn r_bit(word: u32) -> bool
 }
 
 // An assert record: group, source, the R bit with the 31-bit metric preference, metric.
-#[derive(Drop)]
+#[derive(Clone, Copy)]
 pub struct AssertFields {
     pub group: Address,
     pub source: Address,
@@ -144,14 +144,14 @@ pub struct AssertFields {
 }
 
 // A pair of a packed Null-Register or Register-Stop message.
-#[derive(Drop)]
+#[derive(Clone, Copy)]
 pub struct PairFields {
     pub group: Address,
     pub source: Address,
 }
 
 // A record read singly: "one of two cases, an assert with its four fields or a pair with its two".
-#[derive(Drop)]
+#[derive(Clone, Copy)]
 pub enum Record {
     Assert(AssertFields),
     Pair(PairFields),

@@ -8,7 +8,7 @@ use addresses::sum_before;
 use format::{GREATEST_LIMIT, Kind, Path, Refusal};
 
 // What a header says.
-#[derive(Drop)]
+#[derive(Clone, Copy)]
 pub enum Headed {
     Is(Kind),
     Refused(Refusal),

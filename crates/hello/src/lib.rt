@@ -20,7 +20,7 @@ use table::{Step, ValuePlaces, option};
 pub use write::write_hello;
 
 // What reading options finds. A refusal stands as its two fields, as in Step.
-#[derive(Drop)]
+#[derive(Clone, Copy)]
 enum OptionsRead {
     All(ValuePlaces),
     Bad { number: u8, place: usize },
@@ -28,7 +28,7 @@ enum OptionsRead {
 
 // What a Hello says: the priority is 0 where none is announced.
 #[repr(C)]
-#[derive(Drop)]
+#[derive(Clone, Copy)]
 pub struct Hello {
     pub holdtime: u16,
     pub has_priority: bool,
@@ -37,14 +37,14 @@ pub struct Hello {
 }
 
 // What reading a Hello finds.
-#[derive(Drop)]
+#[derive(Clone, Copy)]
 pub enum HelloRead {
     Is(Hello),
     Refused(Refusal),
 }
 
 // What checking a Hello's options finds.
-#[derive(Drop)]
+#[derive(Clone, Copy)]
 pub enum OptionsChecked {
     Fine,
     Refused(Refusal),

@@ -15,7 +15,7 @@ pub(crate) const PRIORITY: [u8; 4] = *b"\x00\x13\x00\x04";
 pub(crate) const CAPABILITY: [u8; 4] = *b"\x00\x28\x00\x00";
 
 // The options that are known, and any other.
-#[derive(Drop)]
+#[derive(Clone, Copy)]
 pub(crate) enum Known {
     Holdtime,
     Priority,
@@ -24,7 +24,7 @@ pub(crate) enum Known {
 }
 
 // What a Hello says: each option with whether it is there.
-#[derive(Drop)]
+#[derive(Clone, Copy)]
 pub(crate) struct Heard {
     pub has_holdtime: bool,
     pub holdtime: u16,
@@ -34,7 +34,7 @@ pub(crate) struct Heard {
 }
 
 // Where the value of each known option is that was read so far: 0 where there was none.
-#[derive(Drop)]
+#[derive(Clone, Copy)]
 pub(crate) struct ValuePlaces {
     pub holdtime: usize,
     pub priority: usize,
@@ -43,7 +43,7 @@ pub(crate) struct ValuePlaces {
 
 // What reading one option finds. A refusal stands as its two fields: so its number is in no octet of a place, and the compiler
 // keeps both in registers.
-#[derive(Drop)]
+#[derive(Clone, Copy)]
 pub(crate) enum Step {
     // The places now, and the place past the option.
     Next(ValuePlaces, usize),

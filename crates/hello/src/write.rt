@@ -17,7 +17,7 @@ use format::{AddressFamily, Kind, Path, Refusal, Writing, is_ipv6};
 use octets::{copy4, write16, write32};
 
 // How far a message goes, and the sum of its words but for the checksum.
-#[derive(Drop)]
+#[derive(Clone, Copy)]
 struct Extent {
     end: usize,
     sum: u16,

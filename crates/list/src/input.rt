@@ -4,7 +4,7 @@ ghost use Rattle.list.specs.Input.{Within};
 use libc::STDIN_FILENO;
 
 // What standard input holds.
-#[derive(Drop)]
+#[derive(Clone, Copy)]
 pub(crate) enum Input {
     // So many octets, at the start of the buffer: all of the input, or the buffer is full.
     Octets(usize),

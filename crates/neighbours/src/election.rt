@@ -14,14 +14,14 @@ use addresses::{is_below, is_zero};
 use format::{Address, AddressFamily, Refusal, is_ipv6};
 
 // One that may be elected.
-#[derive(Drop)]
+#[derive(Clone, Copy)]
 pub(crate) struct Candidate {
     pub(crate) address: Address,
     pub(crate) priority: u32,
 }
 
 // What was seen of the rows so far: none, one with address 0, only such as have a priority; and the highest in each order.
-#[derive(Drop)]
+#[derive(Clone, Copy)]
 pub(crate) struct Scan {
     pub(crate) none: bool,
     pub(crate) zero: bool,

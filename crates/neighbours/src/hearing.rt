@@ -15,7 +15,7 @@ use hello::Hello;
 
 // What is done to a table: the rows after number `from` move up, as far as number `to`, where `row` is stored, and then `count` rows are in use.
 // Where `to` is no row the table stays as it was.
-#[derive(Drop)]
+#[derive(Clone, Copy)]
 pub(crate) struct Update {
     pub(crate) from: usize,
     pub(crate) to: usize,

@@ -23,7 +23,7 @@ pub const ROWS: usize = 64;
 
 // A neighbour: the priority is 0 where none was announced.
 #[repr(C)]
-#[derive(Drop)]
+#[derive(Clone, Copy)]
 pub struct Neighbour {
     pub address: Address,
     pub priority: u32,
@@ -34,14 +34,14 @@ pub struct Neighbour {
 
 // The rows in use come first; the others are all 0.
 #[repr(C)]
-#[derive(Drop)]
+#[derive(Clone, Copy)]
 pub struct Table {
     pub rows: [Neighbour; ROWS],
     pub count: usize,
 }
 
 // What hearing or forgetting did.
-#[derive(Drop)]
+#[derive(Clone, Copy)]
 pub enum Change {
     Replaced,
     Appended,
@@ -50,21 +50,21 @@ pub enum Change {
 }
 
 // The table, changed or as it was, with what was done.
-#[derive(Drop)]
+#[derive(Clone, Copy)]
 pub struct Changed {
     pub table: Table,
     pub change: Change,
 }
 
 // Whether packing is allowed.
-#[derive(Drop)]
+#[derive(Clone, Copy)]
 pub enum Allowance {
     Allowed(bool),
     Refused(Refusal),
 }
 
 // The address that is elected.
-#[derive(Drop)]
+#[derive(Clone, Copy)]
 pub enum Elected {
     Is(Address),
     Refused(Refusal),

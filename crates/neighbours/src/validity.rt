@@ -13,7 +13,7 @@ use addresses::{is_in_family, is_same, is_zero};
 use format::{Address, Refusal};
 
 // Whether a table and an address are ones that a call takes.
-#[derive(Drop)]
+#[derive(Clone, Copy)]
 pub(crate) enum Asked {
     Fine,
     Refused(Refusal),

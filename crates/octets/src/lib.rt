@@ -9,7 +9,7 @@ ghost use Rattle.octets.specs.Reader.{number};
 ghost use Rattle.octets.specs.Field.{field_of, place_of, ignored, written_of, written, fitted};
 
 // What reading a field finds.
-#[derive(Drop)]
+#[derive(Clone, Copy)]
 pub enum Field {
     // The number, and the place past it.
     Got { value: u32, next: usize },
@@ -18,7 +18,7 @@ pub enum Field {
 }
 
 // What writing a field did.
-#[derive(Drop)]
+#[derive(Clone, Copy)]
 pub enum Written {
     // It stands there, and this is the place past it.
     Next(usize),

@@ -15,7 +15,7 @@ use crate::run::{assert_size, is_none};
 use addresses::{front_size, width};
 
 // The place past group records, and how many they are.
-#[derive(Drop)]
+#[derive(Clone, Copy)]
 pub struct Records {
     pub next: usize,
     pub number: usize,

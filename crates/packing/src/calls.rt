@@ -10,7 +10,7 @@ use crate::most::write_most;
 use format::{AddressFamily, Kind, Path, Refusal, is_ipv6};
 
 // What a packing call did.
-#[derive(Drop)]
+#[derive(Clone, Copy)]
 pub enum Packing {
     // One message of so many octets, of so many entries.
     Wrote { length: usize, taken: usize },

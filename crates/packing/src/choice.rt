@@ -10,7 +10,7 @@ use crate::within::{Fitted, smaller};
 use format::{AddressFamily, Kind, Path, Refusal, is_ipv6};
 
 // Which form was chosen, and its message.
-#[derive(Drop)]
+#[derive(Clone, Copy)]
 pub enum Choice {
     // Whether the aggregated one; so many octets, of so many entries.
     Wrote {

@@ -10,7 +10,7 @@ use entries::{Listed, entry_size, first_bad};
 use format::{GREATEST_LIMIT, Kind, Refusal, usual_limit};
 
 // The limit as read, or a refusal.
-#[derive(Drop)]
+#[derive(Clone, Copy)]
 pub enum Limit {
     Is(usize),
     Refused(Refusal),

@@ -7,7 +7,7 @@ use format::Kind;
 use octets::write32;
 
 // How the messages of a kind are laid out, and how many entries they take.
-#[derive(Drop)]
+#[derive(Clone, Copy)]
 pub struct Layout {
     // The octets before the first record: the header, and in a packed assert Zero and Reserved.
     pub head: usize,

@@ -15,14 +15,14 @@ use addresses::{front_size, width};
 use format::r_bit;
 
 // How many entries were taken, and the place past what was written.
-#[derive(Drop)]
+#[derive(Clone, Copy)]
 pub struct Fitted {
     pub taken: usize,
     pub next: usize,
 }
 
 // How many entries were taken, the place past what was written, and how many group records that is.
-#[derive(Drop)]
+#[derive(Clone, Copy)]
 pub struct FittedGroups {
     taken: usize,
     next: usize,

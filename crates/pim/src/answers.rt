@@ -6,7 +6,7 @@ ghost use Rattle.pim.specs.Answers.{accepted, length_answer};
 use format::{Refusal, Writing};
 
 #[repr(C)]
-#[derive(Drop)]
+#[derive(Clone, Copy)]
 pub struct LengthAnswer {
     pub refusal: Refusal,
     pub length: usize,

@@ -5,7 +5,7 @@ ghost use Rattle.pim.specs.Families.{family_by, family_numbered};
 
 use format::{AddressFamily, Refusal};
 
-#[derive(Drop)]
+#[derive(Clone, Copy)]
 pub enum Numbered {
     Is(AddressFamily),
     Neither,

@@ -23,14 +23,14 @@ use hello::{Hello, HelloRead};
 use reading::{Headed, Reading, Single};
 
 #[repr(C)]
-#[derive(Drop)]
+#[derive(Clone, Copy)]
 pub struct HeaderAnswer {
     pub refusal: Refusal,
     pub kind: u8,
 }
 
 #[repr(C)]
-#[derive(Drop)]
+#[derive(Clone, Copy)]
 pub struct RecordAnswer {
     pub refusal: Refusal,
     pub next: usize,
@@ -42,7 +42,7 @@ pub struct RecordAnswer {
 }
 
 #[repr(C)]
-#[derive(Drop)]
+#[derive(Clone, Copy)]
 pub struct ReadAnswer {
     pub refusal: Refusal,
     pub count: usize,
@@ -50,7 +50,7 @@ pub struct ReadAnswer {
 }
 
 #[repr(C)]
-#[derive(Drop)]
+#[derive(Clone, Copy)]
 pub struct HelloAnswer {
     pub refusal: Refusal,
     pub hello: Hello,

@@ -12,7 +12,7 @@ use format::{Path, Refusal};
 use packing::{Choice, Packing};
 
 #[repr(C)]
-#[derive(Drop)]
+#[derive(Clone, Copy)]
 pub struct PackAnswer {
     pub refusal: Refusal,
     pub length: usize,
@@ -20,7 +20,7 @@ pub struct PackAnswer {
 }
 
 #[repr(C)]
-#[derive(Drop)]
+#[derive(Clone, Copy)]
 pub struct ChoiceAnswer {
     pub refusal: Refusal,
     pub length: usize,

@@ -12,7 +12,7 @@ use format::Refusal;
 use popcount::{Attribute, AttributeRead, Order, Own, Values};
 
 #[repr(C)]
-#[derive(Drop)]
+#[derive(Clone, Copy)]
 pub struct AttributeAnswer {
     pub refusal: Refusal,
     pub next: usize,

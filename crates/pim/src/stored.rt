@@ -14,14 +14,14 @@ use neighbours::Table;
 use sheet::{Counts, Found, SheetRead, Verdict};
 
 #[repr(C)]
-#[derive(Drop)]
+#[derive(Clone, Copy)]
 pub struct CheckAnswer {
     pub refusal: Refusal,
     pub counts: Counts,
 }
 
 #[repr(C)]
-#[derive(Drop)]
+#[derive(Clone, Copy)]
 pub struct SheetAnswer {
     pub refusal: Refusal,
     pub counts: Counts,

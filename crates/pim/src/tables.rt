@@ -16,7 +16,7 @@ use hello::Hello;
 use neighbours::{Allowance, Change, Changed, Elected, Neighbour, Table};
 
 #[repr(C)]
-#[derive(Drop)]
+#[derive(Clone, Copy)]
 pub struct TableAnswer {
     pub refusal: Refusal,
     pub table: Table,
@@ -24,14 +24,14 @@ pub struct TableAnswer {
 }
 
 #[repr(C)]
-#[derive(Drop)]
+#[derive(Clone, Copy)]
 pub struct AllowedAnswer {
     pub refusal: Refusal,
     pub allowed: bool,
 }
 
 #[repr(C)]
-#[derive(Drop)]
+#[derive(Clone, Copy)]
 pub struct ElectAnswer {
     pub refusal: Refusal,
     pub address: Address,

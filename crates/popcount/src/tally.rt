@@ -8,7 +8,7 @@ use format::Refusal;
 
 // What our own router says of itself.
 #[repr(C)]
-#[derive(Drop)]
+#[derive(Clone, Copy)]
 pub struct Own {
     pub mtu: u16,
     pub flags: u16,
@@ -20,7 +20,7 @@ pub struct Own {
 
 // Our own values and the contributors so far. The flags are joined in both ways, by "any" and by "all";
 // the option bits are those that every contributor has.
-#[derive(Drop)]
+#[derive(Clone, Copy)]
 pub(crate) struct Tally {
     mtu: u16,
     any: u16,
@@ -35,7 +35,7 @@ pub(crate) struct Tally {
 }
 
 // What one pass over the contributors finds.
-#[derive(Drop)]
+#[derive(Clone, Copy)]
 pub(crate) enum Tallied {
     All(Tally),
     Refused(Refusal),

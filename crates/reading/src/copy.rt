@@ -119,7 +119,7 @@ pub(crate) fn copy_records(
 }
 
 // The places past what was read and past what was written.
-#[derive(Drop)]
+#[derive(Clone, Copy)]
 struct Places {
     at: usize,
     out: usize,

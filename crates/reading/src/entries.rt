@@ -15,7 +15,7 @@ use format::{AddressFamily, Kind, Path, Refusal, is_ipv6};
 use headers::{Headed, header};
 
 // What a reading call found.
-#[derive(Drop)]
+#[derive(Clone, Copy)]
 pub enum Reading {
     // The kind, and the number of entries.
     Entries { kind: Kind, count: usize },

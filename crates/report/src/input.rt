@@ -9,7 +9,7 @@ use libc::STDIN_FILENO;
 use reporting::Tally;
 
 // How standard input ends.
-#[derive(Drop)]
+#[derive(Clone, Copy)]
 pub(crate) enum Ending {
     Whole,
     Cut,
@@ -18,14 +18,14 @@ pub(crate) enum Ending {
 }
 
 // What was counted up to the end.
-#[derive(Drop)]
+#[derive(Clone, Copy)]
 pub(crate) struct Found {
     pub tally: Tally,
     pub ending: Ending,
 }
 
 // What was counted so far, and how many octets are left at the front of the buffer.
-#[derive(Drop)]
+#[derive(Clone, Copy)]
 struct Counted {
     pub tally: Tally,
     pub left: usize,

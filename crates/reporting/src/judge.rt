@@ -15,7 +15,7 @@ use format::{Kind, Refusal, nowhere};
 use headers::{Headed, header};
 use hello::{OptionsChecked, check_options};
 
-#[derive(Drop)]
+#[derive(Clone, Copy)]
 pub(crate) enum Verdict {
     Accepted { kind: Kind, records: usize },
     Refused(Refusal),

@@ -22,7 +22,7 @@ pub const NUMBERS: usize = 15;
 
 // What came of messages: those accepted with their records, by kind, and those refused, by number.
 #[repr(C)]
-#[derive(Drop)]
+#[derive(Clone, Copy)]
 pub struct Tally {
     pub accepted: ByKind,
     pub refused: [u64; NUMBERS],
@@ -30,21 +30,21 @@ pub struct Tally {
 
 // The counts after some octets, and how many of the octets the messages in them took.
 #[repr(C)]
-#[derive(Drop)]
+#[derive(Clone, Copy)]
 pub struct Taken {
     pub tally: Tally,
     pub used: usize,
 }
 
 #[repr(C)]
-#[derive(Drop)]
+#[derive(Clone, Copy)]
 pub struct Fraction {
     pub numerator: u64,
     pub denominator: u64,
 }
 
 #[repr(C)]
-#[derive(Drop)]
+#[derive(Clone, Copy)]
 pub struct Report {
     pub tally: Tally,
     pub mean: Fraction,

@@ -14,7 +14,7 @@ use octets::number16;
 
 // The form of a sheet: that of 01, with numbers of 16 bits, that of E6, with numbers of 32, and those of the two families. The first two are IPv4's, and
 // their entries have no front.
-#[derive(Drop)]
+#[derive(Clone, Copy)]
 pub enum Form {
     Base,
     Large,
@@ -23,7 +23,7 @@ pub enum Form {
 }
 
 // Where the three sections begin, and where the last ends.
-#[derive(Drop)]
+#[derive(Clone, Copy)]
 pub struct Places {
     pub asserts: usize,
     pub pairs: usize,

@@ -25,7 +25,7 @@ use section::{Section, check_sections};
 
 // How many entries each section of a sheet has.
 #[repr(C)]
-#[derive(Drop)]
+#[derive(Clone, Copy)]
 pub struct Counts {
     pub asserts: usize,
     pub pairs: usize,
@@ -33,7 +33,7 @@ pub struct Counts {
 }
 
 // What checking a sheet finds.
-#[derive(Drop)]
+#[derive(Clone, Copy)]
 pub enum Verdict {
     Valid(Counts),
     Refused(Refusal),

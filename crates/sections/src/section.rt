@@ -22,7 +22,7 @@ use neighbours::is_allowed;
 use octets::number32;
 
 // What checking a section finds.
-#[derive(Drop)]
+#[derive(Clone, Copy)]
 pub(crate) enum Section {
     Sound,
     // The first octet of the first entry that is at fault.

@@ -18,14 +18,14 @@ pub use sections::{Counts, Verdict, check_sheet};
 pub use write::write_sheet;
 
 // What reading a sheet finds.
-#[derive(Drop)]
+#[derive(Clone, Copy)]
 pub enum Found {
     Entries(Counts),
     Refused(Refusal),
 }
 
 // The table that a sheet holds, with what was found; a table without neighbours where the call refuses.
-#[derive(Drop)]
+#[derive(Clone, Copy)]
 pub struct SheetRead {
     pub table: Table,
     pub found: Found,

@@ -8,7 +8,7 @@ use printing::{named, number, text, title};
 use reading::{Headed, Reading, Single};
 
 // What a message holds.
-#[derive(Drop)]
+#[derive(Clone, Copy)]
 enum Found {
     // So many records.
     Records(usize),

@@ -9,7 +9,7 @@ pub(crate) const COUNT: usize = 1024;
 
 // R of a block's first entry. How many neighbours share R, the preference and metric, the source, and the group: 0 is
 // all of the block. Of how many neighbours the last has source 0, where its R is 1: 0 is none.
-#[derive(Drop)]
+#[derive(Clone, Copy)]
 struct Shared {
     first: u32,
     r: u32,

@@ -11,7 +11,7 @@ use printing::{decimal, front, in_common, named, number, refused, text};
 use reading::Reading;
 
 // A message that was packed and read back. With 0 taken there is none: something was wrong, and has been said.
-#[derive(Drop)]
+#[derive(Clone, Copy)]
 struct Sent {
     length: usize,
     taken: usize,
@@ -102,7 +102,7 @@ fn next_message(
 }
 
 // How far a train came.
-#[derive(Drop)]
+#[derive(Clone, Copy)]
 struct Total {
     messages: usize,
     octets: usize,
