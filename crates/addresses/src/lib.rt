@@ -7,6 +7,7 @@
 // source.rt      whether a source may have an address
 // pseudo.rt      what is summed before a message: in IPv6 RFC 8200's pseudo-header
 #![tactic(auto)]
+
 mod address;
 mod family;
 mod pseudo;
