@@ -6,6 +6,7 @@
 // calls.rt       by value: the answer, and the counters after it; on counters that are lent: a thin function over it
 // lend.rt        counters by value, lent to `count` for the call
 #![tactic(auto)]
+
 mod calls;
 mod lend;
 mod start;
