@@ -4,6 +4,7 @@
 // field.rt      fields: whether they are there and allowed, and where they end
 // record.rt     assert records and pairs; a record read singly
 #![tactic(auto)]
+
 mod field;
 mod record;
 
