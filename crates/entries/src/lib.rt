@@ -1,6 +1,7 @@
 // Entries by the kind of message that is made of them: their size, which are allowed, and the first that is not. Octets
 // past the last whole entry are not looked at. Entries begin with the front of their family, but not in older sheets: `prefixed` says which.
 #![tactic(auto)]
+
 ghost use Rattle.std.specs.Prelude.{◌≡◌, Bool, true, false, ◌+◌, ◌-◌, ◌*◌, ◌/◌, ◌<◌, ◌≤◌, length};
 ghost use Rattle.format.specs.Family.{family_of};
 ghost use Rattle.octets.specs.Octets.{value};
