@@ -5,6 +5,7 @@
 // options.rt     the options: their bits, how many octets each has, and its value after the one before
 // read.rt        an attribute: its fields of a fixed size, its options' values, the whole
 #![tactic(auto)]
+
 mod options;
 mod read;
 mod speed;

@@ -1,0 +1,14 @@
+-- `attributes::options::has_bit` meets its contract: it computes what the definition does, also for the bit 0.
+-- Assumes nothing.
+use mathlib.Core.Path.{refl}
+use native.Mathlib.Nat.{div-zero}
+use Rattle.attributes.specs.Options.{has_bit}
+use Rattle.attributes.proofs.options.has_bit.Goals as goal
+
+pub returns-then-bit-eq0 : goal.returns-then-bit-eq0
+unfolding has_bit
+returns-then-bit-eq0 c = rw (c.if-bit-eq0.true, div-zero)
+
+pub returns : goal.returns
+unfolding has_bit
+returns c = refl
