@@ -6,6 +6,7 @@
 // write.rt       an attribute, written
 // merging.rt     the call
 #![tactic(auto)]
+
 mod merging;
 mod rules;
 mod tally;
