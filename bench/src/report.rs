@@ -28,7 +28,7 @@ pub fn measured_part(measured: &Measured, run: &Run) -> String {
 fn how_measured(run: &Run, passes: usize) -> String {
     format!(
         "Measured {} on {}. The second program is built by {} with `opt-level = 3`, one codegen unit, \
-         link-time optimisation {} and the usual target, the archive by `rt staticlib pim`. Repeat it with \
+         link-time optimisation {} and the usual target, the archive by `rt lib`. Repeat it with \
          `bench/run --write`.\n\n\
          Both sides run in one process on the same input, in turn, in {} rounds, in each of them twice. The \
          time of a pass is the median of its turns. There are {} passes, and a time below is the median of the \
