@@ -13,6 +13,7 @@
 // stored.rt       the stored sheet
 // sums.rt         the checksum
 #![tactic(auto)]
+
 mod answers;
 mod families;
 mod messages;
