@@ -9,13 +9,9 @@
 use Prim.Native.Nat.{ℕ}
 use mathlib.Core.Path.{◌≡◌, refl}
 use mathlib.Core.Bool.{Bool, true, false, not, cond}
-use mathlib.Core.List.{List, [], ◌∷◌}
+use mathlib.Core.List.{List}
 use mathlib.Core.Option.{none, some}
-use mathlib.Core.Logic.{⊎_elim}
-use native.Mathlib.Omega.{arith}
 use borrow.Author.Tests.{not-false}
-use types.Run.{OneOf}
-use denote.Enum.Declared.{tag_of}
 use lib.Dec.{eqb}
 use lib.ListN.{length}
 use Rattle.format.specs.Outcome.{gives, refuses, ◌>>=◌, ◌>>◌}
@@ -25,7 +21,6 @@ use Rattle.format.specs.Header.{header}
 use Rattle.format.specs.declared.Kind.{Kind}
 use Rattle.format.specs.declared.Path.{Path}
 use Rattle.format.specs.declared.Kind.TheVariants.{Hello, Assert, Simple, Aggregated, NullRegister, RegisterStop}
-use Rattle.format.specs.contracts.Kind.{the_type}
 use Rattle.hello.specs.Options.{Said, nothing, options}
 use Rattle.hello.specs.Hello.{hello_of, hello_options, options_fine, hello_body, read_hello}
 use Rattle.hello.specs.Answers.{if_given, if_placed}
@@ -73,11 +68,9 @@ pub read_body : (f : Family) (path : Path) (o : List ℕ) {k : Kind} → header 
 unfolding read_hello ◌>>=◌
 read_body f path o e = rw e
 
--- the variants after the first, by their numbers in the declaration
-pub other_kind : (k : Kind) (o : List ℕ) → OneOf (1 ∷ 2 ∷ 3 ∷ 4 ∷ 5 ∷ []) (tag_of the_type k) → hello_body k o ≡ refuses 4 0
+pub other_kind : (k : Kind) (o : List ℕ) → (k ≡ Hello → ⊥) → hello_body k o ≡ refuses 4 0
 unfolding hello_body
-other_kind Hello o h =
-    absurd (⊎_elim (λ e. omega arith) (⊎_elim (λ e. omega arith) (⊎_elim (λ e. omega arith) (⊎_elim (λ e. omega arith) (λ e. omega arith)))) h)
+other_kind Hello o h = absurd (h refl)
 other_kind Assert o h = refl
 other_kind Simple o h = refl
 other_kind Aggregated o h = refl

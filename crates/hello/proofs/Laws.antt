@@ -23,7 +23,7 @@ use Rattle.octets.specs.declared.Field.TheVariants.{Got, Short}
 use Rattle.octets.proofs.Laws.{number_split, number_there, number_back, field_short}
 use Rattle.format.specs.Reader.{Read, got, bad, continue, ◌>>=◌, ◌>>◌, give, here, octets, number, refuse}
 use Rattle.format.proofs.Entries.{number_at_lt}
-use Rattle.hello.specs.Options.{Said, said, known, type_of, among, named, length_of, is_some, given, against, hear, option_value, option}
+use Rattle.hello.specs.Options.{Said, said, type_of, among, named, length_of, is_some, given, against, hear, option_value, option}
 use Rattle.hello.specs.Answers.{if_given, if_placed, head_of, among_heads, beginning, is_known, refused_as, taken, stepped}
 use Rattle.hello.specs.declared.table.Known.{Known}
 use Rattle.hello.specs.declared.table.Known.TheVariants.{Holdtime, Priority, Packing, Other}

@@ -39,7 +39,7 @@ use Rattle.hello.specs.declared.HelloRead.TheVariants.{Is, Refused}
 use Rattle.hello.proofs.Laws.{some_given}
 use Rattle.hello.proofs.SoFar.{SoFar, so_far_start, so_far_next, so_far_end}
 use Rattle.hello.proofs.Hellos.{given_zero, none_zero, hello_all, read_body}
-use Rattle.hello.proofs.Written.{option_given, option_absent, option_long, option_small, value_long, options_are, options_long, hello_long, hello_small, hello_refused, hello_written}
+use Rattle.hello.proofs.Written.{option_given, option_absent, option_long, value_long, options_are, options_long, hello_long, hello_small, hello_refused, hello_written}
 
 -- ---- one option
 

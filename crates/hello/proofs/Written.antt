@@ -27,7 +27,7 @@ use Rattle.checksum.specs.Sum.{words, add, sum_from}
 use Rattle.checksum.proofs.Laws.{words_be, sum_after}
 use Rattle.format.specs.Outcome.{gives, refuses, refuse_if, ◌>>◌}
 use Rattle.format.specs.Family.{Family, Lawful}
-use Rattle.format.specs.Header.{longest, message}
+use Rattle.format.specs.Header.{longest}
 use Rattle.format.specs.Record.{each}
 use Rattle.format.specs.Writing.{into_buffer}
 use Rattle.format.specs.declared.Kind.TheVariants.{Hello as of_hello}

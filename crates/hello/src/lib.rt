@@ -3,6 +3,7 @@
 // call. It is total; what it answers is a definition of specs/. The known options, and reading one, are in
 // table.rt; Hellos are written in write.rt.
 #![tactic(auto)]
+
 mod table;
 mod write;
 

@@ -3,12 +3,8 @@
 use mathlib.Core.Path.{refl}
 use Rattle.hello.specs.Hello.{said_in}
 use Rattle.hello.specs.Answers.{if_given, said_by, hello_by}
-use Rattle.hello.proofs.write.to_say.Statement.{statement}
-use Rattle.hello.proofs.write.to_say.Tie as tie
+use Rattle.hello.proofs.write.to_say.Goals as goal
 
-returns : tie.Need-returns
+pub returns : goal.returns
 unfolding said_in said_by hello_by if_given
 returns c = refl
-
-pub to-say-spec : {M : Type 1} → statement M
-to-say-spec = tie.close (tie.spec returns)
