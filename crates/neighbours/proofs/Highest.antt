@@ -158,6 +158,7 @@ in_order ours c d (inr h) = inr (row_order c d h)
 
 every_in : {A : Type 0} (P : A → Type 0) (l : List A) (a : A) → Every P l → In a l → P a
 unfolding Every In
+every_in {A = A} P [] a h x = elim x [ ]
 every_in P (b ∷ l) a h (inl e) = subst P (sym e) h.0
 every_in P (b ∷ l) a h (inr k) = every_in P l a h.1 k
 

@@ -7,6 +7,7 @@
 // election.rt    whether packing is allowed; the election over the rows and our own router
 // list.rt        the election over a lent list of rows
 #![tactic(auto)]
+
 mod election;
 mod hearing;
 mod list;
