@@ -3,7 +3,7 @@
 --     preferred, both_aggregated, both_simple     which of the two is chosen
 --     part_none, part_aggregated, part_simple     the part that is handed back: empty, or the front of the buffer that was chosen
 -- Assumes nothing.
-use Prim.Native.Nat.{ℕ, zero, suc, ◌-◌, ◌≤◌, ◌<◌, min}
+use Prim.Native.Nat.{ℕ, zero, suc, ◌≤◌, ◌<◌, min}
 use native.Mathlib.Omega.{arith}
 use mathlib.Core.Path.{◌≡◌, refl, sym}
 use mathlib.Core.Bool.{Bool, true, false, ◌&&◌, ◌||◌, cond}

@@ -12,7 +12,6 @@ use lib.ListN.{length, take}
 use Rattle.records.specs.Joining.{joined}
 use Rattle.records.proofs.Least.{one_entry}
 use Rattle.records.proofs.Most.{most_unique, most_ge}
-use Rattle.format.specs.Outcome
 use Rattle.format.specs.Family.{Family, family_of}
 use Rattle.format.specs.Entry.{assert_entries, entries_at}
 use Rattle.format.specs.Packing.{least_limit, aggregated, canonical, size_of, taken, packed, pack}

@@ -12,6 +12,7 @@
 // calls.rt       the five calls
 // choice.rt      both packed assert forms, and the one that is chosen
 #![tactic(auto)]
+
 mod aggregate;
 mod calls;
 mod choice;

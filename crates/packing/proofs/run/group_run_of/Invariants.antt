@@ -1,0 +1,13 @@
+-- `packing::run::group_run_of` meets its contract: the loop's invariant is `Counting`. The measure is the entries left.
+-- Assumes nothing.
+use Prim.Native.Nat.{◌-◌}
+use Rattle.format.specs.Family.{family_of}
+use Rattle.packing.specs.Joins.{joins, entry_at, run_length, Group}
+use Rattle.packing.proofs.Joins.{Counting}
+use Rattle.packing.proofs.run.group_run_of.Given as goal
+
+abbrev pub invariant-loop-k : goal.invariant-loop-k
+invariant-loop-k l = Counting (family_of l.ipv6) (joins Group (entry_at (family_of l.ipv6) l.e l.from)) l.e l.n (run_length (family_of l.ipv6) Group l.e l.from l.n) l.k l.at
+
+abbrev pub decreases-loop-k : goal.decreases-loop-k
+decreases-loop-k l = l.n - l.k
