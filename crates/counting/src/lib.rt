@@ -5,6 +5,7 @@
 // whole.rt          assert records and pairs that are there whole
 // entries.rt        the bodies of messages
 #![tactic(auto)]
+
 mod aggregated;
 mod entries;
 mod whole;
