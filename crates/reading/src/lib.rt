@@ -6,6 +6,7 @@
 // copy.rt        second pass: entries written by plain indices
 // entries.rt     the reading calls: everything is checked and counted before the first entry is written
 #![tactic(auto)]
+
 mod copy;
 mod entries;
 mod message;
