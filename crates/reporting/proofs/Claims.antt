@@ -5,18 +5,16 @@
 --     tally_append, folded        two files; messages one after another; pieces of any size
 --     e4                          all of it
 -- Assumes nothing.
-use Prim.Native.Nat.{ℕ, zero, suc, ◌+◌, ◌-◌, ◌*◌, ◌^◌, ◌<◌, ◌≤◌, min}
+use Prim.Native.Nat.{ℕ, zero, suc, ◌+◌, ◌*◌, ◌^◌, ◌<◌, ◌≤◌}
 use native.Mathlib.Omega.{arith}
 use native.Mathlib.Nat.{zero-add}
 use mathlib.Core.Path.{◌≡◌, refl, sym, ap, subst, ◌∙◌}
 use mathlib.Core.Bool.{Bool, true, false, ◌&&◌, ◌||◌, cond}
 use mathlib.Core.List.{List, [], ◌∷◌, ◌++◌, foldl, append-nil, append_assoc}
-use borrow.Author.Tests.{leb-true, leb-false, eqb-true, eqb-false, eq-eqb, ne_eqb, le-ltb}
-use lib.Dec.{eqb, leb, ltb}
-use lib.ListN.{length, get_or, take, drop, length-append, get_or-eq_default}
+use borrow.Author.Tests.{leb-true, leb-false, eqb-true, eqb-false, ne_eqb, le-ltb}
+use lib.Dec.{eqb, leb}
+use lib.ListN.{length, get_or, take, drop, get_or-eq_default}
 use lib.Seq.{length-take-le}
-use Rattle.octets.specs.Octets.{Octets}
-use Rattle.records.specs.Every.{Every}
 use Rattle.format.specs.Outcome.{Outcome, gives, refuses, refuse_if, ◌>>=◌, ◌>>◌}
 use Rattle.format.specs.Family.{ipv4}
 use Rattle.format.specs.Path.{nowhere}
@@ -28,13 +26,12 @@ use Rattle.format.specs.Reading.{Found, found, ReadingCall, room_for, delivered,
 use Rattle.format.specs.Values.{kind_number}
 use Rattle.format.specs.declared.Kind.{Kind}
 use Rattle.format.specs.declared.Kind.TheVariants.{Hello, Assert, Simple, Aggregated, NullRegister, RegisterStop}
-use Rattle.hello.specs.Hello.{read_hello}
 use Rattle.counters.specs.Counting.{sum}
 use Rattle.counters.specs.declared.Totals.{Totals}
 use Rattle.counters.specs.declared.ByKind.{ByKind}
 use Rattle.reporting.specs.Judging.{entries_in, judged_as, judged}
 use Rattle.reporting.specs.Answers.{heard_of}
-use Rattle.reporting.specs.File.{File, length_of, none, file_of, piece_of}
+use Rattle.reporting.specs.File.{File, none, file_of, piece_of}
 use Rattle.reporting.specs.Tallies.{messages_by, records_by, refusals_by, total, totals_of, by_kind, of, counts_from, numbers, tally_of, no_tally, tallied}
 use Rattle.reporting.specs.Fraction.{InLowestTerms, lowest, together, packed_totals, mean_of}
 use Rattle.reporting.specs.Report.{taken_from, report_of}

@@ -5,12 +5,12 @@
 --     gcd_above                       over a number above 0 it is above 0
 --     lowest_some, lowest_none, lowest_terms, lowest_equal   a fraction in lowest terms is so, and equals the quotient
 -- Assumes nothing.
-use Prim.Native.Nat.{ℕ, zero, suc, ◌+◌, ◌-◌, ◌*◌, ◌/◌, ◌%◌, ◌≤◌, ◌<◌}
+use Prim.Native.Nat.{ℕ, zero, suc, ◌+◌, ◌-◌, ◌*◌, ◌/◌, ◌%◌, ◌<◌}
 use native.Mathlib.Omega.{arith}
 use native.Mathlib.Nat.{zero-mul, mul-zero, mul-one, mul_assoc, mul_comm, mul_left_comm, mul-add, mul-sub, mod-lt, mod_def, div-add-mod, div-eq_of_eq-mul_right, eq_of_mul-eq-mul_left}
 use mathlib.Core.Path.{◌≡◌, refl, sym, ap, subst, ◌∙◌}
 use mathlib.Core.Bool.{Bool, true, false, cond}
-use borrow.Author.Tests.{eqb-true, eqb-false, eq-eqb, ne_eqb}
+use borrow.Author.Tests.{eqb-true, eqb-false, ne_eqb}
 use lib.Dec.{eqb}
 use Rattle.reporting.specs.Fraction.{Divides, InLowestTerms, euclid, gcd, lowest}
 

@@ -6,15 +6,15 @@
 --     total_few                          no count of a file is more than its octets
 --     exact                              of a file that fits into memory no number reaches the maximum
 -- Assumes nothing.
-use Prim.Native.Nat.{ℕ, zero, suc, ◌+◌, ◌-◌, ◌≤◌, ◌<◌, ◌^◌, min}
+use Prim.Native.Nat.{ℕ, zero, suc, ◌+◌, ◌≤◌, ◌<◌, ◌^◌}
 use native.Mathlib.Omega.{arith}
 use mathlib.Core.Path.{◌≡◌, refl, sym, ap, subst, ◌∙◌}
 use mathlib.Core.Bool.{Bool, true, false, cond}
 use mathlib.Core.List.{List, [], ◌∷◌, foldl}
-use borrow.Author.Tests.{leb-true, eqb-true, eqb-false, eq-eqb, ne_eqb}
+use borrow.Author.Tests.{leb-true, eqb-true, eqb-false}
 use lib.Dec.{eqb, leb}
-use lib.ListN.{length, get_or, set, take, drop, replicate, length-set, length-take, length-drop, length-replicate, get_or-replicate}
-use lib.Seq.{ext_get_or, get_or-set_same, get_or-set_other, set_out}
+use lib.ListN.{length, get_or, set, take, drop, replicate, length-set, length-take, length-drop, get_or-replicate}
+use lib.Seq.{ext_get_or, get_or-set_same, get_or-set_other}
 use Rattle.format.specs.Outcome.{Outcome, gives, refuses}
 use Rattle.format.specs.Reading.{Found, found}
 use Rattle.format.specs.Values.{kind_number}
@@ -24,7 +24,7 @@ use Rattle.counters.specs.Counting.{sum, more_if, more_at, none_by_kind}
 use Rattle.counters.specs.declared.Totals.{Totals}
 use Rattle.counters.specs.declared.ByKind.{ByKind}
 use Rattle.reporting.specs.Judging.{judged}
-use Rattle.reporting.specs.File.{File, before, none, length_of, split, file_of}
+use Rattle.reporting.specs.File.{before, none, length_of, split, file_of}
 use Rattle.reporting.specs.Tallies.{messages_by, records_by, refusals_by, total, totals_of, by_kind, of, counts_from, numbers, tally_of, no_tally, once_more, more, tallied}
 use Rattle.reporting.specs.declared.Tally.{Tally}
 use Rattle.reporting.proofs.Judged.{FewIn, records_few}

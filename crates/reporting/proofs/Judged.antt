@@ -6,13 +6,13 @@
 --     judged_none     what its header refuses is refused so
 --     records_few     an accepted message has no more records than octets
 -- Assumes nothing.
-use Prim.Native.Nat.{ℕ, ◌+◌, ◌≤◌}
+use Prim.Native.Nat.{ℕ, ◌≤◌}
 use native.Mathlib.Omega.{arith}
-use mathlib.Core.Path.{◌≡◌, refl, sym, ap, subst, ◌∙◌}
+use mathlib.Core.Path.{◌≡◌, refl, sym, subst, ◌∙◌}
 use mathlib.Core.List.{List}
 use lib.ListN.{length}
 use Rattle.format.specs.Outcome.{Outcome, gives, refuses, ◌>>=◌, ◌>>◌}
-use Rattle.format.specs.Reader.{Read, Reader, got, bad, from, outcome}
+use Rattle.format.specs.Reader.{Read, got, bad, from, outcome}
 use Rattle.format.specs.Family.{ipv4}
 use Rattle.format.specs.Path.{nowhere}
 use Rattle.format.specs.Header.{header}

@@ -3,13 +3,13 @@
 --     Ruled, ruled          what a call comes to, and a message
 -- Each reader's law has the lines of its definition. Assumes nothing.
 use Prim.Native.Nat.{ℕ, zero, suc, ◌+◌, ◌/◌}
-use mathlib.Core.Path.{◌≡◌, refl, sym, subst}
+use mathlib.Core.Path.{◌≡◌, refl}
 use mathlib.Core.Bool.{Bool, true, false, not, ◌||◌, cond}
 use mathlib.Core.List.{List}
-use lib.ListN.{length, get_or}
+use lib.ListN.{length}
 use lib.Dec.{eqb, ltb, leb}
 use Rattle.records.specs.Records.{r_bit}
-use Rattle.format.specs.Outcome.{Outcome, gives, refuses, refuse_if, ◌>>=◌ as ◌andThen◌, ◌>>◌ as ◌and◌}
+use Rattle.format.specs.Outcome.{Outcome, gives, refuses, refuse_if, ◌>>=◌ as ◌and_then◌, ◌>>◌ as ◌and◌}
 use Rattle.format.specs.Reader.{Read, got, bad, Reader, continue, ◌>>=◌, ◌>>◌, give, here, octets, number, must, refuse, times, to_end, records, nothing_more, outcome, from}
 use Rattle.format.specs.Family.{Family, ipv4}
 use Rattle.format.specs.Address.{group_field, source_field}
@@ -18,11 +18,10 @@ use Rattle.format.specs.Header.{sums, header, kind_of, register_kind, shortest, 
 use Rattle.format.specs.Record.{assert_record, pair_record, positive, group_record, source_aggregated, rp_aggregated, aggregated_record}
 use Rattle.format.specs.Body.{zero_reserved, asserts_body, pairs_body}
 use Rattle.format.specs.Unpacking.{Unpacked, unpacked, unpack_asserts, unpack_pairs}
-use Rattle.format.specs.Reading.{Found, found}
 use Rattle.format.specs.declared.Kind.{Kind}
 use Rattle.format.specs.declared.Kind.TheVariants.{Hello, Assert, Simple, Aggregated, NullRegister, RegisterStop}
 use Rattle.hello.specs.Options.{Said, nothing, option_value, option, options}
-use Rattle.hello.specs.Hello.{Hello as HelloSaid, hello_options, hello_body, read_hello}
+use Rattle.hello.specs.Hello.{hello_options, hello_body, read_hello}
 use Rattle.reporting.specs.Judging.{entries_in, judged_as, judged}
 use Rattle.reporting.specs.Claims.{of_message}
 
@@ -226,7 +225,7 @@ ruled_from (got a next) h = accepted
 ruled_from (bad n p) (by h) = refused h
 
 ruled_bind : {A B : Type 0} (x : Outcome A) (k : A → Outcome B) → Ruled x → ((a : A) → Ruled (k a)) → Ruled (x and_then k)
-unfolding ◌andThen◌
+unfolding ◌and_then◌
 ruled_bind (gives a) k hx hk = hk a
 ruled_bind (refuses n p) k (refused h) hk = refused h
 

@@ -1,22 +1,21 @@
 -- The report of a lent file, by what its parts give.
 --     reported        the report
 -- Assumes nothing.
-use Prim.Native.Nat.{ℕ, zero, suc, ◌+◌, ◌-◌, ◌^◌, ◌<◌, ◌≤◌}
+use Prim.Native.Nat.{ℕ, ◌-◌, ◌^◌, ◌<◌, ◌≤◌}
 use native.Mathlib.Omega.{arith}
-use mathlib.Core.Path.{◌≡◌, refl, sym, ap, ◌∙◌}
-use mathlib.Core.Bool.{Bool, true, false, cond}
-use mathlib.Core.List.{List, [], ◌∷◌, foldl}
-use borrow.Author.Tests.{leb-true, eqb-true, eqb-false, eq-eqb, ne_eqb}
-use lib.Dec.{eqb, leb}
-use lib.ListN.{length, take, drop, length-drop}
+use mathlib.Core.Path.{◌≡◌, refl, ap, ◌∙◌}
+use mathlib.Core.Bool.{Bool, true, false}
+use mathlib.Core.List.{List}
+use borrow.Author.Tests.{eqb-true, eqb-false, eq-eqb, ne_eqb}
+use lib.Dec.{eqb}
+use lib.ListN.{length}
 use Rattle.reporting.specs.File.{file_of}
-use Rattle.reporting.specs.Tallies.{no_tally, tallied, tally_of}
+use Rattle.reporting.specs.Tallies.{no_tally}
 use Rattle.reporting.specs.Fraction.{mean_of}
 use Rattle.reporting.specs.Report.{taken_from, report_of}
 use Rattle.reporting.specs.declared.Tally.{Tally}
 use Rattle.reporting.specs.declared.Taken.{Taken}
 use Rattle.reporting.specs.declared.Fraction.{Fraction}
-use Rattle.reporting.specs.declared.Report.{Report}
 use Rattle.reporting.proofs.Files.{left_within}
 use Rattle.reporting.proofs.Exact.{exact}
 

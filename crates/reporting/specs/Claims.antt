@@ -24,13 +24,12 @@ use Rattle.counters.specs.declared.Totals.{Totals}
 use Rattle.counters.specs.declared.ByKind.{ByKind}
 use Rattle.reporting.specs.Judging.{judged}
 use Rattle.reporting.specs.Answers.{heard_of}
-use Rattle.reporting.specs.File.{File, length_of, file_of, piece_of}
+use Rattle.reporting.specs.File.{length_of, file_of, piece_of}
 use Rattle.reporting.specs.Tallies.{by_kind, of, counts_from, numbers, no_tally, tallied}
 use Rattle.reporting.specs.Fraction.{InLowestTerms, mean_of}
 use Rattle.reporting.specs.Report.{taken_from, report_of}
 use Rattle.reporting.specs.declared.Tally.{Tally}
 use Rattle.reporting.specs.declared.Taken.{Taken}
-use Rattle.reporting.specs.declared.Fraction.{Fraction}
 use Rattle.reporting.specs.declared.Report.{Report}
 
 -- ---- accepted or refused

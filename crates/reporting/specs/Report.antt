@@ -4,7 +4,7 @@
 -- Assumes nothing: these are definitions.
 use Rattle.std.specs.Prelude.{ℕ, ◌-◌, length, eqb}
 use mathlib.Core.List.{List, foldl}
-use Rattle.reporting.specs.File.{File, file_of}
+use Rattle.reporting.specs.File.{file_of}
 use Rattle.reporting.specs.Tallies.{tally_of, tallied}
 use Rattle.reporting.specs.Fraction.{mean_of}
 use Rattle.reporting.specs.declared.Tally.{Tally}

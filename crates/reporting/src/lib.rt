@@ -7,6 +7,7 @@
 // means.rt      the mean, in lowest terms
 // file.rt       the messages of a file
 #![tactic(auto)]
+
 mod counts;
 mod file;
 mod judge;
