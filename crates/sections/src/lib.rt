@@ -5,6 +5,7 @@
 // head.rt        the header
 // section.rt     the sections one by one
 #![tactic(auto)]
+
 mod head;
 mod layout;
 mod row;
