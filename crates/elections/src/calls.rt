@@ -24,67 +24,79 @@ fn announced() -> Hello {
 }
 
 // The family that a call names.
-fn table_of(family: AddressFamily) -> bool {
+fn table_of(out: &impl Print, family: AddressFamily) -> bool {
     if is_ipv6(family) {
-        return text(b"IPv6, ");
+        return text(out, b"IPv6, ");
     }
-    text(b"IPv4, ")
+    text(out, b"IPv4, ")
 }
 
 // The family that a call names, the call, and the address that it is given, as IPv6 writes it.
-fn call(family: AddressFamily, name: &[u8], a: Address) -> bool {
-    table_of(family) && text(name) && printing::address(true, a) && text(b": ")
+fn call(out: &impl Print, family: AddressFamily, name: &[u8], a: Address) -> bool {
+    table_of(out, family) && text(out, name) && printing::address(out, true, a) && text(out, b": ")
 }
 
-fn done(change: Change) -> bool {
+fn done(out: &impl Print, change: Change) -> bool {
     match change {
-        Change::Replaced => text(b"replaced"),
-        Change::Appended => text(b"appended"),
-        Change::Forgotten => text(b"forgotten"),
-        Change::Refused(r) => refused(r, b""),
+        Change::Replaced => text(out, b"replaced"),
+        Change::Appended => text(out, b"appended"),
+        Change::Forgotten => text(out, b"forgotten"),
+        Change::Refused(r) => refused(out, r, b""),
     }
 }
 
 // What a call did, and how many rows are in use after it.
-fn changed(c: Changed) -> Table {
+fn changed(out: &impl Print, err: &impl Print, c: Changed) -> Table {
     let table = c.table;
     let change = c.change;
-    let written = done(change) && named(b", rows ", table.count as u64);
-    told(written, b"the calls were");
+    let written = done(out, change) && named(out, b", rows ", table.count as u64);
+    told(err, written, b"the calls were");
     table
 }
 
-fn hear(table: Table, family: AddressFamily, a: Address) -> Table {
-    let written = call(family, b"hear ", a);
-    told(written, b"the calls were");
-    changed(table.hear(family, a, announced()))
+fn hear(
+    out: &impl Print,
+    err: &impl Print,
+    table: Table,
+    family: AddressFamily,
+    a: Address,
+) -> Table {
+    let written = call(out, family, b"hear ", a);
+    told(err, written, b"the calls were");
+    changed(out, err, table.hear(family, a, announced()))
 }
 
-fn forget(table: Table, family: AddressFamily, a: Address) -> Table {
-    let written = call(family, b"forget ", a);
-    told(written, b"the calls were");
-    changed(table.forget(family, a))
+fn forget(
+    out: &impl Print,
+    err: &impl Print,
+    table: Table,
+    family: AddressFamily,
+    a: Address,
+) -> Table {
+    let written = call(out, family, b"forget ", a);
+    told(err, written, b"the calls were");
+    changed(out, err, table.forget(family, a))
 }
 
-fn elect(table: Table, family: AddressFamily, a: Address) {
+fn elect(out: &impl Print, err: &impl Print, table: Table, family: AddressFamily, a: Address) {
     let e = table.elect(family, a, 1);
-    let written = call(family, b"elect with our own ", a)
+    let written = call(out, family, b"elect with our own ", a)
         && match e {
-            Elected::Is(a) => printing::address(true, a) && text(b"\n"),
-            Elected::Refused(r) => refused(r, b"\n"),
+            Elected::Is(a) => printing::address(out, true, a) && text(out, b"\n"),
+            Elected::Refused(r) => refused(out, r, b"\n"),
         };
-    told(written, b"the calls were");
+    told(err, written, b"the calls were");
 }
 
-fn packing_allowed(table: Table, family: AddressFamily) {
+fn packing_allowed(out: &impl Print, err: &impl Print, table: Table, family: AddressFamily) {
     let x = table.packing_allowed(family);
-    let written = table_of(family)
-        && text(b"packing allowed: ")
+    let written = table_of(out, family)
+        && text(out, b"packing allowed: ")
         && match x {
-            Allowance::Allowed(b) => flag(b) && text(b"\n"),
-            Allowance::Refused(r) => refused(r, b"\n"),
+            Allowance::Allowed(b) => flag(out, b) && text(out, b"\n"),
+            Allowance::Refused(r) => refused(out, r, b"\n"),
         };
-    told(written, b"the calls were");
+    told(err, written, b"the calls were");
 }
 
 // A table of fe80::1 and the numbers after it, all its rows in use.
@@ -100,32 +112,34 @@ fn full() -> Table {
 }
 
 // Neighbours come and go; then what is refused.
-fn few() {
+fn few(out: &impl Print, err: &impl Print) {
     let six = AddressFamily::Ipv6;
-    let one = hear(Table::empty(), six, local(1));
-    let two = hear(one, six, local(2));
-    let again = hear(two, six, local(1));
-    let left = forget(again, six, local(1));
-    let still = forget(left, six, local(1));
+    let one = hear(out, err, Table::empty(), six, local(1));
+    let two = hear(out, err, one, six, local(2));
+    let again = hear(out, err, two, six, local(1));
+    let left = forget(out, err, again, six, local(1));
+    let still = forget(out, err, left, six, local(1));
     let zero = Address { high: 0, low: 0 };
-    let same = hear(still, six, zero);
-    elect(same, AddressFamily::Ipv4, zero);
-    packing_allowed(same, AddressFamily::Ipv4);
-    let none = hear(Table::empty(), AddressFamily::Ipv4, local(1));
+    let same = hear(out, err, still, six, zero);
+    elect(out, err, same, AddressFamily::Ipv4, zero);
+    packing_allowed(out, err, same, AddressFamily::Ipv4);
+    let none = hear(out, err, Table::empty(), AddressFamily::Ipv4, local(1));
     let past = Address {
         high: 0,
         low: 0x1_0000_0000,
     };
-    hear(none, AddressFamily::Ipv4, past);
+    hear(out, err, none, AddressFamily::Ipv4, past);
 }
 
 // A full table; and our own address below and above it by the high half alone.
-fn many() {
+fn many(out: &impl Print, err: &impl Print) {
     let six = AddressFamily::Ipv6;
-    let table = hear(full(), six, local(64));
-    hear(table, six, local(65));
-    packing_allowed(table, six);
+    let table = hear(out, err, full(), six, local(64));
+    hear(out, err, table, six, local(65));
+    packing_allowed(out, err, table, six);
     elect(
+        out,
+        err,
         table,
         six,
         Address {
@@ -134,6 +148,8 @@ fn many() {
         },
     );
     elect(
+        out,
+        err,
         table,
         six,
         Address {
@@ -143,7 +159,7 @@ fn many() {
     );
 }
 
-pub(crate) fn run() {
-    few();
-    many();
+pub(crate) fn run(out: &impl Print, err: &impl Print) {
+    few(out, err);
+    many(out, err);
 }

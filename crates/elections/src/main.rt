@@ -7,12 +7,15 @@
 // scenarios.rt     the scenarios
 // calls.rt         calls in IPv6 that no scenario has
 #![tactic(auto)]
+
 mod calls;
 mod election;
 mod output;
 mod scenarios;
 
-fn main() {
-    scenarios::run();
-    calls::run();
+fn main(rt: HostRuntime) {
+    let out = rt.stdout();
+    let err = rt.stderr();
+    scenarios::run(&out, &err);
+    calls::run(&out, &err);
 }

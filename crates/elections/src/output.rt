@@ -9,50 +9,71 @@ use neighbours::Elected;
 use printing::{case_at, front, refused, text, told};
 
 // The address elected, beside the one observed.
-fn compared(family: AddressFamily, a: Address, observed: Address) -> bool {
+fn compared(out: &impl Print, family: AddressFamily, a: Address, observed: Address) -> bool {
     if is_same(a, observed) {
-        return printing::address(is_ipv6(family), a) && text(b", agrees\n");
+        return printing::address(out, is_ipv6(family), a) && text(out, b", agrees\n");
     }
-    printing::address(is_ipv6(family), a)
-        && text(b", differs, observed ")
-        && printing::address(is_ipv6(family), observed)
-        && text(b"\n")
+    printing::address(out, is_ipv6(family), a)
+        && text(out, b", differs, observed ")
+        && printing::address(out, is_ipv6(family), observed)
+        && text(out, b"\n")
 }
 
-fn answer(family: AddressFamily, e: Elected, observed: Address) -> bool {
+fn answer(out: &impl Print, family: AddressFamily, e: Elected, observed: Address) -> bool {
     match e {
-        Elected::Is(a) => compared(family, a, observed),
-        Elected::Refused(r) => refused(r, b"\n"),
+        Elected::Is(a) => compared(out, family, a, observed),
+        Elected::Refused(r) => refused(out, r, b"\n"),
     }
 }
 
 // The election with the router at a place as our own. Our own always has a priority: one without is left out.
-fn line(family: AddressFamily, name: &[u8], m: &[u8], own: usize, observed: Address) -> bool
+fn line(
+    out: &impl Print,
+    family: AddressFamily,
+    name: &[u8],
+    m: &[u8],
+    own: usize,
+    observed: Address,
+) -> bool
     requires { own < length m.now }
 {
     if has_priority(family, m, own) {
-        return text(name)
-            && text(b", our own ")
-            && printing::address(is_ipv6(family), address(family, m, own))
-            && text(b": ")
-            && answer(family, elected(family, m, own), observed);
+        return text(out, name)
+            && text(out, b", our own ")
+            && printing::address(out, is_ipv6(family), address(family, m, own))
+            && text(out, b": ")
+            && answer(out, family, elected(family, m, own), observed);
     }
     true
 }
 
 // The election among all routers, each of them a row.
-fn rows_line(family: AddressFamily, name: &[u8], m: &[u8], observed: Address) -> bool {
-    text(name) && text(b", among the rows: ") && answer(family, elected_among(family, m), observed)
+fn rows_line(
+    out: &impl Print,
+    family: AddressFamily,
+    name: &[u8],
+    m: &[u8],
+    observed: Address,
+) -> bool {
+    text(out, name)
+        && text(out, b", among the rows: ")
+        && answer(out, family, elected_among(family, m), observed)
 }
 
-fn lines(family: AddressFamily, name: &[u8], m: &[u8], observed: Address) -> bool {
+fn lines(
+    out: &impl Print,
+    family: AddressFamily,
+    name: &[u8],
+    m: &[u8],
+    observed: Address,
+) -> bool {
     let size = router_size(family);
     if m.len() <= size {
-        return text(name) && text(b": fewer than two routers\n");
+        return text(out, name) && text(out, b": fewer than two routers\n");
     }
-    line(family, name, m, m.len() - size, observed)
-        && line(family, name, m, 0, observed)
-        && rows_line(family, name, m, observed)
+    line(out, family, name, m, m.len() - size, observed)
+        && line(out, family, name, m, 0, observed)
+        && rows_line(out, family, name, m, observed)
 }
 
 // How many octets stand before the last address.
@@ -66,19 +87,25 @@ fn before_address(family: AddressFamily, o: &[u8]) -> usize {
 
 // A scenario: its name, then its routers and the address that was observed to be elected. Where standard output takes no more,
 // standard error says so.
-fn show(family: AddressFamily, name: &[u8], o: &[u8]) {
+fn show(out: &impl Print, err: &impl Print, family: AddressFamily, name: &[u8], o: &[u8]) {
     let routers = before_address(family, o);
     let observed = address(family, o, routers);
-    let written = lines(family, name, front(o, routers), observed);
-    told(written, b"the elections were");
+    let written = lines(out, family, name, front(o, routers), observed);
+    told(err, written, b"the elections were");
 }
 
-pub(crate) fn show_all(family: AddressFamily, table: &[u8]) {
+pub(crate) fn show_all(out: &impl Print, err: &impl Print, family: AddressFamily, table: &[u8]) {
     let mut o = [0; 256];
     let mut at = 0;
     while at < table.len() {
         let c = case_at(table, at, &mut o);
-        show(family, front(&table[at..], c.name), front(&o, c.length));
+        show(
+            out,
+            err,
+            family,
+            front(&table[at..], c.name),
+            front(&o, c.length),
+        );
         at = c.next;
     }
 }

@@ -4,8 +4,10 @@ use crate::output::show_all;
 use format::AddressFamily;
 
 // Three FRR routers, with priorities and addresses chosen by hand.
-fn chosen() {
+fn chosen(out: &impl Print, err: &impl Print) {
     show_all(
+        out,
+        err,
         AddressFamily::Ipv4,
         b"\
 equal priorities, highest address
@@ -37,8 +39,10 @@ and now again without priority
 }
 
 // Three FRR routers and neighbours drawn at random.
-fn random() {
+fn random(out: &impl Print, err: &impl Print) {
     show_all(
+        out,
+        err,
         AddressFamily::Ipv4,
         b"\
 random 1 (seed 7761)
@@ -70,8 +74,10 @@ random 23 (seed 7761)
 }
 
 // Three FRR routers and pimd, which is 10.7.0.150.
-fn two_daemons() {
+fn two_daemons(out: &impl Print, err: &impl Print) {
     show_all(
+        out,
+        err,
         AddressFamily::Ipv4,
         b"\
 FRR r1 raised to 9
@@ -93,8 +99,10 @@ pimd 4294967294, FRR r1 2147483647
 }
 
 // Three FRR routers over IPv6 and a neighbour whose Hello was injected.
-fn six() {
+fn six(out: &impl Print, err: &impl Print) {
     show_all(
+        out,
+        err,
         AddressFamily::Ipv6,
         b"\
 IPv6: equal priorities, highest address
@@ -109,9 +117,9 @@ fe8000000000000000000000000000010000000101000012 fe80000000000000000000000000000
     );
 }
 
-pub(crate) fn run() {
-    chosen();
-    random();
-    two_daemons();
-    six();
+pub(crate) fn run(out: &impl Print, err: &impl Print) {
+    chosen(out, err);
+    random(out, err);
+    two_daemons(out, err);
+    six(out, err);
 }

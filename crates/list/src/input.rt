@@ -1,7 +1,7 @@
 // Reading standard input to its end, with a read that fails told from the end.
 ghost use Rattle.list.specs.Input.{Within};
 
-use libc::STDIN_FILENO;
+use std::io::{ErrorKind, Read};
 
 // What standard input holds.
 #[derive(Clone, Copy)]
@@ -11,21 +11,24 @@ pub(crate) enum Input {
     Failed,
 }
 
-// Reads until the input ends, the buffer is full, or a read fails.
-pub(crate) fn read_input(buf: &mut [u8]) -> Input
+// Reads until the input ends, the buffer is full, or a read fails. A read that a signal broke off is tried again.
+pub(crate) fn read_input(input: &mut impl Read, buf: &mut [u8]) -> Input
     ensures { Within result buf.new }
 {
     let mut n = 0;
-    while n < buf.len() {
-        let got = libc::read(STDIN_FILENO, &mut buf[n..]);
-        if got < 0 {
-            return Input::Failed;
-        }
-        let more = io::count(got, &buf[n..]);
-        if more == 0 {
+    for _ in 0..u64::MAX {
+        if buf.len() <= n {
             return Input::Octets(n);
         }
-        n += more;
+        match input.read(&mut buf[n..]) {
+            Ok(0) => return Input::Octets(n),
+            Ok(more) => n += more,
+            Err(e) => {
+                if e.kind() != ErrorKind::Interrupted {
+                    return Input::Failed;
+                }
+            }
+        }
     }
-    Input::Octets(n)
+    Input::Failed
 }

@@ -3,19 +3,22 @@
 //
 // input.rt     standard input read to its end
 #![tactic(auto)]
+
 mod input;
 
 use input::{Input, read_input};
-use libc::STDERR_FILENO;
+use printing::text;
 
 // The buffer is longer than the longest message, 65,515 octets, so that a longer input is refused and not cut.
-fn main() {
-    let mut buf = io::large_buffer();
-    let found = read_input(&mut buf);
+fn main(rt: HostRuntime) {
+    let out = rt.stdout();
+    let err = rt.stderr();
+    let mut buf = [0; 65536];
+    let found = read_input(&mut rt.stdin(), &mut buf);
     match found {
-        Input::Octets(n) => listing::list(&buf[..n]),
+        Input::Octets(n) => listing::list(&out, &err, &buf[..n]),
         Input::Failed => {
-            io::write_all(STDERR_FILENO, b"list: standard input cannot be read\n");
+            text(&err, b"list: standard input cannot be read\n");
         }
     }
 }

@@ -8,6 +8,7 @@
 //
 // Programs that name what they list, or list what no message holds, call `show`, `show_all`, `list_of`, `record` and `refused`.
 #![tactic(auto)]
+
 mod line;
 mod value;
 mod words;
@@ -36,79 +37,94 @@ fn pair_room() -> [u8; 62028]
     [0; 62028]
 }
 
-fn list_hello(family: AddressFamily, path: Path, m: &[u8]) -> bool {
+fn list_hello(out: &impl Print, family: AddressFamily, path: Path, m: &[u8]) -> bool {
     let h = hello::read_hello(family, path, m);
     match h {
-        HelloRead::Is(says) => hello_lines(says),
-        HelloRead::Refused(r) => refused_line(r),
+        HelloRead::Is(says) => hello_lines(out, says),
+        HelloRead::Refused(r) => refused_line(out, r),
     }
 }
 
-fn list_asserts(family: AddressFamily, path: Path, m: &[u8]) -> bool {
+fn list_asserts(out: &impl Print, family: AddressFamily, path: Path, m: &[u8]) -> bool {
     let mut entries = assert_room();
     let ipv6 = is_ipv6(family);
     let found = reading::read_asserts(family, path, m, &mut entries);
     match found {
-        Reading::Entries { kind, count } => heading(kind, count)
-            && assert_lines(ipv6, &entries, count),
-        Reading::Refused(r) => refused_line(r),
+        Reading::Entries { kind, count } => heading(out, kind, count)
+            && assert_lines(out, ipv6, &entries, count),
+        Reading::Refused(r) => refused_line(out, r),
     }
 }
 
-fn list_pairs(family: AddressFamily, path: Path, m: &[u8]) -> bool {
+fn list_pairs(out: &impl Print, family: AddressFamily, path: Path, m: &[u8]) -> bool {
     let mut entries = pair_room();
     let ipv6 = is_ipv6(family);
     let found = reading::read_pairs(family, path, m, &mut entries);
     match found {
-        Reading::Entries { kind, count } => heading(kind, count)
-            && pair_lines(ipv6, &entries, count),
-        Reading::Refused(r) => refused_line(r),
+        Reading::Entries { kind, count } => heading(out, kind, count)
+            && pair_lines(out, ipv6, &entries, count),
+        Reading::Refused(r) => refused_line(out, r),
     }
 }
 
 // The kind says which call reads the rest. Whether all was written.
-fn list_message(family: AddressFamily, path: Path, m: &[u8]) -> bool {
+fn list_message(out: &impl Print, family: AddressFamily, path: Path, m: &[u8]) -> bool {
     let h = reading::header(family, path, m);
     match h {
-        Headed::Refused(r) => refused_line(r),
+        Headed::Refused(r) => refused_line(out, r),
         Headed::Is(kind) => match kind {
-            Kind::Hello => list_hello(family, path, m),
-            Kind::Assert => list_asserts(family, path, m),
-            Kind::Simple => list_asserts(family, path, m),
-            Kind::Aggregated => list_asserts(family, path, m),
-            Kind::NullRegister => list_pairs(family, path, m),
-            Kind::RegisterStop => list_pairs(family, path, m),
+            Kind::Hello => list_hello(out, family, path, m),
+            Kind::Assert => list_asserts(out, family, path, m),
+            Kind::Simple => list_asserts(out, family, path, m),
+            Kind::Aggregated => list_asserts(out, family, path, m),
+            Kind::NullRegister => list_pairs(out, family, path, m),
+            Kind::RegisterStop => list_pairs(out, family, path, m),
         },
     }
 }
 
 // Where standard output takes no more, standard error says so.
-fn told(written: bool) {
-    printing::told(written, b"the listing was");
+fn told(err: &impl Print, written: bool) {
+    printing::told(err, written, b"the listing was");
 }
 
 // Lists a message of a family.
-pub fn list_of(family: AddressFamily, path: Path, m: &[u8]) {
-    told(list_message(family, path, m));
+pub fn list_of(out: &impl Print, err: &impl Print, family: AddressFamily, path: Path, m: &[u8]) {
+    told(err, list_message(out, family, path, m));
 }
 
 // Lists a message of IPv4.
-pub fn list(m: &[u8]) {
-    list_of(AddressFamily::Ipv4, nowhere(), m);
+pub fn list(out: &impl Print, err: &impl Print, m: &[u8]) {
+    list_of(out, err, AddressFamily::Ipv4, nowhere(), m);
 }
 
 // A message of a family with its name.
-pub fn show(family: AddressFamily, path: Path, name: &[u8], m: &[u8]) {
-    told(title(name) && list_message(family, path, m));
+pub fn show(
+    out: &impl Print,
+    err: &impl Print,
+    family: AddressFamily,
+    path: Path,
+    name: &[u8],
+    m: &[u8],
+) {
+    told(err, title(out, name) && list_message(out, family, path, m));
 }
 
 // Every message of a table with its name, each of at most 1,480 octets, and all of one family and one path.
-pub fn show_all(family: AddressFamily, path: Path, table: &[u8]) {
+pub fn show_all(
+    out: &impl Print,
+    err: &impl Print,
+    family: AddressFamily,
+    path: Path,
+    table: &[u8],
+) {
     let mut m = [0; 1480];
     let mut at = 0;
     while at < table.len() {
         let c = case_at(table, at, &mut m);
         show(
+            out,
+            err,
             family,
             path,
             front(&table[at..], c.name),
@@ -119,11 +135,11 @@ pub fn show_all(family: AddressFamily, path: Path, table: &[u8]) {
 }
 
 // A record that was read singly, with its number.
-pub fn record(family: AddressFamily, n: usize, r: Record) {
-    told(record_line(is_ipv6(family), n, r));
+pub fn record(out: &impl Print, err: &impl Print, family: AddressFamily, n: usize, r: Record) {
+    told(err, record_line(out, is_ipv6(family), n, r));
 }
 
 // What a call refused.
-pub fn refused(r: Refusal) {
-    told(refused_line(r));
+pub fn refused(out: &impl Print, err: &impl Print, r: Refusal) {
+    told(err, refused_line(out, r));
 }

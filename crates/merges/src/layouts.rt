@@ -2,25 +2,26 @@
 use crate::output::read;
 use printing::{case_at, front, text};
 
-fn case(name: &[u8], o: &[u8]) {
-    text(name);
-    text(b": ");
-    read(o, 0);
+fn case(out: &impl Print, name: &[u8], o: &[u8]) {
+    text(out, name);
+    text(out, b": ");
+    read(out, o, 0);
 }
 
-fn cases(table: &[u8]) {
+fn cases(out: &impl Print, table: &[u8]) {
     let mut o = [0; 64];
     let mut at = 0;
     while at < table.len() {
         let c = case_at(table, at, &mut o);
-        case(front(&table[at..], c.name), front(&o, c.length));
+        case(out, front(&table[at..], c.name), front(&o, c.length));
         at = c.next;
     }
 }
 
 // A minimum-size attribute, one with all options, one with stub and node.
-fn layouts() {
+fn layouts(out: &impl Print) {
     cases(
+        out,
         b"\
 no option
 030605dc00110000
@@ -32,8 +33,9 @@ stub and node
     );
 }
 
-fn lengths() {
+fn lengths(out: &impl Print) {
     cases(
+        out,
         b"\
 length 5
 030505dc000100
@@ -51,8 +53,9 @@ an unallocated option bit, too short for the known ones
     );
 }
 
-fn heads() {
+fn heads(out: &impl Print) {
     cases(
+        out,
         b"\
 F
 830605dc00110000
@@ -70,8 +73,8 @@ cut in a value
     );
 }
 
-pub(crate) fn run() {
-    layouts();
-    lengths();
-    heads();
+pub(crate) fn run(out: &impl Print) {
+    layouts(out);
+    lengths(out);
+    heads(out);
 }

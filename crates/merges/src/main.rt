@@ -6,13 +6,15 @@
 // layouts.rt      the three layouts of section 3.2, and damaged attributes
 // merging.rt      0, 1, 2 and 20 contributors, with and without each option, and at the maxima
 #![tactic(auto)]
+
 mod layouts;
 mod merging;
 mod output;
 mod speeds;
 
-fn main() {
-    speeds::run();
-    layouts::run();
-    merging::run();
+fn main(rt: HostRuntime) {
+    let out = rt.stdout();
+    speeds::run(&out);
+    layouts::run(&out);
+    merging::run(&out);
 }

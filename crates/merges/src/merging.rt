@@ -19,16 +19,16 @@ fn own() -> Own {
 }
 
 // What merging writes into a buffer, read back.
-fn line(e: bool, contributors: &[u8], d: &mut [u8]) {
+fn line(out: &impl Print, e: bool, contributors: &[u8], d: &mut [u8]) {
     let m = popcount::merge(own(), e, contributors, d);
     match m {
         Writing::Wrote(n) => {
-            number(b"length ", n as u64);
-            text(b": ");
-            read(d, 0);
+            number(out, b"length ", n as u64);
+            text(out, b": ");
+            read(out, d, 0);
         }
         Writing::Refused(r) => {
-            refused(r, b"\n");
+            refused(out, r, b"\n");
         }
     }
 }
@@ -52,7 +52,7 @@ fn paste(d: &mut [u8], at: usize, s: &[u8]) -> usize
 }
 
 // A contributor with all options so many times, then another one.
-fn contributors(name: &[u8], n: usize, last: &[u8]) {
+fn contributors(out: &impl Print, name: &[u8], n: usize, last: &[u8]) {
     let mut o = [0; 480];
     let mut at = 0;
     for i in 0..n {
@@ -63,41 +63,42 @@ fn contributors(name: &[u8], n: usize, last: &[u8]) {
         );
     }
     let end = paste(&mut o, at, last);
-    text(name);
-    number(b", ", n as u64);
-    text(b" others: ");
+    text(out, name);
+    number(out, b", ", n as u64);
+    text(out, b" others: ");
     let mut d = [0xee; 24];
-    line(false, front(&o, end), &mut d);
+    line(out, false, front(&o, end), &mut d);
 }
 
-fn each(name: &[u8], last: &[u8]) {
-    contributors(name, 0, last);
-    contributors(name, 1, last);
-    contributors(name, 19, last);
+fn each(out: &impl Print, name: &[u8], last: &[u8]) {
+    contributors(out, name, 0, last);
+    contributors(out, name, 1, last);
+    contributors(out, name, 19, last);
 }
 
 // Every contributor of a table, alone and after others.
-fn each_of(table: &[u8]) {
+fn each_of(out: &impl Print, table: &[u8]) {
     let mut o = [0; 64];
     let mut at = 0;
     while at < table.len() {
         let c = case_at(table, at, &mut o);
-        each(front(&table[at..], c.name), front(&o, c.length));
+        each(out, front(&table[at..], c.name), front(&o, c.length));
         at = c.next;
     }
 }
 
-fn none() {
+fn none(out: &impl Print) {
     let mut d = [0xee; 24];
-    text(b"no contributor: ");
-    line(false, b"", &mut d);
-    text(b"no contributor, E: ");
-    line(true, b"", &mut d);
+    text(out, b"no contributor: ");
+    line(out, false, b"", &mut d);
+    text(out, b"no contributor, E: ");
+    line(out, true, b"", &mut d);
 }
 
 // With all options, at the maxima, and with equal speeds in other encodings.
-fn whole() {
+fn whole(out: &impl Print) {
     each_of(
+        out,
         b"\
 all options
 031605780019ff0000000064000000c80805186403070402
@@ -109,8 +110,9 @@ other encodings
     );
 }
 
-fn lacking() {
+fn lacking(out: &impl Print) {
     each_of(
+        out,
         b"\
 without transit
 0312051400067f00000000c80805186403070402
@@ -132,33 +134,35 @@ without time zone
     );
 }
 
-fn refusals() {
+fn refusals(out: &impl Print) {
     let mut d = [0xee; 24];
-    text(b"the second cut: ");
+    text(out, b"the second cut: ");
     line(
+        out,
         false,
         b"\x03\x16\x05\x78\x00\x19\xff\x00\x00\x00\x00\x64\x00\x00\x00\xc8\x08\x05\x18\x64\x03\x07\x04\x02\x03\x16\x05\x78\x00\x19\xff\x00\x00\x00\x00\x64\x00\x00\x00\xc8\x08\x05\x18\x64\x03\x07\x04",
         &mut d,
     );
-    text(b"the second of another type: ");
+    text(out, b"the second of another type: ");
     line(
+        out,
         false,
         b"\x03\x16\x05\x78\x00\x19\xff\x00\x00\x00\x00\x64\x00\x00\x00\xc8\x08\x05\x18\x64\x03\x07\x04\x02\x02\x16\x05\x78\x00\x19\xff\x00\x00\x00\x00\x64\x00\x00\x00\xc8\x08\x05\x18\x64\x03\x07\x04\x02",
         &mut d,
     );
     let mut small = [0xee; 23];
-    text(b"room for 23 octets, no contributor: ");
-    line(false, b"", &mut small);
+    text(out, b"room for 23 octets, no contributor: ");
+    line(out, false, b"", &mut small);
     let mut less = [0xee; 21];
-    text(b"room for 21 octets: ");
-    line(false, b"", &mut less);
-    text(b"room for 21 octets, and the contributor cut: ");
-    line(false, b"\x03", &mut less);
+    text(out, b"room for 21 octets: ");
+    line(out, false, b"", &mut less);
+    text(out, b"room for 21 octets, and the contributor cut: ");
+    line(out, false, b"\x03", &mut less);
 }
 
-pub(crate) fn run() {
-    none();
-    whole();
-    lacking();
-    refusals();
+pub(crate) fn run(out: &impl Print) {
+    none(out);
+    whole(out);
+    lacking(out);
+    refusals(out);
 }

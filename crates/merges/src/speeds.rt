@@ -8,28 +8,28 @@ const SPEEDS: [u16; 13] = [
     500, 2053, 3227, 6184, 6244, 8193, 0, 64512, 1, 1023, 4095, 65535, 64513,
 ];
 
-fn compared(a: u16, b: u16) -> bool {
+fn compared(out: &impl Print, a: u16, b: u16) -> bool {
     let o = popcount::compare_speeds(a, b);
     match o {
-        Order::Less => text(b" <"),
-        Order::Equal => text(b" ="),
-        Order::Greater => text(b" >"),
+        Order::Less => text(out, b" <"),
+        Order::Equal => text(out, b" ="),
+        Order::Greater => text(out, b" >"),
     }
 }
 
-fn line(a: u16) {
-    number(b"speed ", a as u64);
-    text(b":");
+fn line(out: &impl Print, a: u16) {
+    number(out, b"speed ", a as u64);
+    text(out, b":");
     let all = SPEEDS;
     for i in 0..13 {
-        compared(a, all[i]);
+        compared(out, a, all[i]);
     }
-    text(b"\n");
+    text(out, b"\n");
 }
 
-pub(crate) fn run() {
+pub(crate) fn run(out: &impl Print) {
     let all = SPEEDS;
     for i in 0..13 {
-        line(all[i]);
+        line(out, all[i]);
     }
 }

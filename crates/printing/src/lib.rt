@@ -4,6 +4,7 @@
 // table.rt     cases written as text: a name, and octets in hexadecimal
 // part.rt      the front of a slice, what two have in common, an address or an entry put into one
 #![tactic(auto)]
+
 mod line;
 mod part;
 mod table;

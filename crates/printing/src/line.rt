@@ -1,94 +1,99 @@
-// Texts, numbers, addresses and refusals on standard output. Each function answers whether all of its text was written, and stops at
-// the first write that failed. No contract can say what is written.
+// Texts, numbers, addresses and refusals, written to `out`. Each function answers whether all of its text was written, and stops at the
+// first write that failed. No contract can say what is written.
 use format::{Address, Refusal};
-use libc::{STDERR_FILENO, STDOUT_FILENO};
 
-pub fn text(s: &[u8]) -> bool {
-    io::write_all(STDOUT_FILENO, s)
+pub fn text(out: &impl Print, s: &[u8]) -> bool {
+    out.write_all(s).is_ok()
 }
 
-pub fn decimal(n: u64) -> bool {
-    io::print_decimal(STDOUT_FILENO, n)
+pub fn decimal(out: &impl Print, n: u64) -> bool {
+    out.print(n).is_ok()
 }
 
 // What stands before a number, and the number.
-pub fn number(before: &[u8], n: u64) -> bool {
-    text(before) && decimal(n)
+pub fn number(out: &impl Print, before: &[u8], n: u64) -> bool {
+    text(out, before) && decimal(out, n)
 }
 
 // A name, a number, and the line's end.
-pub fn named(name: &[u8], n: u64) -> bool {
-    number(name, n) && text(b"\n")
+pub fn named(out: &impl Print, name: &[u8], n: u64) -> bool {
+    number(out, name, n) && text(out, b"\n")
 }
 
 // A line with a name.
-pub fn title(name: &[u8]) -> bool {
-    text(name) && text(b"\n")
+pub fn title(out: &impl Print, name: &[u8]) -> bool {
+    text(out, name) && text(out, b"\n")
 }
 
-pub fn flag(b: bool) -> bool {
+pub fn flag(out: &impl Print, b: bool) -> bool {
     if b {
-        return text(b"1");
+        return text(out, b"1");
     }
-    text(b"0")
+    text(out, b"0")
 }
 
 // An IPv4 address, octet by octet.
-fn four(a: u64) -> bool {
-    decimal(a / 0x1_000000 % 256)
-        && number(b".", a / 0x1_0000 % 256)
-        && number(b".", a / 0x1_00 % 256)
-        && number(b".", a % 256)
+fn four(out: &impl Print, a: u64) -> bool {
+    decimal(out, a / 0x1_000000 % 256)
+        && number(out, b".", a / 0x1_0000 % 256)
+        && number(out, b".", a / 0x1_00 % 256)
+        && number(out, b".", a % 256)
 }
 
-fn hexadecimal(n: u64) -> bool {
-    io::print_hex(STDOUT_FILENO, n, 1)
+fn hexadecimal(out: &impl Print, n: u64) -> bool {
+    print!(out; "{n:x}").is_ok()
 }
 
 // Four groups of 16 bits.
-fn groups(n: u64) -> bool {
-    hexadecimal(n / 0x1_0000_0000_0000)
-        && text(b":")
-        && hexadecimal(n / 0x1_0000_0000 % 0x1_0000)
-        && text(b":")
-        && hexadecimal(n / 0x1_0000 % 0x1_0000)
-        && text(b":")
-        && hexadecimal(n % 0x1_0000)
+fn groups(out: &impl Print, n: u64) -> bool {
+    hexadecimal(out, n / 0x1_0000_0000_0000)
+        && text(out, b":")
+        && hexadecimal(out, n / 0x1_0000_0000 % 0x1_0000)
+        && text(out, b":")
+        && hexadecimal(out, n / 0x1_0000 % 0x1_0000)
+        && text(out, b":")
+        && hexadecimal(out, n % 0x1_0000)
 }
 
 // An IPv6 address: fe80::1 where all groups but the first and the last are 0, and else all eight groups.
-fn sixteen(a: Address) -> bool {
+fn sixteen(out: &impl Print, a: Address) -> bool {
     if addresses::is_zero(a) {
-        return text(b"::");
+        return text(out, b"::");
     }
     if a.high % 0x1_0000_0000_0000 == 0 && a.low < 0x1_0000 {
-        return hexadecimal(a.high / 0x1_0000_0000_0000) && text(b"::") && hexadecimal(a.low);
+        return hexadecimal(out, a.high / 0x1_0000_0000_0000)
+            && text(out, b"::")
+            && hexadecimal(out, a.low);
     }
-    groups(a.high) && text(b":") && groups(a.low)
+    groups(out, a.high) && text(out, b":") && groups(out, a.low)
 }
 
 // An address of a family.
-pub fn address(ipv6: bool, a: Address) -> bool {
+pub fn address(out: &impl Print, ipv6: bool, a: Address) -> bool {
     if ipv6 {
-        return sixteen(a);
+        return sixteen(out, a);
     }
-    four(a.low)
+    four(out, a.low)
 }
 
 // A refusal, and what follows it.
-pub fn refused(r: Refusal, after: &[u8]) -> bool {
-    number(b"refused ", r.number as u64) && number(b" at ", r.place as u64) && text(after)
+pub fn refused(out: &impl Print, r: Refusal, after: &[u8]) -> bool {
+    number(out, b"refused ", r.number as u64)
+        && number(out, b" at ", r.place as u64)
+        && text(out, after)
 }
 
 // What a packing call wrote.
-pub fn packed(length: usize, taken: usize) -> bool {
-    number(b"octets ", length as u64) && number(b", taken ", taken as u64) && text(b"\n")
+pub fn packed(out: &impl Print, length: usize, taken: usize) -> bool {
+    number(out, b"octets ", length as u64)
+        && number(out, b", taken ", taken as u64)
+        && text(out, b"\n")
 }
 
-// Where standard output takes no more, standard error says what was cut.
-pub fn told(written: bool, cut: &[u8]) {
+// Where standard output takes no more, `err`, standard error, says what was cut.
+pub fn told(err: &impl Print, written: bool, cut: &[u8]) {
     if !written {
-        io::write_all(STDERR_FILENO, cut);
-        io::write_all(STDERR_FILENO, b" cut: standard output failed\n");
+        text(err, cut);
+        text(err, b" cut: standard output failed\n");
     }
 }

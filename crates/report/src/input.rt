@@ -5,8 +5,8 @@ ghost use Rattle.std.proofs.Math.Seq.{paste};
 ghost use Rattle.reporting.specs.File.{file_of};
 ghost use Rattle.reporting.specs.Report.{taken_from};
 
-use libc::STDIN_FILENO;
 use reporting::Tally;
+use std::io::{ErrorKind, Read};
 
 // How standard input ends.
 #[derive(Clone, Copy)]
@@ -30,9 +30,6 @@ struct Counted {
     pub tally: Tally,
     pub left: usize,
 }
-
-// More reads than any input needs: each gives an octet at least.
-const READS: u64 = 0xffff_ffff_ffff_ffff;
 
 // Room for what is left of a piece, 65,536 octets at most, and as much again to read into.
 pub(crate) fn buffer() -> [u8; 131072]
@@ -69,27 +66,28 @@ fn count_piece(t: Tally, buf: &mut [u8], n: usize) -> Counted
     Counted { tally, left }
 }
 
-// Reads until the input ends or a read fails.
-pub(crate) fn read_input(buf: &mut [u8]) -> Found {
+// Reads until the input ends or a read fails. A read that a signal broke off is tried again. The reads are more than any input needs:
+// each gives an octet at least.
+pub(crate) fn read_input(input: &mut impl Read, buf: &mut [u8]) -> Found {
     let mut tally = reporting::none();
     let mut left = 0;
-    let mut reads = READS;
-    while 0 < reads {
-        reads -= 1;
-        let got = libc::read(STDIN_FILENO, &mut buf[left..]);
-        if got < 0 {
-            return Found {
-                tally,
-                ending: Ending::Failed,
-            };
+    for _ in 0..u64::MAX {
+        match input.read(&mut buf[left..]) {
+            Ok(0) => return at_end(tally, left),
+            Ok(more) => {
+                let next = count_piece(tally, buf, left + more);
+                tally = next.tally;
+                left = next.left;
+            }
+            Err(e) => {
+                if e.kind() != ErrorKind::Interrupted {
+                    return Found {
+                        tally,
+                        ending: Ending::Failed,
+                    };
+                }
+            }
         }
-        let more = io::count(got, &buf[left..]);
-        if more == 0 {
-            return at_end(tally, left);
-        }
-        let next = count_piece(tally, buf, left + more);
-        tally = next.tally;
-        left = next.left;
     }
     Found {
         tally,

@@ -4,25 +4,25 @@ use printing::{named, number, text, title, told};
 use reporting::{Fraction, NUMBERS, Tally};
 
 // A kind, its messages and their records.
-fn kind(name: &[u8], t: Totals) -> bool {
-    text(name) && number(b" ", t.messages) && named(b" ", t.records)
+fn kind(out: &impl Print, name: &[u8], t: Totals) -> bool {
+    text(out, name) && number(out, b" ", t.messages) && named(out, b" ", t.records)
 }
 
 // The kinds in 01's order.
-fn kinds(t: ByKind) -> bool {
-    kind(b"hello", t.hello)
-        && kind(b"assert", t.assert)
-        && kind(b"simple", t.simple)
-        && kind(b"aggregated", t.aggregated)
-        && kind(b"null-register", t.null_register)
-        && kind(b"register-stop", t.register_stop)
+fn kinds(out: &impl Print, t: ByKind) -> bool {
+    kind(out, b"hello", t.hello)
+        && kind(out, b"assert", t.assert)
+        && kind(out, b"simple", t.simple)
+        && kind(out, b"aggregated", t.aggregated)
+        && kind(out, b"null-register", t.null_register)
+        && kind(out, b"register-stop", t.register_stop)
 }
 
 // The numbers from 1 on.
-fn numbers(refused: [u64; NUMBERS]) -> bool {
+fn numbers(out: &impl Print, refused: [u64; NUMBERS]) -> bool {
     let mut n = 1;
     while n < NUMBERS {
-        if !(number(b"refused ", n as u64) && named(b" ", refused[n])) {
+        if !(number(out, b"refused ", n as u64) && named(out, b" ", refused[n])) {
             return false;
         }
         n += 1;
@@ -30,23 +30,23 @@ fn numbers(refused: [u64; NUMBERS]) -> bool {
     true
 }
 
-fn mean(f: Fraction) -> bool {
-    number(b"mean ", f.numerator) && named(b"/", f.denominator)
+fn mean(out: &impl Print, f: Fraction) -> bool {
+    number(out, b"mean ", f.numerator) && named(out, b"/", f.denominator)
 }
 
-fn ending(whole: bool) -> bool {
+fn ending(out: &impl Print, whole: bool) -> bool {
     if whole {
-        return title(b"whole");
+        return title(out, b"whole");
     }
-    title(b"cut")
+    title(out, b"cut")
 }
 
 // All lines, up to the first that cannot be written.
-pub(crate) fn print(t: Tally, whole: bool) {
+pub(crate) fn print(out: &impl Print, err: &impl Print, t: Tally, whole: bool) {
     let refused = t.refused;
-    let written = kinds(t.accepted)
-        && numbers(refused)
-        && mean(reporting::mean(t))
-        && ending(whole);
-    told(written, b"the report was");
+    let written = kinds(out, t.accepted)
+        && numbers(out, refused)
+        && mean(out, reporting::mean(t))
+        && ending(out, whole);
+    told(err, written, b"the report was");
 }

@@ -5,28 +5,31 @@
 // input.rt     standard input read piece by piece, and its messages counted
 // lines.rt     the report printed
 #![tactic(auto)]
+
 mod input;
 mod lines;
 
 use input::{Ending, read_input};
-use libc::STDERR_FILENO;
+use printing::text;
 
 // The ending tells a read that failed.
-fn told(ending: Ending) -> bool {
+fn told(err: &impl Print, ending: Ending) -> bool {
     match ending {
         Ending::Whole => true,
         Ending::Cut => false,
         Ending::Failed => {
-            io::write_all(STDERR_FILENO, b"report: standard input cannot be read\n");
+            text(err, b"report: standard input cannot be read\n");
             false
         }
     }
 }
 
-fn main() {
+fn main(rt: HostRuntime) {
+    let out = rt.stdout();
+    let err = rt.stderr();
     let mut buf = input::buffer();
-    let found = read_input(&mut buf);
+    let found = read_input(&mut rt.stdin(), &mut buf);
     let ending = found.ending;
-    let whole = told(ending);
-    lines::print(found.tally, whole);
+    let whole = told(&err, ending);
+    lines::print(&out, &err, found.tally, whole);
 }

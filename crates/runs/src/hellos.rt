@@ -2,8 +2,10 @@
 use crate::shown::show_ipv4;
 
 // Holdtime 30 s, priority 5, packing: none, each alone, all, and options that are skipped.
-fn said() {
+fn said(out: &impl Print, err: &impl Print) {
     show_ipv4(
+        out,
+        err,
         b"\
 Hello: no option
 2000dfff
@@ -24,8 +26,10 @@ Hello: an unknown option twice, and one of no octets
 }
 
 // 13: a known option of another length, or given twice, also where its value is cut.
-fn refused() {
+fn refused(out: &impl Print, err: &impl Print) {
     show_ipv4(
+        out,
+        err,
         b"\
 Hello: holdtime of 4 octets
 2000dfdc000100040000001e
@@ -46,8 +50,10 @@ Hello: a second holdtime, cut in its value
 }
 
 // 6: cut in an option.
-fn cut() {
+fn cut(out: &impl Print, err: &impl Print) {
     show_ipv4(
+        out,
+        err,
         b"\
 Hello: cut in a type
 2000dfde00010002001e00
@@ -61,8 +67,8 @@ Hello: an unknown option cut, after all three
     );
 }
 
-pub(crate) fn run() {
-    said();
-    refused();
-    cut();
+pub(crate) fn run(out: &impl Print, err: &impl Print) {
+    said(out, err);
+    refused(out, err);
+    cut(out, err);
 }

@@ -1,8 +1,10 @@
 // Hellos of IPv6: with and without each option, and what is refused of them. An address list (RFC 7761, 4.9.2) is skipped.
 use crate::shown::show_ipv6;
 
-fn said() {
+fn said(out: &impl Print, err: &impl Print) {
     show_ipv6(
+        out,
+        err,
         b"\
 IPv6, Hello: no option
 20007c7c
@@ -23,8 +25,10 @@ IPv6, Hello: an address list, an unknown option twice, and one of no octets
 }
 
 // 13: a known option of another length, or given twice, also where its value is cut.
-fn refused() {
+fn refused(out: &impl Print, err: &impl Print) {
     show_ipv6(
+        out,
+        err,
         b"\
 IPv6, Hello: holdtime of 4 octets
 20007c51000100040000001e
@@ -45,8 +49,10 @@ IPv6, Hello: a second holdtime, cut in its value
 }
 
 // 6: cut in an option.
-fn cut() {
+fn cut(out: &impl Print, err: &impl Print) {
     show_ipv6(
+        out,
+        err,
         b"\
 IPv6, Hello: cut in a type
 20007c5400010002001e00
@@ -60,8 +66,8 @@ IPv6, Hello: an address list cut, after all three
     );
 }
 
-pub(crate) fn run() {
-    said();
-    refused();
-    cut();
+pub(crate) fn run(out: &impl Print, err: &impl Print) {
+    said(out, err);
+    refused(out, err);
+    cut(out, err);
 }

@@ -2,8 +2,10 @@
 use crate::shown::show_ipv4;
 
 // 01, examples 1 and 6.
-fn examples() {
+fn examples(out: &impl Print, err: &impl Print) {
     show_ipv4(
+        out,
+        err,
         b"\
 example 1, simple
 2501e5580000000001000020e801010101000a0000010000006e00000014
@@ -14,8 +16,10 @@ example 6, one group record with p=2
 }
 
 // RFC 9466, figures 6 to 8.
-fn aggregated() {
+fn aggregated(out: &impl Print, err: &impl Print) {
     show_ipv4(
+        out,
+        err,
         b"\
 a source aggregated record with two groups
 25033166000000000a0b0c0d1112131401000a1516170002000001000020e831323301000020ef414243
@@ -28,8 +32,10 @@ both in one message
 }
 
 // RFC 7761, 4.9.6; RFC 9466, figures 3 and 4; RFC 9465.
-fn others() {
+fn others(out: &impl Print, err: &impl Print) {
     show_ipv4(
+        out,
+        err,
         b"\
 a plain assert with R=1
 2500555101000020e3a1a2a301000ab1b2b38c1d2e3fc1c2c3c4
@@ -44,8 +50,10 @@ a Register-Stop message with two records
 }
 
 // Accepted, though they are written otherwise; and the sources beside those that are refused.
-fn accepted() {
+fn accepted(out: &impl Print, err: &impl Print) {
     show_ipv4(
+        out,
+        err,
         b"\
 ignored bits, flags and Reserved set
 25fd31f700a1b2c30100ff20e801010101000a0000010000006e00000014
@@ -65,9 +73,9 @@ sources 223.255.255.255, 240.0.0.0 and 255.255.255.254
     );
 }
 
-pub(crate) fn run() {
-    examples();
-    aggregated();
-    others();
-    accepted();
+pub(crate) fn run(out: &impl Print, err: &impl Print) {
+    examples(out, err);
+    aggregated(out, err);
+    others(out, err);
+    accepted(out, err);
 }

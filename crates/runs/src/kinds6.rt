@@ -3,8 +3,10 @@
 use crate::shown::show_ipv6;
 
 // RFC 9466, figures 6 to 8.
-fn aggregated() {
+fn aggregated(out: &impl Print, err: &impl Print) {
     show_ipv6(
+        out,
+        err,
         b"\
 IPv6, a source aggregated record with two groups
 25031ae5000000000102030405060708020020010db81112131415161718191a1b1c0002000002000080ff3e2122232425262728292a2b2c2d2e02000080ff0e3132333435363738393a3b3c3d3e
@@ -19,8 +21,10 @@ IPv6, both in one message, p=2 and p=0
 }
 
 // RFC 7761, 4.9.6 and 4.9.2; RFC 9466, figures 3 and 4; RFC 9465.
-fn others() {
+fn others(out: &impl Print, err: &impl Print) {
     show_ipv6(
+        out,
+        err,
         b"\
 IPv6, a plain assert
 25009f1e02000080ff3e2122232425262728292a2b2c2d2e020020010db81112131415161718191a1b1c0102030405060708
@@ -37,8 +41,10 @@ IPv6, a Hello
 }
 
 // Accepted, though they are written otherwise; and addresses beside those that are refused.
-fn accepted() {
+fn accepted(out: &impl Print, err: &impl Print) {
     show_ipv6(
+        out,
+        err,
         b"\
 IPv6, ignored bits, flags and Reserved set
 25fd91eb00a1b2c30200ff80ff3e0000000000000000000000000001020020010db80000000000000000000000010000006e00000014
@@ -56,8 +62,8 @@ IPv6, group ff00::, sources ::1 and feff:ffff:ffff:ffff:ffff:ffff:ffff:ffff
     );
 }
 
-pub(crate) fn run() {
-    aggregated();
-    others();
-    accepted();
+pub(crate) fn run(out: &impl Print, err: &impl Print) {
+    aggregated(out, err);
+    others(out, err);
+    accepted(out, err);
 }

@@ -9,6 +9,7 @@
 // kinds6.rt        the same in IPv6, and so refusals6.rt, hellos6.rt, written6.rt and packs6.rt
 // shown.rt         the messages of a table listed; octets printed
 #![tactic(auto)]
+
 mod hellos;
 mod hellos6;
 mod kinds;
@@ -33,28 +34,29 @@ fn holds(ipv6: bool, m: &[u8]) -> bool {
     checksum::holds(m)
 }
 
-fn line(ipv6: bool, name: &[u8], m: &[u8]) {
-    text(name);
-    number(b": ", m.len() as u64);
+fn line(out: &impl Print, ipv6: bool, name: &[u8], m: &[u8]) {
+    text(out, name);
+    number(out, b": ", m.len() as u64);
     if holds(ipv6, m) {
-        text(b" octets, checksum holds\n");
+        text(out, b" octets, checksum holds\n");
     } else {
-        text(b" octets, checksum wrong\n");
+        text(out, b" octets, checksum wrong\n");
     }
 }
 
-fn lines(ipv6: bool, table: &[u8]) {
+fn lines(out: &impl Print, ipv6: bool, table: &[u8]) {
     let mut m = [0; 1480];
     let mut at = 0;
     while at < table.len() {
         let c = case_at(table, at, &mut m);
-        line(ipv6, front(&table[at..], c.name), front(&m, c.length));
+        line(out, ipv6, front(&table[at..], c.name), front(&m, c.length));
         at = c.next;
     }
 }
 
-fn checksums() {
+fn checksums(out: &impl Print) {
     lines(
+        out,
         false,
         b"\
 example 1, simple
@@ -73,8 +75,9 @@ register-stop
     );
 }
 
-fn checksums_ipv6() {
+fn checksums_ipv6(out: &impl Print) {
     lines(
+        out,
         true,
         b"\
 IPv6, source aggregated
@@ -100,32 +103,34 @@ IPv6, summed as in IPv4
 }
 
 // Longer than the longest message, in either family.
-fn too_long(family: AddressFamily, name: &[u8]) {
-    let octets = io::large_buffer();
-    listing::show(family, path(), name, &octets);
+fn too_long(out: &impl Print, err: &impl Print, family: AddressFamily, name: &[u8]) {
+    let octets = [0; 65536];
+    listing::show(out, err, family, path(), name, &octets);
 }
 
-fn ipv4() {
-    checksums();
-    kinds::run();
-    refusals::run();
-    too_long(AddressFamily::Ipv4, b"65,536 octets");
-    hellos::run();
-    written::run();
-    packs::run();
+fn ipv4(out: &impl Print, err: &impl Print) {
+    checksums(out);
+    kinds::run(out, err);
+    refusals::run(out, err);
+    too_long(out, err, AddressFamily::Ipv4, b"65,536 octets");
+    hellos::run(out, err);
+    written::run(out, err);
+    packs::run(out, err);
 }
 
-fn ipv6() {
-    checksums_ipv6();
-    kinds6::run();
-    refusals6::run();
-    too_long(AddressFamily::Ipv6, b"IPv6, 65,536 octets");
-    hellos6::run();
-    written6::run();
-    packs6::run();
+fn ipv6(out: &impl Print, err: &impl Print) {
+    checksums_ipv6(out);
+    kinds6::run(out, err);
+    refusals6::run(out, err);
+    too_long(out, err, AddressFamily::Ipv6, b"IPv6, 65,536 octets");
+    hellos6::run(out, err);
+    written6::run(out, err);
+    packs6::run(out, err);
 }
 
-fn main() {
-    ipv4();
-    ipv6();
+fn main(rt: HostRuntime) {
+    let out = rt.stdout();
+    let err = rt.stderr();
+    ipv4(&out, &err);
+    ipv6(&out, &err);
 }

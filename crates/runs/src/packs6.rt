@@ -22,28 +22,30 @@ fn pack(kind: Kind, limit: usize, e: &[u8], d: &mut [u8]) -> Packing {
 }
 
 // The message stands at the front of what was lent.
-fn show(kind: Kind, limit: usize, name: &[u8], e: &[u8]) {
+fn show(out: &impl Print, err: &impl Print, kind: Kind, limit: usize, name: &[u8], e: &[u8]) {
     let mut d = [0; 1480];
     let answer = pack(kind, limit, e, &mut d);
-    title(name);
+    title(out, name);
     match answer {
-        Packing::Refused(r) => listing::refused(r),
+        Packing::Refused(r) => listing::refused(out, err, r),
         Packing::Wrote { length, taken } => {
-            packed(length, taken);
+            packed(out, length, taken);
             if 0 < length {
-                written(front(&d, length));
+                written(out, err, front(&d, length));
             }
         }
     }
 }
 
 // Every list of a table: its name and its entries.
-fn show_all(kind: Kind, limit: usize, table: &[u8]) {
+fn show_all(out: &impl Print, err: &impl Print, kind: Kind, limit: usize, table: &[u8]) {
     let mut e = [0; 256];
     let mut at = 0;
     while at < table.len() {
         let c = case_at(table, at, &mut e);
         show(
+            out,
+            err,
             kind,
             limit,
             front(&table[at..], c.name),
@@ -54,8 +56,10 @@ fn show_all(kind: Kind, limit: usize, table: &[u8]) {
 }
 
 // Two or three of one group without a source are as many group records with p=0; four are joined, and so is a source with none.
-fn aggregated() {
+fn aggregated(out: &impl Print, err: &impl Print) {
     show_all(
+        out,
+        err,
         Kind::Aggregated,
         0,
         b"\
@@ -76,6 +80,8 @@ packed in IPv6: no entry
 ",
     );
     show_all(
+        out,
+        err,
         Kind::Aggregated,
         67,
         b"\
@@ -86,8 +92,10 @@ packed in IPv6: two of one group without a source, limit 67
 }
 
 // A record has 46 octets: 100 for two.
-fn asserts() {
+fn asserts(out: &impl Print, err: &impl Print) {
     show_all(
+        out,
+        err,
         Kind::Simple,
         0,
         b"\
@@ -96,6 +104,8 @@ packed in IPv6: two asserts
 ",
     );
     show_all(
+        out,
+        err,
         Kind::Simple,
         99,
         b"\
@@ -104,6 +114,8 @@ packed in IPv6: two asserts, limit 99
 ",
     );
     show_all(
+        out,
+        err,
         Kind::Assert,
         62,
         b"\
@@ -114,8 +126,10 @@ packed in IPv6: a plain assert, limit 62
 }
 
 // Source 0 is for a Register-Stop alone.
-fn pairs() {
+fn pairs(out: &impl Print, err: &impl Print) {
     show_all(
+        out,
+        err,
         Kind::NullRegister,
         0,
         b"\
@@ -128,6 +142,8 @@ packed in IPv6: three pairs of IPv4, as long as one
 ",
     );
     show_all(
+        out,
+        err,
         Kind::RegisterStop,
         0,
         b"\
@@ -140,8 +156,10 @@ packed in IPv6: two Register-Stops, the second from ff02::2
 }
 
 // 9, 8, 10, and 7 for the family or the zero octets of an entry and for its addresses.
-fn refused() {
+fn refused(out: &impl Print, err: &impl Print) {
     show_all(
+        out,
+        err,
         Kind::Assert,
         61,
         b"\
@@ -150,6 +168,8 @@ packed in IPv6: a plain assert, limit 61
 ",
     );
     show_all(
+        out,
+        err,
         Kind::Assert,
         1481,
         b"\
@@ -158,6 +178,8 @@ packed in IPv6: a limit past the buffer
 ",
     );
     show_all(
+        out,
+        err,
         Kind::Simple,
         0,
         b"\
@@ -177,9 +199,9 @@ packed in IPv6: R=1 with source ff02::d
     );
 }
 
-pub(crate) fn run() {
-    aggregated();
-    asserts();
-    pairs();
-    refused();
+pub(crate) fn run(out: &impl Print, err: &impl Print) {
+    aggregated(out, err);
+    asserts(out, err);
+    pairs(out, err);
+    refused(out, err);
 }

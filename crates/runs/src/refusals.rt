@@ -3,8 +3,10 @@
 use crate::shown::show_ipv4;
 
 // 1 to 4: the header.
-fn header() {
+fn header(out: &impl Print, err: &impl Print) {
     show_ipv4(
+        out,
+        err,
         b"\
 no octet
 
@@ -25,8 +27,10 @@ type 13, subtype 2
 }
 
 // 5: Zero not 0, or no record; 6 where the message ends before.
-fn start() {
+fn start(out: &impl Print, err: &impl Print) {
     show_ipv4(
+        out,
+        err,
         b"\
 Zero not 0
 2501e4580100000001000020e801010101000a0000010000006e00000014
@@ -49,8 +53,10 @@ a Register-Stop message with no pair
 }
 
 // 6: a plain assert cut, or octets after it; a simple record cut.
-fn cut_assert() {
+fn cut_assert(out: &impl Print, err: &impl Print) {
     show_ipv4(
+        out,
+        err,
         b"\
 a plain assert, before the group
 2500daff
@@ -71,8 +77,10 @@ the second simple record, cut in its metric
 }
 
 // 6: an aggregated record cut, or a count of 0; a pair cut.
-fn cut_packed() {
+fn cut_packed(out: &impl Print, err: &impl Print) {
     show_ipv4(
+        out,
+        err,
         b"\
 a source aggregated record, before the metric
 2503da8e000000000000006e
@@ -109,8 +117,10 @@ the second pair cut
 }
 
 // 7: an address form or an address that is not allowed.
-fn address() {
+fn address(out: &impl Print, err: &impl Print) {
     show_ipv4(
+        out,
+        err,
         b"\
 mask length 31
 2500e55a0100001fe801010101000a0000010000006e00000014
@@ -137,8 +147,10 @@ the second pair with a unicast group
 }
 
 // 7: a multicast source, and 255.255.255.255, in each form, whatever R says and whatever follows.
-fn source() {
+fn source(out: &impl Print, err: &impl Print) {
     show_ipv4(
+        out,
+        err,
         b"\
 source 224.0.0.0
 25000f5a01000020e80101010100e00000000000006e00000014
@@ -162,11 +174,11 @@ the second Register-Stop source 255.255.255.255
     );
 }
 
-pub(crate) fn run() {
-    header();
-    start();
-    cut_assert();
-    cut_packed();
-    address();
-    source();
+pub(crate) fn run(out: &impl Print, err: &impl Print) {
+    header(out, err);
+    start(out, err);
+    cut_assert(out, err);
+    cut_packed(out, err);
+    address(out, err);
+    source(out, err);
 }

@@ -3,8 +3,10 @@ use crate::shown::{path, show_ipv6};
 use format::{Address, AddressFamily, Path, nowhere};
 
 // 1 to 4: the header. A checksum that is right with another pseudo-header, or with none, is wrong.
-fn header() {
+fn header(out: &impl Print, err: &impl Print) {
     show_ipv6(
+        out,
+        err,
         b"\
 IPv6, no octet
 
@@ -33,8 +35,10 @@ IPv6, type 13, subtype 2
 }
 
 // 5: Zero not 0, or no record; 6 where the message ends before.
-fn start() {
+fn start(out: &impl Print, err: &impl Print) {
     show_ipv6(
+        out,
+        err,
         b"\
 IPv6, Zero not 0
 2501444d0100000002000080ff3e0000000000000000000000000001020020010db80000000000000000000000010000006e00000014
@@ -59,8 +63,10 @@ IPv6, a Register-Stop message with no pair
 }
 
 // 6: a plain assert cut, or octets after it; a simple record cut.
-fn cut_assert() {
+fn cut_assert(out: &impl Print, err: &impl Print) {
     show_ipv6(
+        out,
+        err,
         b"\
 IPv6, a plain assert, before the group
 2500777c
@@ -89,8 +95,10 @@ IPv6, the second simple record, cut in its metric
 }
 
 // 6: a source aggregated record cut, or a count of 0.
-fn cut_source() {
+fn cut_source(out: &impl Print, err: &impl Print) {
     show_ipv6(
+        out,
+        err,
         b"\
 IPv6, a source aggregated record, cut in the R word
 2503777200000000000000
@@ -113,8 +121,10 @@ IPv6, number of groups 0
 }
 
 // 6: an RP aggregated record cut, or a count of 0.
-fn cut_rp() {
+fn cut_rp(out: &impl Print, err: &impl Print) {
     show_ipv6(
+        out,
+        err,
         b"\
 IPv6, an RP aggregated record, before the metric
 2503f702000000008000006e
@@ -141,8 +151,10 @@ IPv6, two sources asked for and one there
 }
 
 // 6: a pair cut. One of IPv4 has fewer octets than a group.
-fn cut_pair() {
+fn cut_pair(out: &impl Print, err: &impl Print) {
     show_ipv6(
+        out,
+        err,
         b"\
 IPv6, the first pair, cut in the group
 2d006daa02000080ff3e00000000000000000000000000
@@ -159,8 +171,10 @@ IPv6, a pair of IPv4
 }
 
 // 7: a group of another form or family, or outside ff00::/8, as soon as its octets are there.
-fn group() {
+fn group(out: &impl Print, err: &impl Print) {
     show_ipv6(
+        out,
+        err,
         b"\
 IPv6, the group of family 1
 2500465201000080ff3e0000000000000000000000000001020020010db80000000000000000000000010000006e00000014
@@ -189,8 +203,10 @@ IPv6, the second pair with group 2001:db8::1
 }
 
 // 7: a source of another form or family, in ff00::/8, or 0 where it may not be.
-fn source() {
+fn source(out: &impl Print, err: &impl Print) {
     show_ipv6(
+        out,
+        err,
         b"\
 IPv6, the source of family 1
 2500465202000080ff3e0000000000000000000000000001010020010db80000000000000000000000010000006e00000014
@@ -225,10 +241,10 @@ IPv6, the second Register-Stop source of family 1
 }
 
 // The Hello of kinds6.rt, read with a path.
-fn read_with(family: AddressFamily, path: Path, name: &[u8]) {
+fn read_with(out: &impl Print, err: &impl Print, family: AddressFamily, path: Path, name: &[u8]) {
     let m =
         b"\x20\x00\x13\x13\x00\x01\x00\x02\x00\x69\x00\x13\x00\x04\x12\x34\x56\x78\x00\x28\x00\x00";
-    listing::show(family, path, name, m);
+    listing::show(out, err, family, path, name, m);
 }
 
 fn between(source: Address, destination: Address) -> Path {
@@ -239,7 +255,7 @@ fn between(source: Address, destination: Address) -> Path {
 }
 
 // 3: another source or destination, and no pseudo-header. The order of the two makes no difference to a sum.
-fn paths() {
+fn paths(out: &impl Print, err: &impl Print) {
     let own = path();
     let router = Address {
         high: 0xfe80_0000_0000_0000,
@@ -250,36 +266,50 @@ fn paths() {
         low: 1,
     };
     read_with(
+        out,
+        err,
         AddressFamily::Ipv6,
         between(router, own.destination),
         b"IPv6, a Hello from another source",
     );
     read_with(
+        out,
+        err,
         AddressFamily::Ipv6,
         between(own.source, nodes),
         b"IPv6, a Hello to another destination",
     );
     read_with(
+        out,
+        err,
         AddressFamily::Ipv6,
         between(own.destination, own.source),
         b"IPv6, a Hello, source and destination exchanged, which have the same sum",
     );
     read_with(
+        out,
+        err,
         AddressFamily::Ipv6,
         nowhere(),
         b"IPv6, a Hello without a path",
     );
-    read_with(AddressFamily::Ipv4, own, b"IPv6, a Hello read as IPv4");
+    read_with(
+        out,
+        err,
+        AddressFamily::Ipv4,
+        own,
+        b"IPv6, a Hello read as IPv4",
+    );
 }
 
-pub(crate) fn run() {
-    header();
-    start();
-    cut_assert();
-    cut_source();
-    cut_rp();
-    cut_pair();
-    group();
-    source();
-    paths();
+pub(crate) fn run(out: &impl Print, err: &impl Print) {
+    header(out, err);
+    start(out, err);
+    cut_assert(out, err);
+    cut_source(out, err);
+    cut_rp(out, err);
+    cut_pair(out, err);
+    group(out, err);
+    source(out, err);
+    paths(out, err);
 }

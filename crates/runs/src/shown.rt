@@ -1,6 +1,5 @@
 // Messages of a table listed, those of IPv6 all sent on one path; and the octets of a message that was written.
 use format::{Address, AddressFamily, Path, nowhere};
-use libc::STDOUT_FILENO;
 use printing::text;
 
 // fe80::a1b2:c3d4 to ff02::d, all PIM routers (RFC 7761, 4.9).
@@ -17,29 +16,29 @@ pub(crate) fn path() -> Path {
     }
 }
 
-pub(crate) fn show_ipv4(table: &[u8]) {
-    listing::show_all(AddressFamily::Ipv4, nowhere(), table);
+pub(crate) fn show_ipv4(out: &impl Print, err: &impl Print, table: &[u8]) {
+    listing::show_all(out, err, AddressFamily::Ipv4, nowhere(), table);
 }
 
-pub(crate) fn show_ipv6(table: &[u8]) {
-    listing::show_all(AddressFamily::Ipv6, path(), table);
+pub(crate) fn show_ipv6(out: &impl Print, err: &impl Print, table: &[u8]) {
+    listing::show_all(out, err, AddressFamily::Ipv6, path(), table);
 }
 
-fn octet(x: u8) -> bool {
-    io::print_hex(STDOUT_FILENO, x as u64, 2)
+fn octet(out: &impl Print, x: u8) -> bool {
+    print!(out; "{x:02x}").is_ok()
 }
 
-fn octets(m: &[u8]) {
+fn octets(out: &impl Print, m: &[u8]) {
     let mut i = 0;
     while i < m.len() {
-        octet(m[i]);
+        octet(out, m[i]);
         i += 1;
     }
 }
 
 // A message of IPv6 in hexadecimal, then its listing.
-pub(crate) fn written(m: &[u8]) {
-    octets(m);
-    text(b"\n");
-    listing::list_of(AddressFamily::Ipv6, path(), m);
+pub(crate) fn written(out: &impl Print, err: &impl Print, m: &[u8]) {
+    octets(out, m);
+    text(out, b"\n");
+    listing::list_of(out, err, AddressFamily::Ipv6, path(), m);
 }

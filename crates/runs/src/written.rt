@@ -17,66 +17,84 @@ pub(crate) fn saying(holdtime: u16, has_priority: bool, priority: u32, packing: 
     }
 }
 
-fn show(name: &[u8], said: Hello, by_hand: &[u8]) {
+fn show(out: &impl Print, err: &impl Print, name: &[u8], said: Hello, by_hand: &[u8]) {
     let mut d = [0; 22];
-    title(name);
+    title(out, name);
     let answer = hello::write_hello(AddressFamily::Ipv4, nowhere(), said, &mut d);
     match answer {
-        Writing::Refused(r) => listing::refused(r),
+        Writing::Refused(r) => listing::refused(out, err, r),
         Writing::Wrote(n) => {
-            number(b"octets ", n as u64);
-            number(b", as by hand ", in_common(&d, by_hand) as u64);
-            text(b"\n");
-            listing::list(front(&d, n));
+            number(out, b"octets ", n as u64);
+            number(out, b", as by hand ", in_common(&d, by_hand) as u64);
+            text(out, b"\n");
+            listing::list(out, err, front(&d, n));
         }
     }
 }
 
-fn without_priority() {
+fn without_priority(out: &impl Print, err: &impl Print) {
     show(
+        out,
+        err,
         b"written: holdtime, least",
         saying(0, false, 0, false),
         b"\x20\x00\xdf\xfc\x00\x01\x00\x02\x00\x00",
     );
     show(
+        out,
+        err,
         b"written: holdtime, greatest",
         saying(65535, false, 0, false),
         b"\x20\x00\xdf\xfc\x00\x01\x00\x02\xff\xff",
     );
     show(
+        out,
+        err,
         b"written: packing, least",
         saying(0, false, 0, true),
         b"\x20\x00\xdf\xd4\x00\x01\x00\x02\x00\x00\x00\x28\x00\x00",
     );
     show(
+        out,
+        err,
         b"written: packing, greatest",
         saying(65535, false, 0, true),
         b"\x20\x00\xdf\xd4\x00\x01\x00\x02\xff\xff\x00\x28\x00\x00",
     );
 }
 
-fn with_priority() {
+fn with_priority(out: &impl Print, err: &impl Print) {
     show(
+        out,
+        err,
         b"written: priority, least",
         saying(0, true, 0, false),
         b"\x20\x00\xdf\xe5\x00\x01\x00\x02\x00\x00\x00\x13\x00\x04\x00\x00\x00\x00",
     );
     show(
+        out,
+        err,
         b"written: priority, greatest",
         saying(65535, true, 4294967295, false),
         b"\x20\x00\xdf\xe5\x00\x01\x00\x02\xff\xff\x00\x13\x00\x04\xff\xff\xff\xff",
     );
     show(
+        out,
+        err,
         b"written: all, least",
         saying(0, true, 0, true),
         b"\x20\x00\xdf\xbd\x00\x01\x00\x02\x00\x00\x00\x13\x00\x04\x00\x00\x00\x00\x00\x28\x00\x00",
     );
     show(
+        out,
+        err,
         b"written: all, greatest",
         saying(65535, true, 4294967295, true),
         b"\x20\x00\xdf\xbd\x00\x01\x00\x02\xff\xff\x00\x13\x00\x04\xff\xff\xff\xff\x00\x28\x00\x00",
     );
     show(
+        out,
+        err,
         b"written: all, usual holdtime",
         saying(105, true, 5, true),
         b"\x20\x00\xdf\x4f\x00\x01\x00\x02\x00\x69\x00\x13\x00\x04\x00\x00\x00\x05\x00\x28\x00\x00",
@@ -84,7 +102,7 @@ fn with_priority() {
 }
 
 // 8: one octet less than the message has.
-fn refused() {
+fn refused(out: &impl Print, err: &impl Print) {
     let mut d = [0; 21];
     let answer = hello::write_hello(
         AddressFamily::Ipv4,
@@ -92,18 +110,18 @@ fn refused() {
         saying(105, true, 5, true),
         &mut d,
     );
-    title(b"written: into 21 octets");
+    title(out, b"written: into 21 octets");
     match answer {
-        Writing::Refused(r) => listing::refused(r),
+        Writing::Refused(r) => listing::refused(out, err, r),
         Writing::Wrote(n) => {
-            number(b"octets ", n as u64);
-            text(b"\n");
+            number(out, b"octets ", n as u64);
+            text(out, b"\n");
         }
     }
 }
 
-pub(crate) fn run() {
-    without_priority();
-    with_priority();
-    refused();
+pub(crate) fn run(out: &impl Print, err: &impl Print) {
+    without_priority(out, err);
+    with_priority(out, err);
+    refused(out, err);
 }

@@ -5,36 +5,54 @@ use format::{AddressFamily, Writing};
 use hello::Hello;
 use printing::{front, named, title};
 
-fn show(name: &[u8], said: Hello) {
+fn show(out: &impl Print, err: &impl Print, name: &[u8], said: Hello) {
     let mut d = [0; 22];
-    title(name);
+    title(out, name);
     let answer = hello::write_hello(AddressFamily::Ipv6, path(), said, &mut d);
     match answer {
-        Writing::Refused(r) => listing::refused(r),
+        Writing::Refused(r) => listing::refused(out, err, r),
         Writing::Wrote(n) => {
-            named(b"octets ", n as u64);
-            written(front(&d, n));
+            named(out, b"octets ", n as u64);
+            written(out, err, front(&d, n));
         }
     }
 }
 
-pub(crate) fn run() {
+pub(crate) fn run(out: &impl Print, err: &impl Print) {
     show(
+        out,
+        err,
         b"written in IPv6: holdtime, least",
         saying(0, false, 0, false),
     );
     show(
+        out,
+        err,
         b"written in IPv6: holdtime, greatest",
         saying(65535, false, 0, false),
     );
-    show(b"written in IPv6: packing", saying(1, false, 0, true));
     show(
+        out,
+        err,
+        b"written in IPv6: packing",
+        saying(1, false, 0, true),
+    );
+    show(
+        out,
+        err,
         b"written in IPv6: priority, least",
         saying(0, true, 0, false),
     );
     show(
+        out,
+        err,
         b"written in IPv6: priority, greatest",
         saying(65535, true, 4294967295, false),
     );
-    show(b"written in IPv6: all", saying(105, true, 305419896, true));
+    show(
+        out,
+        err,
+        b"written in IPv6: all",
+        saying(105, true, 305419896, true),
+    );
 }

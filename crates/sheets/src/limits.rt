@@ -10,7 +10,7 @@ use sections::Form;
 use sheet::Counts;
 
 // A sheet of a form with so many of each, checked.
-fn sheet_of(form: Form, asserts: usize, pairs: usize, neighbours: usize)
+fn sheet_of(out: &impl Print, form: Form, asserts: usize, pairs: usize, neighbours: usize)
     requires { (asserts ≤ 8193) × (pairs ≤ 8193) × (neighbours ≤ 65) }
 {
     let mut o = room(0xee);
@@ -20,28 +20,28 @@ fn sheet_of(form: Form, asserts: usize, pairs: usize, neighbours: usize)
         neighbours,
     };
     let s = build(form, c, &mut o);
-    form_name(form);
-    number(b", asserts ", asserts as u64);
-    number(b" pairs ", pairs as u64);
-    number(b" neighbours ", neighbours as u64);
-    text(b": ");
-    checked(family_of(form), front(&o, s.end));
+    form_name(out, form);
+    number(out, b", asserts ", asserts as u64);
+    number(out, b" pairs ", pairs as u64);
+    number(out, b" neighbours ", neighbours as u64);
+    text(out, b": ");
+    checked(out, family_of(form), front(&o, s.end));
 }
 
 // Each count at its limit, and over it.
-fn limits(form: Form, entries: usize, rows: usize)
+fn limits(out: &impl Print, form: Form, entries: usize, rows: usize)
     requires { (entries ≤ 8192) × (rows ≤ 64) }
 {
-    sheet_of(form, entries, 0, 0);
-    sheet_of(form, entries + 1, 0, 0);
-    sheet_of(form, 0, entries, 0);
-    sheet_of(form, 0, entries + 1, 0);
-    sheet_of(form, 0, 0, rows);
-    sheet_of(form, 0, 0, rows + 1);
+    sheet_of(out, form, entries, 0, 0);
+    sheet_of(out, form, entries + 1, 0, 0);
+    sheet_of(out, form, 0, entries, 0);
+    sheet_of(out, form, 0, entries + 1, 0);
+    sheet_of(out, form, 0, 0, rows);
+    sheet_of(out, form, 0, 0, rows + 1);
 }
 
 // A sheet of the base form and 1,024 asserts, with a first word put in place of its count.
-fn first_word(x: u16) {
+fn first_word(out: &impl Print, x: u16) {
     let mut o = room(0xee);
     let c = Counts {
         asserts: 1024,
@@ -50,21 +50,21 @@ fn first_word(x: u16) {
     };
     let s = build(Form::Base, c, &mut o);
     write16(&mut o, 0, x);
-    number(b"base form, 1,024 asserts, first word ", x as u64);
-    text(b": ");
-    checked(AddressFamily::Ipv4, front(&o, s.end));
+    number(out, b"base form, 1,024 asserts, first word ", x as u64);
+    text(out, b": ");
+    checked(out, AddressFamily::Ipv4, front(&o, s.end));
 }
 
-pub(crate) fn run() {
-    limits(Form::Base, 1024, 16);
-    sheet_of(Form::Large, 1025, 0, 0);
-    sheet_of(Form::Large, 0, 1025, 0);
-    sheet_of(Form::Large, 0, 0, 17);
-    limits(Form::Large, 8192, 64);
-    limits(Form::Ipv4, 8192, 64);
-    limits(Form::Ipv6, 8192, 64);
-    first_word(1024);
-    first_word(1025);
-    first_word(65534);
-    first_word(65535);
+pub(crate) fn run(out: &impl Print) {
+    limits(out, Form::Base, 1024, 16);
+    sheet_of(out, Form::Large, 1025, 0, 0);
+    sheet_of(out, Form::Large, 0, 1025, 0);
+    sheet_of(out, Form::Large, 0, 0, 17);
+    limits(out, Form::Large, 8192, 64);
+    limits(out, Form::Ipv4, 8192, 64);
+    limits(out, Form::Ipv6, 8192, 64);
+    first_word(out, 1024);
+    first_word(out, 1025);
+    first_word(out, 65534);
+    first_word(out, 65535);
 }

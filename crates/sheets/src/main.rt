@@ -12,6 +12,7 @@
 // refusals.rt      what reading and writing refuse
 // sources.rt       stored sheets with sources that are not allowed
 #![tactic(auto)]
+
 mod built;
 mod limits;
 mod output;
@@ -21,11 +22,12 @@ mod sources;
 mod table;
 mod whole;
 
-fn main() {
-    small::run();
-    whole::run();
-    limits::run();
-    table::run();
-    refusals::run();
-    sources::run();
+fn main(rt: HostRuntime) {
+    let out = rt.stdout();
+    small::run(&out);
+    whole::run(&out);
+    limits::run(&out);
+    table::run(&out);
+    refusals::run(&out);
+    sources::run(&out);
 }

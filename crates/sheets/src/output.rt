@@ -5,19 +5,19 @@ use printing::{named, number, refused, text};
 use sections::Form;
 use sheet::{Counts, Found, Verdict};
 
-pub(crate) fn form_name(form: Form) -> bool {
+pub(crate) fn form_name(out: &impl Print, form: Form) -> bool {
     match form {
-        Form::Base => text(b"base form"),
-        Form::Large => text(b"form 2"),
-        Form::Ipv4 => text(b"form 3"),
-        Form::Ipv6 => text(b"form 4"),
+        Form::Base => text(out, b"base form"),
+        Form::Large => text(out, b"form 2"),
+        Form::Ipv4 => text(out, b"form 3"),
+        Form::Ipv6 => text(out, b"form 4"),
     }
 }
 
-pub(crate) fn family_name(family: AddressFamily) -> bool {
+pub(crate) fn family_name(out: &impl Print, family: AddressFamily) -> bool {
     match family {
-        AddressFamily::Ipv4 => text(b"IPv4"),
-        AddressFamily::Ipv6 => text(b"IPv6"),
+        AddressFamily::Ipv4 => text(out, b"IPv4"),
+        AddressFamily::Ipv6 => text(out, b"IPv6"),
     }
 }
 
@@ -29,47 +29,47 @@ pub(crate) fn other(family: AddressFamily) -> AddressFamily {
     }
 }
 
-fn counts(c: Counts) -> bool {
-    number(b"asserts ", c.asserts as u64)
-        && number(b" pairs ", c.pairs as u64)
-        && named(b" neighbours ", c.neighbours as u64)
+fn counts(out: &impl Print, c: Counts) -> bool {
+    number(out, b"asserts ", c.asserts as u64)
+        && number(out, b" pairs ", c.pairs as u64)
+        && named(out, b" neighbours ", c.neighbours as u64)
 }
 
 // A sheet checked.
-pub(crate) fn checked(family: AddressFamily, o: &[u8]) -> bool {
+pub(crate) fn checked(out: &impl Print, family: AddressFamily, o: &[u8]) -> bool {
     let c = sheet::check_sheet(family, o);
     match c {
-        Verdict::Valid(n) => counts(n),
-        Verdict::Refused(r) => refused(r, b"\n"),
+        Verdict::Valid(n) => counts(out, n),
+        Verdict::Refused(r) => refused(out, r, b"\n"),
     }
 }
 
 // A sheet checked as one of the other family.
-pub(crate) fn other_checked(family: AddressFamily, o: &[u8]) -> bool {
+pub(crate) fn other_checked(out: &impl Print, family: AddressFamily, o: &[u8]) -> bool {
     let f = other(family);
-    text(b"  named ") && family_name(f) && text(b": ") && checked(f, o)
+    text(out, b"  named ") && family_name(out, f) && text(out, b": ") && checked(out, f, o)
 }
 
-pub(crate) fn found(f: Found) -> bool {
+pub(crate) fn found(out: &impl Print, f: Found) -> bool {
     match f {
-        Found::Entries(n) => counts(n),
-        Found::Refused(r) => refused(r, b"\n"),
+        Found::Entries(n) => counts(out, n),
+        Found::Refused(r) => refused(out, r, b"\n"),
     }
 }
 
-pub(crate) fn stored(w: Writing) -> bool {
+pub(crate) fn stored(out: &impl Print, w: Writing) -> bool {
     match w {
-        Writing::Wrote(n) => named(b"octets ", n as u64),
-        Writing::Refused(r) => refused(r, b"\n"),
+        Writing::Wrote(n) => named(out, b"octets ", n as u64),
+        Writing::Refused(r) => refused(out, r, b"\n"),
     }
 }
 
 // What was done to a table; its line goes on.
-pub(crate) fn done(c: Change) -> bool {
+pub(crate) fn done(out: &impl Print, c: Change) -> bool {
     match c {
-        Change::Replaced => text(b"replaced"),
-        Change::Appended => text(b"appended"),
-        Change::Forgotten => text(b"forgotten"),
-        Change::Refused(r) => refused(r, b""),
+        Change::Replaced => text(out, b"replaced"),
+        Change::Appended => text(out, b"appended"),
+        Change::Forgotten => text(out, b"forgotten"),
+        Change::Refused(r) => refused(out, r, b""),
     }
 }

@@ -35,6 +35,7 @@ fn pairs_of(family: AddressFamily, n: usize) -> usize
 
 // Writing into so many octets, 72 at most: a sheet of one assert in IPv6.
 fn write(
+    out: &impl Print,
     family: AddressFamily,
     name: &[u8],
     asserts: &[u8],
@@ -45,12 +46,15 @@ fn write(
     requires { room ≤ 72 }
 {
     let mut d = [0xee; 72];
-    text(b"writing, ");
-    family_name(family);
-    text(b", ");
-    text(name);
-    text(b": ");
-    stored(sheet::write_sheet(family, asserts, pairs, table, &mut d[..room]));
+    text(out, b"writing, ");
+    family_name(out, family);
+    text(out, b", ");
+    text(out, name);
+    text(out, b": ");
+    stored(
+        out,
+        sheet::write_sheet(family, asserts, pairs, table, &mut d[..room]),
+    );
 }
 
 // A table whose first row is not in use and not 0.
@@ -79,8 +83,9 @@ fn one_row(address: Address) -> Table {
     heard.table
 }
 
-fn empty_sheet(family: AddressFamily) {
+fn empty_sheet(out: &impl Print, family: AddressFamily) {
     write(
+        out,
         family,
         b"no entries into 27 octets",
         b"",
@@ -89,6 +94,7 @@ fn empty_sheet(family: AddressFamily) {
         27,
     );
     write(
+        out,
         family,
         b"no entries into 28 octets",
         b"",
@@ -100,15 +106,40 @@ fn empty_sheet(family: AddressFamily) {
 
 // As many as a sheet holds, and one more; 1,025 asserts were too many for a sheet of the base form. All entries of e are of a family 232
 // and have a multicast source, and 14 and 8 are found before that.
-fn many(family: AddressFamily, e: &[u8]) {
+fn many(out: &impl Print, family: AddressFamily, e: &[u8]) {
     let none = Table::empty();
     let asserts = front(e, asserts_of(family, 8192));
     let pairs = front(e, pairs_of(family, 8192));
     let more = front(e, asserts_of(family, 1025));
-    write(family, b"1,025 asserts and no room", more, b"", none, 72);
-    write(family, b"8,192 asserts and no room", asserts, b"", none, 72);
-    write(family, b"8,192 pairs and no room", b"", pairs, none, 72);
     write(
+        out,
+        family,
+        b"1,025 asserts and no room",
+        more,
+        b"",
+        none,
+        72,
+    );
+    write(
+        out,
+        family,
+        b"8,192 asserts and no room",
+        asserts,
+        b"",
+        none,
+        72,
+    );
+    write(
+        out,
+        family,
+        b"8,192 pairs and no room",
+        b"",
+        pairs,
+        none,
+        72,
+    );
+    write(
+        out,
         family,
         b"64 neighbours and no room",
         b"",
@@ -118,12 +149,12 @@ fn many(family: AddressFamily, e: &[u8]) {
     );
 }
 
-fn too_many(family: AddressFamily, e: &[u8]) {
+fn too_many(out: &impl Print, family: AddressFamily, e: &[u8]) {
     let none = Table::empty();
     let asserts = front(e, asserts_of(family, 8193));
     let pairs = front(e, pairs_of(family, 8193));
-    write(family, b"8,193 asserts", asserts, b"", none, 72);
-    write(family, b"8,193 pairs", b"", pairs, none, 72);
+    write(out, family, b"8,193 asserts", asserts, b"", none, 72);
+    write(out, family, b"8,193 pairs", b"", pairs, none, 72);
 }
 
 // Room for all of a sheet of one assert but its last octet.
@@ -134,11 +165,12 @@ fn too_little(family: AddressFamily) -> usize
 }
 
 // One such assert, with tables that are none, with an octet too many, and with too little room.
-fn one_assert(family: AddressFamily) {
+fn one_assert(out: &impl Print, family: AddressFamily) {
     let e = [0xe8; 45];
     let n = asserts_of(family, 1);
     let one = front(&e, n);
     write(
+        out,
         family,
         b"an octet too many",
         front(&e, n + 1),
@@ -147,6 +179,7 @@ fn one_assert(family: AddressFamily) {
         72,
     );
     write(
+        out,
         family,
         b"a table with an unused row not 0",
         one,
@@ -154,8 +187,17 @@ fn one_assert(family: AddressFamily) {
         unused(),
         72,
     );
-    write(family, b"a table of 65 rows", one, b"", over(family), 72);
     write(
+        out,
+        family,
+        b"a table of 65 rows",
+        one,
+        b"",
+        over(family),
+        72,
+    );
+    write(
+        out,
         family,
         b"an octet too little of room",
         one,
@@ -166,12 +208,13 @@ fn one_assert(family: AddressFamily) {
 }
 
 // Tables of a neighbour fe80::1, and of ::1:0:0, which no address of 32 bits is.
-fn rows(family: AddressFamily) {
+fn rows(out: &impl Print, family: AddressFamily) {
     let far = Address {
         high: 0,
         low: 0x1_0000_0000,
     };
     write(
+        out,
         family,
         b"a neighbour fe80::1",
         b"",
@@ -179,31 +222,45 @@ fn rows(family: AddressFamily) {
         heard(AddressFamily::Ipv6, 1),
         72,
     );
-    write(family, b"a neighbour ::1:0:0", b"", b"", one_row(far), 72);
+    write(
+        out,
+        family,
+        b"a neighbour ::1:0:0",
+        b"",
+        b"",
+        one_row(far),
+        72,
+    );
 }
 
 // A list of one assert or of one pair, into room enough for it.
-fn one_list(family: AddressFamily, name: &[u8], e: &[u8]) {
+fn one_list(out: &impl Print, family: AddressFamily, name: &[u8], e: &[u8]) {
     if e.len() == pairs_of(family, 1) {
-        write(family, name, b"", e, Table::empty(), 72);
+        write(out, family, name, b"", e, Table::empty(), 72);
         return;
     }
-    write(family, name, e, b"", Table::empty(), 72);
+    write(out, family, name, e, b"", Table::empty(), 72);
 }
 
 // Such lists by name and octets.
-fn each_list(family: AddressFamily, cases: &[u8]) {
+fn each_list(out: &impl Print, family: AddressFamily, cases: &[u8]) {
     let mut e = [0; 44];
     let mut at = 0;
     while at < cases.len() {
         let c = case_at(cases, at, &mut e);
-        one_list(family, front(&cases[at..], c.name), front(&e, c.length));
+        one_list(
+            out,
+            family,
+            front(&cases[at..], c.name),
+            front(&e, c.length),
+        );
         at = c.next;
     }
 }
 
-fn lists_ipv4() {
+fn lists_ipv4(out: &impl Print) {
     each_list(
+        out,
         AddressFamily::Ipv4,
         b"\
 an assert of 232.1.1.1 from 10.0.0.1
@@ -224,8 +281,9 @@ a pair of family 2
     );
 }
 
-fn lists_ipv6() {
+fn lists_ipv6(out: &impl Print) {
     each_list(
+        out,
         AddressFamily::Ipv6,
         b"\
 an assert of ff3e::1 from 2001:db8::1
@@ -247,7 +305,7 @@ a pair of family 1
 }
 
 // Reading a sheet, into so many octets for asserts and for pairs.
-fn read(family: AddressFamily, o: &[u8], asserts: usize, pairs: usize)
+fn read(out: &impl Print, family: AddressFamily, o: &[u8], asserts: usize, pairs: usize)
     requires { (asserts ≤ 88) × (pairs ≤ 72) }
 {
     let mut ea = [0; 88];
@@ -255,54 +313,54 @@ fn read(family: AddressFamily, o: &[u8], asserts: usize, pairs: usize)
     let r = sheet::read_sheet(family, o, &mut ea[..asserts], &mut ep[..pairs]);
     let answer = r.found;
     let table = r.table;
-    number(b": neighbours ", table.count as u64);
-    text(b", ");
-    found(answer);
+    number(out, b": neighbours ", table.count as u64);
+    text(out, b", ");
+    found(out, answer);
 }
 
-fn name(form: Form, what: &[u8]) {
-    text(b"reading, ");
-    form_name(form);
-    text(what);
+fn name(out: &impl Print, form: Form, what: &[u8]) {
+    text(out, b"reading, ");
+    form_name(out, form);
+    text(out, what);
 }
 
 // The small sheet read with exactly the room for its entries as they are given, with an octet less, as one of the other family, and damaged
 // in its first entry.
-fn reading(form: Form) {
+fn reading(out: &impl Print, form: Form) {
     let family = family_of(form);
     let asserts = asserts_of(family, 2);
     let pairs = pairs_of(family, 2);
     let room = small(form);
     let o = front(&room, size(form));
-    name(form, b", room for all");
-    read(family, o, asserts, pairs);
-    name(form, b", an octet less for asserts");
-    read(family, o, asserts - 1, pairs);
-    name(form, b", an octet less for pairs");
-    read(family, o, asserts, pairs - 1);
-    name(form, b" as one of the other family");
-    read(other(family), o, 88, 72);
-    name(form, b", a damaged sheet, and no room");
+    name(out, form, b", room for all");
+    read(out, family, o, asserts, pairs);
+    name(out, form, b", an octet less for asserts");
+    read(out, family, o, asserts - 1, pairs);
+    name(out, form, b", an octet less for pairs");
+    read(out, family, o, asserts, pairs - 1);
+    name(out, form, b" as one of the other family");
+    read(out, other(family), o, 88, 72);
+    name(out, form, b", a damaged sheet, and no room");
     let bad = changed(form, header_size(form), 9);
-    read(family, front(&bad, size(form)), 0, 0);
+    read(out, family, front(&bad, size(form)), 0, 0);
 }
 
-fn writing(family: AddressFamily) {
+fn writing(out: &impl Print, family: AddressFamily) {
     let e = room(0xe8);
-    empty_sheet(family);
-    many(family, &e);
-    too_many(family, &e);
-    one_assert(family);
-    rows(family);
+    empty_sheet(out, family);
+    many(out, family, &e);
+    too_many(out, family, &e);
+    one_assert(out, family);
+    rows(out, family);
 }
 
-pub(crate) fn run() {
-    writing(AddressFamily::Ipv4);
-    lists_ipv4();
-    writing(AddressFamily::Ipv6);
-    lists_ipv6();
-    reading(Form::Base);
-    reading(Form::Large);
-    reading(Form::Ipv4);
-    reading(Form::Ipv6);
+pub(crate) fn run(out: &impl Print) {
+    writing(out, AddressFamily::Ipv4);
+    lists_ipv4(out);
+    writing(out, AddressFamily::Ipv6);
+    lists_ipv6(out);
+    reading(out, Form::Base);
+    reading(out, Form::Large);
+    reading(out, Form::Ipv4);
+    reading(out, Form::Ipv6);
 }

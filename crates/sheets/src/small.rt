@@ -97,40 +97,41 @@ pub(crate) fn changed(form: Form, at: usize, x: u8) -> [u8; ROOM] {
 }
 
 // A change, at a place counted from another.
-fn change(form: Form, from: usize, past: u8, x: u8)
+fn change(out: &impl Print, form: Form, from: usize, past: u8, x: u8)
     requires { from ≤ 28 }
 {
     let at = from + past as usize;
-    number(b"octet ", at as u64);
-    number(b" is ", x as u64);
-    text(b": ");
+    number(out, b"octet ", at as u64);
+    number(out, b" is ", x as u64);
+    text(out, b": ");
     let o = changed(form, at, x);
-    checked(family_of(form), front(&o, size(form)));
+    checked(out, family_of(form), front(&o, size(form)));
 }
 
 // Changes of two octets each: a place, and the octet there.
-fn each(form: Form, from: usize, all: &[u8])
+fn each(out: &impl Print, form: Form, from: usize, all: &[u8])
     requires { from ≤ 28 }
 {
     for i in 0..all.len() / 2 {
-        change(form, from, all[2 * i], all[2 * i + 1]);
+        change(out, form, from, all[2 * i], all[2 * i + 1]);
     }
 }
 
 // Changes in hexadecimal, 32 at most.
-fn changes(form: Form, from: usize, list: &[u8])
+fn changes(out: &impl Print, form: Form, from: usize, list: &[u8])
     requires { from ≤ 28 }
 {
     let mut all = [0; 64];
     let n = hexadecimal(list, &mut all);
-    each(form, from, front(&all, n));
+    each(out, form, from, front(&all, n));
 }
 
 // Of a header of 32-bit numbers, whatever the form: other first words (0xFEFF, 0xFFFE, 0x04FF, and 0x00FF as of a sheet of the base form)
 // and numbers (0, 1, 5, and one with a high octet); each count too large, too small, over its limit and by its high octet; offsets by their
 // high octets, and the first past its section, before it, as 24 and as 12.
-fn of_numbers(form: Form) {
+fn of_numbers(out: &impl Print, form: Form) {
     changes(
+        out,
         form,
         0,
         b"\
@@ -143,24 +144,25 @@ fn of_numbers(form: Form) {
 
 // Of the header of the base form: counts over the limit and against the end, offsets before and past their section. Of the others also the
 // numbers of the other forms, and the second and third offset past their sections and before them.
-fn of_header(form: Form) {
+fn of_header(out: &impl Print, form: Form) {
     match form {
         Form::Base => changes(
+            out,
             form,
             0,
             b"0103 0004 030d 0503 0404 072d 0901 0911 0b3d 0b3b",
         ),
         Form::Large => {
-            of_numbers(form);
-            changes(form, 0, b"0303 0304 133d 133b 1b4d 1b4b");
+            of_numbers(out, form);
+            changes(out, form, 0, b"0303 0304 133d 133b 1b4d 1b4b");
         }
         Form::Ipv4 => {
-            of_numbers(form);
-            changes(form, 0, b"0302 0304 1345 1343 1b5d 1b5b");
+            of_numbers(out, form);
+            changes(out, form, 0, b"0302 0304 1345 1343 1b5d 1b5b");
         }
         Form::Ipv6 => {
-            of_numbers(form);
-            changes(form, 0, b"0302 0303 1375 1373 1bbd 1bbb");
+            of_numbers(out, form);
+            changes(out, form, 0, b"0302 0303 1375 1373 1bbd 1bbb");
         }
     }
 }
@@ -168,13 +170,14 @@ fn of_header(form: Form) {
 // Of the entries, counted from the first one: groups, source 0 with R=0, the R bit, source 0 of a pair and priority 0 (both allowed),
 // address 0, flags, a priority without its flag, the zero octet, an address twice, holdtime 0. In the newest forms also the family and the
 // three zero octets before each.
-fn of_entries(form: Form) {
+fn of_entries(out: &impl Print, form: Form) {
     let older = b"00df 0400 10f0 1800 20c8 2400 28ff 3000 3700 3804 3802 3901 3c0a 4001 4501 4700";
     let first = header_size(form);
     match form {
-        Form::Base => changes(form, first, older),
-        Form::Large => changes(form, first, older),
+        Form::Base => changes(out, form, first, older),
+        Form::Large => changes(out, form, first, older),
         Form::Ipv4 => changes(
+            out,
             form,
             first,
             b"\
@@ -182,6 +185,7 @@ fn of_entries(form: Form) {
 0002 0000 0101 0201 0301 1402 1701 2802 2b01 3402 4002 4301 5002 5101",
         ),
         Form::Ipv6 => changes(
+            out,
             form,
             first,
             b"\
@@ -208,33 +212,33 @@ fn refused_at_start(family: AddressFamily, o: &[u8]) -> usize
 }
 
 // How many of the sheet's beginnings are refused so.
-fn cuts(form: Form) {
+fn cuts(out: &impl Print, form: Form) {
     let o = small(form);
     let n = size(form);
     let mut refused = 0;
     for i in 0..n {
         refused += refused_at_start(family_of(form), front(&o, i));
     }
-    number(b"cut at ", n as u64);
-    named(b" places, refused 14 at 0: ", refused as u64);
+    number(out, b"cut at ", n as u64);
+    named(out, b" places, refused 14 at 0: ", refused as u64);
 }
 
-fn tried(form: Form) {
-    text(b"small, ");
-    form_name(form);
-    text(b": ");
+fn tried(out: &impl Print, form: Form) {
+    text(out, b"small, ");
+    form_name(out, form);
+    text(out, b": ");
     let o = small(form);
     let sheet = front(&o, size(form));
-    checked(family_of(form), sheet);
-    other_checked(family_of(form), sheet);
-    of_header(form);
-    of_entries(form);
-    cuts(form);
+    checked(out, family_of(form), sheet);
+    other_checked(out, family_of(form), sheet);
+    of_header(out, form);
+    of_entries(out, form);
+    cuts(out, form);
 }
 
-pub(crate) fn run() {
-    tried(Form::Base);
-    tried(Form::Large);
-    tried(Form::Ipv4);
-    tried(Form::Ipv6);
+pub(crate) fn run(out: &impl Print) {
+    tried(out, Form::Base);
+    tried(out, Form::Large);
+    tried(out, Form::Ipv4);
+    tried(out, Form::Ipv6);
 }

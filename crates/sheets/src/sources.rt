@@ -6,32 +6,38 @@ use format::AddressFamily;
 use printing::{case_at, front, text};
 
 // A sheet checked, and read with room for both entries.
-fn stored(family: AddressFamily, name: &[u8], o: &[u8]) {
-    text(b"stored, ");
-    text(name);
-    text(b": ");
-    checked(family, o);
+fn stored(out: &impl Print, family: AddressFamily, name: &[u8], o: &[u8]) {
+    text(out, b"stored, ");
+    text(out, name);
+    text(out, b": ");
+    checked(out, family, o);
     let mut asserts = [0; 44];
     let mut pairs = [0; 36];
     let r = sheet::read_sheet(family, o, &mut asserts, &mut pairs);
     let answer = r.found;
-    text(b"  read: ");
-    found(answer);
+    text(out, b"  read: ");
+    found(out, answer);
 }
 
 // Sheets by name and octets.
-fn each(family: AddressFamily, cases: &[u8]) {
+fn each(out: &impl Print, family: AddressFamily, cases: &[u8]) {
     let mut o = [0; 108];
     let mut at = 0;
     while at < cases.len() {
         let c = case_at(cases, at, &mut o);
-        stored(family, front(&cases[at..], c.name), front(&o, c.length));
+        stored(
+            out,
+            family,
+            front(&cases[at..], c.name),
+            front(&o, c.length),
+        );
         at = c.next;
     }
 }
 
-fn base() {
+fn base(out: &impl Print) {
     each(
+        out,
         AddressFamily::Ipv4,
         b"\
 an assert from 224.0.0.0
@@ -52,8 +58,9 @@ from 223.255.255.255 and 255.255.255.254
     );
 }
 
-fn ipv6() {
+fn ipv6(out: &impl Print) {
     each(
+        out,
         AddressFamily::Ipv6,
         b"\
 an assert from ff00::
@@ -72,7 +79,7 @@ ffff0004 000000010000001c 0000000100000048 000000000000006c \
     );
 }
 
-pub(crate) fn run() {
-    base();
-    ipv6();
+pub(crate) fn run(out: &impl Print) {
+    base(out);
+    ipv6(out);
 }

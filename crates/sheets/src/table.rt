@@ -52,32 +52,32 @@ pub(crate) fn same_table(a: Table, b: Table) -> bool {
 }
 
 // What was done, and how many rows are in use now: the table.
-fn after(name: &[u8], c: Changed) -> Table {
+fn after(out: &impl Print, name: &[u8], c: Changed) -> Table {
     let change = c.change;
     let table = c.table;
-    text(name);
-    done(change);
-    named(b", neighbours ", table.count as u64);
+    text(out, name);
+    done(out, change);
+    named(out, b", neighbours ", table.count as u64);
     table
 }
 
 // A 65th is refused until one of the 64 is forgotten; then there is no room for that one.
-fn filled(family: AddressFamily) {
+fn filled(out: &impl Print, family: AddressFamily) {
     let full = heard(family, 64);
-    family_name(family);
-    named(b", 64 heard: neighbours ", full.count as u64);
-    let kept = after(b"a 65th heard: ", hear(family, full, 64));
-    text(b"  the table as it was: ");
-    flag(same_table(full, kept));
-    text(b"\n");
+    family_name(out, family);
+    named(out, b", 64 heard: neighbours ", full.count as u64);
+    let kept = after(out, b"a 65th heard: ", hear(family, full, 64));
+    text(out, b"  the table as it was: ");
+    flag(out, same_table(full, kept));
+    text(out, b"\n");
     let gone = neighbour(is_ipv6(family), 20);
-    let less = after(b"the 21st forgotten: ", kept.forget(family, gone));
-    let again = after(b"the 65th heard: ", hear(family, less, 64));
-    after(b"the 22nd heard again: ", hear(family, again, 21));
-    after(b"the 21st heard: ", hear(family, again, 20));
+    let less = after(out, b"the 21st forgotten: ", kept.forget(family, gone));
+    let again = after(out, b"the 65th heard: ", hear(family, less, 64));
+    after(out, b"the 22nd heard again: ", hear(family, again, 21));
+    after(out, b"the 21st heard: ", hear(family, again, 20));
 }
 
-pub(crate) fn run() {
-    filled(AddressFamily::Ipv4);
-    filled(AddressFamily::Ipv6);
+pub(crate) fn run(out: &impl Print) {
+    filled(out, AddressFamily::Ipv4);
+    filled(out, AddressFamily::Ipv6);
 }

@@ -5,19 +5,26 @@ ghost use Rattle.counters.specs.Counting.{counting};
 use counters::{Answer, Counters, Direction};
 
 // Says what was refused, and nothing where the message was counted.
-fn said(answer: Answer) {
+fn said(out: &impl Print, err: &impl Print, answer: Answer) {
     match answer {
         Answer::Added => {}
-        Answer::Refused(r) => listing::refused(r),
+        Answer::Refused(r) => listing::refused(out, err, r),
     }
 }
 
 // The counters with one message more and its records, or as they were where the kind is none of the six.
-pub(crate) fn counted(c: Counters, direction: Direction, kind: u8, records: u64) -> Counters
+pub(crate) fn counted(
+    out: &impl Print,
+    err: &impl Print,
+    c: Counters,
+    direction: Direction,
+    kind: u8,
+    records: u64,
+) -> Counters
     ensures { result ≡ (counting c direction kind records).counters }
 {
     let after = counters::counted(c, direction, kind, records);
     let answer = after.answer;
-    said(answer);
+    said(out, err, answer);
     after.counters
 }

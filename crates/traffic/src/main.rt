@@ -8,14 +8,17 @@
 // sent.rt         messages packed, then counted
 // totals.rt       the counters printed
 #![tactic(auto)]
+
 mod lend;
 mod receive;
 mod received;
 mod sent;
 mod totals;
 
-fn main() {
-    let c = received::run(counters::none());
-    let all = sent::run(c);
-    totals::print(all);
+fn main(rt: HostRuntime) {
+    let out = rt.stdout();
+    let err = rt.stderr();
+    let c = received::run(&out, &err, counters::none());
+    let all = sent::run(&out, &err, c);
+    totals::print(&out, all);
 }

@@ -16,7 +16,7 @@ enum Found {
 }
 
 // The records of a body from a place on, each listed; places count in the body.
-fn singly(kind: Kind, body: &[u8], from: usize) -> Found {
+fn singly(out: &impl Print, err: &impl Print, kind: Kind, body: &[u8], from: usize) -> Found {
     let mut at = from;
     let mut n = 0;
     while at < body.len() {
@@ -27,7 +27,7 @@ fn singly(kind: Kind, body: &[u8], from: usize) -> Found {
             }
             Single::Got { record, next } => {
                 n += 1;
-                listing::record(AddressFamily::Ipv4, n, record);
+                listing::record(out, err, AddressFamily::Ipv4, n, record);
                 at = next;
             }
         }
@@ -70,28 +70,37 @@ fn both(singly: Found, all: Found) -> Found {
 }
 
 // In a simple message Zero and Reserved stand before the records.
-fn records_of(kind: Kind, m: &[u8], body: &[u8]) -> Found {
+fn records_of(out: &impl Print, err: &impl Print, kind: Kind, m: &[u8], body: &[u8]) -> Found {
     match kind {
         Kind::Hello => hello(m),
-        Kind::Assert => both(singly(kind, body, 0), asserts(m)),
-        Kind::Simple => both(singly(kind, body, 4), asserts(m)),
+        Kind::Assert => both(singly(out, err, kind, body, 0), asserts(m)),
+        Kind::Simple => both(singly(out, err, kind, body, 4), asserts(m)),
         Kind::Aggregated => asserts(m),
-        Kind::NullRegister => both(singly(kind, body, 0), pairs(m)),
-        Kind::RegisterStop => both(singly(kind, body, 0), pairs(m)),
+        Kind::NullRegister => both(singly(out, err, kind, body, 0), pairs(m)),
+        Kind::RegisterStop => both(singly(out, err, kind, body, 0), pairs(m)),
     }
 }
 
 // A message of a kind, with its body: refused, or counted.
-fn unpacked(c: Counters, kind: Kind, m: &[u8], body: &[u8]) -> Counters {
-    let f = records_of(kind, m, body);
+fn unpacked(
+    out: &impl Print,
+    err: &impl Print,
+    c: Counters,
+    kind: Kind,
+    m: &[u8],
+    body: &[u8],
+) -> Counters {
+    let f = records_of(out, err, kind, m, body);
     match f {
         Found::Refused(r) => {
-            listing::refused(r);
+            listing::refused(out, err, r);
             c
         }
         Found::Records(n) => {
-            named(b"records ", n as u64);
+            named(out, b"records ", n as u64);
             counted(
+                out,
+                err,
                 c,
                 Direction::Received,
                 counters::kind_number(kind),
@@ -102,17 +111,23 @@ fn unpacked(c: Counters, kind: Kind, m: &[u8], body: &[u8]) -> Counters {
 }
 
 // A named message: what it holds is listed, and it is counted unless it is refused. Where the header refuses, the body is an empty part.
-pub(crate) fn receive(c: Counters, name: &[u8], m: &[u8]) -> Counters {
-    title(name);
+pub(crate) fn receive(
+    out: &impl Print,
+    err: &impl Print,
+    c: Counters,
+    name: &[u8],
+    m: &[u8],
+) -> Counters {
+    title(out, name);
     let body = reading::body(AddressFamily::Ipv4, nowhere(), m);
-    number(b"body of ", body.len() as u64);
-    text(b" octets\n");
+    number(out, b"body of ", body.len() as u64);
+    text(out, b" octets\n");
     let h = reading::header(AddressFamily::Ipv4, nowhere(), m);
     match h {
         Headed::Refused(r) => {
-            listing::refused(r);
+            listing::refused(out, err, r);
             c
         }
-        Headed::Is(kind) => unpacked(c, kind, m, body),
+        Headed::Is(kind) => unpacked(out, err, c, kind, m, body),
     }
 }

@@ -5,20 +5,28 @@ use counters::Counters;
 use printing::{case_at, front};
 
 // Every message of a table.
-fn receive_all(start: Counters, table: &[u8]) -> Counters {
+fn receive_all(out: &impl Print, err: &impl Print, start: Counters, table: &[u8]) -> Counters {
     let mut c = start;
     let mut m = [0; 1480];
     let mut at = 0;
     while at < table.len() {
         let x = case_at(table, at, &mut m);
-        c = receive(c, front(&table[at..], x.name), front(&m, x.length));
+        c = receive(
+            out,
+            err,
+            c,
+            front(&table[at..], x.name),
+            front(&m, x.length),
+        );
         at = x.next;
     }
     c
 }
 
-fn valid(start: Counters) -> Counters {
+fn valid(out: &impl Print, err: &impl Print, start: Counters) -> Counters {
     receive_all(
+        out,
+        err,
         start,
         b"\
 example 1
@@ -40,8 +48,10 @@ hello
 }
 
 // Each is refused, so none is counted: 01's example 2 by its header, two by their second record, and one that has no record.
-fn damaged(start: Counters) -> Counters {
+fn damaged(out: &impl Print, err: &impl Print, start: Counters) -> Counters {
     receive_all(
+        out,
+        err,
         start,
         b"\
 example 2
@@ -56,7 +66,7 @@ null-register, no record
     )
 }
 
-pub(crate) fn run(start: Counters) -> Counters {
-    let c = valid(start);
-    damaged(c)
+pub(crate) fn run(out: &impl Print, err: &impl Print, start: Counters) -> Counters {
+    let c = valid(out, err, start);
+    damaged(out, err, c)
 }

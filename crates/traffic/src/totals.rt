@@ -3,23 +3,23 @@ use counters::{ByKind, Counters, Totals};
 use printing::{named, number, text, title};
 
 // A kind, its messages and their records.
-fn line(kind: &[u8], t: Totals) {
-    text(kind);
-    number(b" messages ", t.messages);
-    named(b" records ", t.records);
+fn line(out: &impl Print, kind: &[u8], t: Totals) {
+    text(out, kind);
+    number(out, b" messages ", t.messages);
+    named(out, b" records ", t.records);
 }
 
-fn lines(direction: &[u8], t: ByKind) {
-    title(direction);
-    line(b"hello", t.hello);
-    line(b"assert", t.assert);
-    line(b"simple", t.simple);
-    line(b"aggregated", t.aggregated);
-    line(b"null-register", t.null_register);
-    line(b"register-stop", t.register_stop);
+fn lines(out: &impl Print, direction: &[u8], t: ByKind) {
+    title(out, direction);
+    line(out, b"hello", t.hello);
+    line(out, b"assert", t.assert);
+    line(out, b"simple", t.simple);
+    line(out, b"aggregated", t.aggregated);
+    line(out, b"null-register", t.null_register);
+    line(out, b"register-stop", t.register_stop);
 }
 
-pub(crate) fn print(c: Counters) {
-    lines(b"received", c.received);
-    lines(b"sent", c.sent);
+pub(crate) fn print(out: &impl Print, c: Counters) {
+    lines(out, b"received", c.received);
+    lines(out, b"sent", c.sent);
 }

@@ -11,6 +11,7 @@
 // rule.rt         the rule that makes the list of entries
 // train.rt        the list packed until nothing is left, each message read back, and the two lists compared
 #![tactic(auto)]
+
 mod call;
 mod choice;
 mod examples;
@@ -22,12 +23,16 @@ mod train;
 use format::AddressFamily;
 use printing::front;
 
-fn main() {
+fn main(rt: HostRuntime) {
+    let out = rt.stdout();
     let four = rule::list(AddressFamily::Ipv4);
     let six = rule::list(AddressFamily::Ipv6);
     let list = front(&four, rule::place(AddressFamily::Ipv4, rule::COUNT));
-    examples::run(list);
-    choice::run();
-    train::ipv4(list);
-    train::ipv6(front(&six, rule::place(AddressFamily::Ipv6, rule::COUNT)));
+    examples::run(&out, list);
+    choice::run(&out);
+    train::ipv4(&out, list);
+    train::ipv6(
+        &out,
+        front(&six, rule::place(AddressFamily::Ipv6, rule::COUNT)),
+    );
 }

@@ -4,24 +4,27 @@ use packing::Packing;
 use printing::{decimal, number, refused, text};
 
 // Lines of IPv6 begin with it.
-pub(crate) fn family_name(family: AddressFamily) -> bool {
+pub(crate) fn family_name(out: &impl Print, family: AddressFamily) -> bool {
     match family {
         AddressFamily::Ipv4 => true,
-        AddressFamily::Ipv6 => text(b"IPv6, "),
+        AddressFamily::Ipv6 => text(out, b"IPv6, "),
     }
 }
 
 // A message, and what follows it. A length of 0 is no message.
-pub(crate) fn wrote(length: usize, taken: usize, after: &[u8]) -> bool {
+pub(crate) fn wrote(out: &impl Print, length: usize, taken: usize, after: &[u8]) -> bool {
     if length == 0 && taken == 0 {
-        return text(b"no message") && text(after);
+        return text(out, b"no message") && text(out, after);
     }
-    decimal(taken as u64) && number(b" taken, ", length as u64) && text(b" octets") && text(after)
+    decimal(out, taken as u64)
+        && number(out, b" taken, ", length as u64)
+        && text(out, b" octets")
+        && text(out, after)
 }
 
-pub(crate) fn answer(p: Packing) -> bool {
+pub(crate) fn answer(out: &impl Print, p: Packing) -> bool {
     match p {
-        Packing::Refused(r) => refused(r, b"\n"),
-        Packing::Wrote { length, taken } => wrote(length, taken, b"\n"),
+        Packing::Refused(r) => refused(out, r, b"\n"),
+        Packing::Wrote { length, taken } => wrote(out, length, taken, b"\n"),
     }
 }

@@ -27,43 +27,50 @@ fn nothing() -> Sent
 }
 
 // How far the train came, where something is wrong.
-fn came(start: usize) {
-    decimal(start as u64);
-    text(b" entries taken, then ");
+fn came(out: &impl Print, start: usize) {
+    decimal(out, start as u64);
+    text(out, b" entries taken, then ");
 }
 
 // An answer that ends the train before its time.
-fn stopped(start: usize, p: Packing) -> Sent
+fn stopped(out: &impl Print, start: usize, p: Packing) -> Sent
     ensures { (result.length ≡ 0) × (result.taken ≡ 0) }
 {
-    came(start);
-    text(b"packing: ");
-    answer(p);
+    came(out, start);
+    text(out, b"packing: ");
+    answer(out, p);
     nothing()
 }
 
 // Reads a message into the second list, at the place of the first entry that it took. Whether it has as many entries
 // as were taken.
-fn read_back(family: AddressFamily, d: &[u8], s: Sent, start: usize, back: &mut [u8]) -> bool
+fn read_back(
+    out: &impl Print,
+    family: AddressFamily,
+    d: &[u8],
+    s: Sent,
+    start: usize,
+    back: &mut [u8],
+) -> bool
     requires { (start < 1024) × (length back.old ≡ 45056) }
 {
     let at = place(family, start);
     let x = reading::read_asserts(family, path(), front(d, s.length), &mut back[at..]);
     match x {
         Reading::Refused(r) => {
-            came(start);
-            text(b"reading: ");
-            refused(r, b"\n");
+            came(out, start);
+            text(out, b"reading: ");
+            refused(out, r, b"\n");
             false
         }
         Reading::Entries { kind: _, count } => {
             if count == s.taken {
                 return true;
             }
-            came(start);
-            decimal(s.taken as u64);
-            number(b" more, but of these ", count as u64);
-            text(b" read\n");
+            came(out, start);
+            decimal(out, s.taken as u64);
+            number(out, b" more, but of these ", count as u64);
+            text(out, b" read\n");
             false
         }
     }
@@ -71,6 +78,7 @@ fn read_back(family: AddressFamily, d: &[u8], s: Sent, start: usize, back: &mut 
 
 // The next message of a train. No answer is believed: it takes an entry or more of those left, and fits the buffer.
 fn next_message(
+    out: &impl Print,
     family: AddressFamily,
     e: &[u8],
     start: usize,
@@ -83,19 +91,19 @@ fn next_message(
 {
     let p = pack(family, e, start, limit, d);
     let Packing::Wrote { length, taken } = p else {
-        return stopped(start, p);
+        return stopped(out, start, p);
     };
     if taken == 0 {
-        return stopped(start, p);
+        return stopped(out, start, p);
     }
     if COUNT - start < taken {
-        return stopped(start, p);
+        return stopped(out, start, p);
     }
     if d.len() < length {
-        return stopped(start, p);
+        return stopped(out, start, p);
     }
     let s = Sent { length, taken };
-    if read_back(family, d, s, start, back) {
+    if read_back(out, family, d, s, start, back) {
         return s;
     }
     nothing()
@@ -118,6 +126,7 @@ fn in_turn(one: usize, other: usize, messages: usize) -> usize {
 }
 
 fn pack_all(
+    out: &impl Print,
     family: AddressFamily,
     e: &[u8],
     one: usize,
@@ -132,7 +141,7 @@ fn pack_all(
     let mut taken = 0;
     while taken < COUNT {
         let limit = in_turn(one, other, messages);
-        let s = next_message(family, e, taken, limit, d, back);
+        let s = next_message(out, family, e, taken, limit, d, back);
         if s.taken == 0 {
             break;
         }
@@ -148,76 +157,77 @@ fn pack_all(
 }
 
 // The entries that were read, held to the list that was packed.
-fn compare(family: AddressFamily, packed: &[u8], read: &[u8]) -> bool {
+fn compare(out: &impl Print, family: AddressFamily, packed: &[u8], read: &[u8]) -> bool {
     let at = in_common(packed, read);
     if at == packed.len() {
-        return text(b", read back: the list\n");
+        return text(out, b", read back: the list\n");
     }
     number(
+        out,
         b", read back: another list, from entry ",
         (at / place(family, 1)) as u64,
-    ) && text(b" on\n")
+    ) && text(out, b" on\n")
 }
 
 // A train, with buffers of its own, so that nothing of another train can be read. One that is not whole has said why.
-fn show(family: AddressFamily, list: &[u8], one: usize, other: usize) {
-    let mut d = io::large_buffer();
+fn show(out: &impl Print, family: AddressFamily, list: &[u8], one: usize, other: usize) {
+    let mut d = [0; 65536];
     let mut back = room();
-    text(b": ");
-    let t = pack_all(family, list, one, other, &mut d, &mut back);
+    text(out, b": ");
+    let t = pack_all(out, family, list, one, other, &mut d, &mut back);
     if t.taken == COUNT {
-        number(b"messages ", t.messages as u64);
-        number(b", octets ", t.octets as u64);
-        compare(family, list, &back);
+        number(out, b"messages ", t.messages as u64);
+        number(out, b", octets ", t.octets as u64);
+        compare(out, family, list, &back);
     }
 }
 
-fn run_at(family: AddressFamily, list: &[u8], limit: usize) {
-    family_name(family);
-    number(b"limit ", limit as u64);
-    show(family, list, limit, limit);
+fn run_at(out: &impl Print, family: AddressFamily, list: &[u8], limit: usize) {
+    family_name(out, family);
+    number(out, b"limit ", limit as u64);
+    show(out, family, list, limit, limit);
 }
 
-fn run_by_turns(family: AddressFamily, list: &[u8], one: usize, other: usize) {
-    family_name(family);
-    number(b"limits ", one as u64);
-    number(b" and ", other as u64);
-    text(b" by turns");
-    show(family, list, one, other);
+fn run_by_turns(out: &impl Print, family: AddressFamily, list: &[u8], one: usize, other: usize) {
+    family_name(out, family);
+    number(out, b"limits ", one as u64);
+    number(out, b" and ", other as u64);
+    text(out, b" by turns");
+    show(out, family, list, one, other);
 }
 
-fn name_list(family: AddressFamily, list: &[u8]) {
-    family_name(family);
-    number(b"the list: ", COUNT as u64);
-    named(b" entries, sum ", checksum::sum(list) as u64);
+fn name_list(out: &impl Print, family: AddressFamily, list: &[u8]) {
+    family_name(out, family);
+    number(out, b"the list: ", COUNT as u64);
+    named(out, b" entries, sum ", checksum::sum(list) as u64);
 }
 
-pub(crate) fn ipv4(list: &[u8]) {
+pub(crate) fn ipv4(out: &impl Print, list: &[u8]) {
     let family = AddressFamily::Ipv4;
-    name_list(family, list);
-    run_at(family, list, 38);
-    run_at(family, list, 49);
-    run_at(family, list, 50);
-    run_at(family, list, 0);
-    run_at(family, list, 556);
-    run_by_turns(family, list, 0, 556);
-    run_at(family, list, 576);
-    run_at(family, list, 1480);
-    run_at(family, list, 9000);
-    run_at(family, list, 65515);
+    name_list(out, family, list);
+    run_at(out, family, list, 38);
+    run_at(out, family, list, 49);
+    run_at(out, family, list, 50);
+    run_at(out, family, list, 0);
+    run_at(out, family, list, 556);
+    run_by_turns(out, family, list, 0, 556);
+    run_at(out, family, list, 576);
+    run_at(out, family, list, 1480);
+    run_at(out, family, list, 9000);
+    run_at(out, family, list, 65515);
 }
 
-pub(crate) fn ipv6(list: &[u8]) {
+pub(crate) fn ipv6(out: &impl Print, list: &[u8]) {
     let family = AddressFamily::Ipv6;
-    name_list(family, list);
-    run_at(family, list, 62);
-    run_at(family, list, 68);
-    run_at(family, list, 97);
-    run_at(family, list, 98);
-    run_at(family, list, 0);
-    run_by_turns(family, list, 62, 1480);
-    run_at(family, list, 576);
-    run_at(family, list, 1280);
-    run_at(family, list, 1480);
-    run_at(family, list, 65515);
+    name_list(out, family, list);
+    run_at(out, family, list, 62);
+    run_at(out, family, list, 68);
+    run_at(out, family, list, 97);
+    run_at(out, family, list, 98);
+    run_at(out, family, list, 0);
+    run_by_turns(out, family, list, 62, 1480);
+    run_at(out, family, list, 576);
+    run_at(out, family, list, 1280);
+    run_at(out, family, list, 1480);
+    run_at(out, family, list, 65515);
 }

@@ -5,18 +5,21 @@
 // vectors_hello6.rt     Hellos of IPv6
 // vectors_assert.rt     plain Asserts, and packed Null-Registers and Register-Stops
 #![tactic(auto)]
+
 mod vectors_assert;
 mod vectors_hello;
 mod vectors_hello6;
 
 use format::{AddressFamily, nowhere};
 
-pub(crate) fn show_ipv4(table: &[u8]) {
-    listing::show_all(AddressFamily::Ipv4, nowhere(), table);
+pub(crate) fn show_ipv4(out: &impl Print, err: &impl Print, table: &[u8]) {
+    listing::show_all(out, err, AddressFamily::Ipv4, nowhere(), table);
 }
 
-fn main() {
-    vectors_hello::run();
-    vectors_assert::run();
-    vectors_hello6::run();
+fn main(rt: HostRuntime) {
+    let out = rt.stdout();
+    let err = rt.stderr();
+    vectors_hello::run(&out, &err);
+    vectors_assert::run(&out, &err);
+    vectors_hello6::run(&out, &err);
 }

@@ -3,8 +3,10 @@
 use crate::show_ipv4;
 
 // Captures ff-lan.pcap, ff2-lan.pcap (an AssertCancel) and tt-lan.pcap. A name has the values that were read.
-fn asserts() {
+fn asserts(out: &impl Print, err: &impl Print) {
     show_ipv4(
+        out,
+        err,
         b"\
 vector assert 1, FRR pimd 8.4.4 at 10.7.0.12
 2500e4e301000020e801010101000a0900640000006e0000001e
@@ -24,8 +26,10 @@ vector assert 6, pimd 2.3.2 at 10.7.0.12
 
 // What tshark reads no pair of, 01 refuses: subtype 2, the Count word of draft 11, and a cut source. The last one has a pair from
 // 255.255.255.255, which tshark reads and E5 refuses.
-fn registers() {
+fn registers(out: &impl Print, err: &impl Print) {
     show_ipv4(
+        out,
+        err,
         b"\
 vector register 1, nr 2 pairs
 2d00dab501000020ef01010101000a00000101000020ef01010201000a000002
@@ -45,7 +49,7 @@ vector register 7, rs 3 pairs, source 0 in the middle
     );
 }
 
-pub(crate) fn run() {
-    asserts();
-    registers();
+pub(crate) fn run(out: &impl Print, err: &impl Print) {
+    asserts(out, err);
+    registers(out, err);
 }

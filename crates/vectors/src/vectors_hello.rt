@@ -3,8 +3,10 @@
 use crate::show_ipv4;
 
 // FRR pimd 8.4.4, capture elections-lab.pcap.
-fn frr_elections_lab_1() {
+fn frr_elections_lab_1(out: &impl Print, err: &impl Print) {
     show_ipv4(
+        out,
+        err,
         b"\
 vector hello 1, FRR pimd 8.4.4 at 10.7.0.1: holdtime=18 priority=1
 2000b0620001000200120002000401f409c40013000400000001001400043ff7e3a2
@@ -43,8 +45,10 @@ vector hello 16, FRR pimd 8.4.4 at 10.7.0.3: holdtime=18 priority=3951459043
 }
 
 // FRR pimd 8.4.4, capture elections-lab.pcap.
-fn frr_elections_lab_2() {
+fn frr_elections_lab_2(out: &impl Print, err: &impl Print) {
     show_ipv4(
+        out,
+        err,
         b"\
 vector hello 17, FRR pimd 8.4.4 at 10.7.0.2: holdtime=18 priority=3458577099
 2000f6c90001000200120002000401f409c400130004ce25b2cb001400042d782eca
@@ -69,8 +73,10 @@ vector hello 25, FRR pimd 8.4.4 at 10.7.0.1: holdtime=0 priority=1
 }
 
 // pimd 2.3.2, capture elections-lab.pcap.
-fn pimd_elections_lab() {
+fn pimd_elections_lab(out: &impl Print, err: &impl Print) {
     show_ipv4(
+        out,
+        err,
         b"\
 vector hello 26, pimd 2.3.2 at 10.7.0.4: holdtime=105 priority=1
 200005c700010002006900130004000000010014000462da76c2
@@ -89,8 +95,10 @@ vector hello 31, pimd 2.3.2 at 10.7.0.150: holdtime=105 priority=4294967294
 }
 
 // FRR pimd 8.4.4, capture ff-lan.pcap.
-fn frr_ff_lan() {
+fn frr_ff_lan(out: &impl Print, err: &impl Print) {
     show_ipv4(
+        out,
+        err,
         b"\
 vector hello 32, FRR pimd 8.4.4 at 10.7.0.11: holdtime=105 priority=1
 2000e18c0001000200690002000401f409c40013000400000001001400043845b9d3
@@ -105,8 +113,10 @@ vector hello 35, FRR pimd 8.4.4 at 10.7.0.14: holdtime=0 priority=1
 }
 
 // FRR pimd 8.4.4, capture ff-xlan.pcap.
-fn frr_ff_xlan() {
+fn frr_ff_xlan(out: &impl Print, err: &impl Print) {
     show_ipv4(
+        out,
+        err,
         b"\
 vector hello 36, FRR pimd 8.4.4 at 10.10.0.254: holdtime=105 priority=1
 200079310001000200690002000401f409c400130004000000010014000405da549a
@@ -117,8 +127,10 @@ vector hello 37, FRR pimd 8.4.4 at 10.10.0.1: holdtime=0 priority=1
 }
 
 // pimd 2.3.2, capture tt-lan.pcap.
-fn pimd_tt_lan() {
+fn pimd_tt_lan(out: &impl Print, err: &impl Print) {
     show_ipv4(
+        out,
+        err,
         b"\
 vector hello 38, pimd 2.3.2 at 10.7.0.11: holdtime=105 priority=1
 2000bf3a0001000200690013000400000001001400044ec8d160
@@ -128,11 +140,11 @@ vector hello 39, pimd 2.3.2 at 10.7.0.12: holdtime=0 priority=1
     );
 }
 
-pub(crate) fn run() {
-    frr_elections_lab_1();
-    frr_elections_lab_2();
-    pimd_elections_lab();
-    frr_ff_lan();
-    frr_ff_xlan();
-    pimd_tt_lan();
+pub(crate) fn run(out: &impl Print, err: &impl Print) {
+    frr_elections_lab_1(out, err);
+    frr_elections_lab_2(out, err);
+    pimd_elections_lab(out, err);
+    frr_ff_lan(out, err);
+    frr_ff_xlan(out, err);
+    pimd_tt_lan(out, err);
 }

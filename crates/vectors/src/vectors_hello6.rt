@@ -3,7 +3,7 @@
 use format::{Address, AddressFamily, Path};
 
 // The Hellos of a table, sent by fe80:: with a last number.
-fn show_from(last: u64, table: &[u8]) {
+fn show_from(out: &impl Print, err: &impl Print, last: u64, table: &[u8]) {
     let path = Path {
         source: Address {
             high: 0xfe80_0000_0000_0000,
@@ -14,11 +14,13 @@ fn show_from(last: u64, table: &[u8]) {
             low: 0xd,
         },
     };
-    listing::show_all(AddressFamily::Ipv6, path, table);
+    listing::show_all(out, err, AddressFamily::Ipv6, path, table);
 }
 
-fn router_1() {
+fn router_1(out: &impl Print, err: &impl Print) {
     show_from(
+        out,
+        err,
         1,
         b"\
 vector hello6 1, FRR pim6d 10.3 at fe80::1: holdtime=18 priority=1
@@ -33,8 +35,10 @@ vector hello6 7, FRR pim6d 10.3 at fe80::1: holdtime=0 priority=1
     );
 }
 
-fn router_2() {
+fn router_2(out: &impl Print, err: &impl Print) {
     show_from(
+        out,
+        err,
         2,
         b"\
 vector hello6 6, FRR pim6d 10.3 at fe80::2: holdtime=65535 priority=1
@@ -43,8 +47,10 @@ vector hello6 6, FRR pim6d 10.3 at fe80::2: holdtime=65535 priority=1
     );
 }
 
-fn router_3() {
+fn router_3(out: &impl Print, err: &impl Print) {
     show_from(
+        out,
+        err,
         3,
         b"\
 vector hello6 2, FRR pim6d 10.3 at fe80::3: holdtime=18 priority=1
@@ -56,8 +62,10 @@ vector hello6 5, FRR pim6d 10.3 at fe80::3: holdtime=18 priority=4294967295
 }
 
 // 3: the pseudo-header of another router.
-fn another() {
+fn another(out: &impl Print, err: &impl Print) {
     show_from(
+        out,
+        err,
         2,
         b"\
 vector hello6 1, read as from fe80::2
@@ -66,9 +74,9 @@ vector hello6 1, read as from fe80::2
     );
 }
 
-pub(crate) fn run() {
-    router_1();
-    router_2();
-    router_3();
-    another();
+pub(crate) fn run(out: &impl Print, err: &impl Print) {
+    router_1(out, err);
+    router_2(out, err);
+    router_3(out, err);
+    another(out, err);
 }
