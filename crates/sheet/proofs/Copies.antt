@@ -20,7 +20,7 @@ use lib.Seq.{take-add, take_all, take-suc, drop-drop, drop-cons, get_or-take, le
 use borrow.Rule.Slice.PartMut.{put_mid}
 use Rattle.octets.specs.Octets.{put, be, value, copied}
 use Rattle.octets.specs.Field.{fitted}
-use Rattle.octets.proofs.Laws.{length_be, be_value, be_above, be_two, stores_put, put_nil, put_next, put_number_next, length_put, number_fits, length_fitted, copied_all, copied_part}
+use Rattle.octets.proofs.Laws.{length_be, be_value, be_above, be_two, stores_put, put_nil, put_next, put_number_next, length_put, number_fits, length_fitted, copied_part}
 use Rattle.format.specs.Family.{Family, family_of}
 use Rattle.format.proofs.Families.{lawful}
 use Rattle.addresses.proofs.Laws.{front_four}

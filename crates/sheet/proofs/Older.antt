@@ -18,7 +18,7 @@ use mathlib.Core.Path.{◌≡◌, refl, sym, ap, ◌∙◌}
 use mathlib.Core.Bool.{Bool, true, false, cond}
 use mathlib.Core.List.{List, [], ◌∷◌, ◌++◌, map}
 use borrow.Author.Tests.{not-false, lt-ltb, le-ltb, lt-leb, eq-eqb, ne_eqb, eqb-true}
-use lib.ListN.{length, take, drop, length-append, length-drop}
+use lib.ListN.{length, take, drop, length-drop}
 use lib.Seq.{length-take-le}
 use lib.Dec.{eqb}
 use Rattle.octets.specs.Octets.{Octets, number_at, value, be}
@@ -121,7 +121,7 @@ module _ (o : List ℕ) (size : ℕ) where
       let entry : List ℕ = take size (drop at o) in
       let rest : List ℕ = fronted front size o (at + size) n in
       let long : length entry ≡ size = length-take-le size (drop at o) (simp length-drop (omega (arith, mul-suc size n))) in
-      let both : length (front ++ entry) ≡ 4 + size = simp (length-append, long) (omega arith) in
+      let both : length (front ++ entry) ≡ 4 + size = simp long (omega arith) in
       (at_right front entry (at_left (front ++ entry) rest stands), rw both at (at_right (front ++ entry) rest stands))
 
   -- a number in it is that in the sheet

@@ -8,7 +8,7 @@
 --     round_trip                   the theorem, for both families
 --     some_held, some_written, some_octets, some_read     its conditions can be met: calls on an assert, a pair and a neighbour of each family
 -- Assumes nothing.
-use Prim.Native.Nat.{ℕ, ◌+◌, ◌≤◌, ◌<◌}
+use Prim.Native.Nat.{ℕ, ◌≤◌, ◌<◌}
 use native.Mathlib.Nat.{zero-add}
 use native.Mathlib.Omega.{arith}
 use mathlib.Core.Path.{◌≡◌, refl, sym, ap, subst, ◌∙◌}

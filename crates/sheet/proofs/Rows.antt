@@ -13,7 +13,7 @@ use mathlib.Core.Path.{◌≡◌, refl, sym, ap, ◌∙◌}
 use mathlib.Core.Bool.{Bool, true, false, not, cond, ◌&&◌, ◌||◌}
 use mathlib.Core.List.{List, [], ◌∷◌, ◌++◌, append_assoc}
 use borrow.Author.Tests.{not-true, not-false, eqb-true, eqb-false, ltb-true, lt-ltb, eq-eqb, ne_eqb}
-use lib.Dec.{eqb, lit<}
+use lib.Dec.{eqb, ltb, lit<}
 use lib.ListN.{length, drop, length-append}
 use Rattle.octets.specs.Octets.{Octets, number_at, value, be}
 use Rattle.octets.proofs.Laws.{length_be, be_value}
@@ -233,7 +233,7 @@ module _ (f : Family) (o : List ℕ) where
     row_from at {p} {x} e h has form r =
         let w : ℕ = f.width in
         let g : ℕ = at + front_size f in
-        let parts = and_true _ _ form in
+        let parts = and_true (ltb (number_at 1 o (g + w + 4)) 4) (eqb (number_at 1 o (g + w + 5)) 0) form in
         let address = address_number g (omega arith) in
         simp append_assoc
         (rw (be_value f.front start) at

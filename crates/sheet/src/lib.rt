@@ -6,6 +6,7 @@
 // read.rt        reading a sheet
 // write.rt       writing a sheet
 #![tactic(auto)]
+
 mod copy;
 mod put;
 mod read;

@@ -1,0 +1,11 @@
+-- `sheet::copy::copy` meets its contract: the loop's invariant is `Copying`. The measure is the octets left.
+-- Assumes nothing.
+use Prim.Native.Nat.{◌-◌}
+use Rattle.sheet.proofs.Copies.{Copying}
+use Rattle.sheet.proofs.copy.copy.Given as goal
+
+abbrev pub invariant-loop-i : goal.invariant-loop-i
+invariant-loop-i l = Copying l.s l.from l.n l.initial.d l.at l.d l.i
+
+abbrev pub decreases-loop-i : goal.decreases-loop-i
+decreases-loop-i l = l.n - l.i
