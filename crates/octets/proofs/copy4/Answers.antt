@@ -12,9 +12,3 @@ returns-then-d-lt4 c = copied_none 4 _ _ c.if-d-lt4.true
 
 pub returns : goal.returns
 returns c = copied_stores 4 _ _ (omega arith) (omega arith)
-
--- INLINE 7 of 12 (['slice_write-d-2', 'bounds-d-1']): (λ c. simp length-set (omega arith))
-
--- INLINE 8 of 12 (['slice_write-d-3', 'bounds-d-2']): (λ c. simp length-set (omega arith))
-
--- INLINE 9 of 12 (['slice_write-d-4', 'bounds-d-3']): (λ c. simp length-set (omega arith))

@@ -12,5 +12,3 @@ returns-then-n-lt2 c = c.short_number.ensures ∙ sym (number_short 2 _ c.args.s
 pub returns : goal.returns
 unfolding value
 returns c = omega (arith, number_is 2 c.args.s.now c.args.at (omega (arith, c.left-n.ensures, c.if-n-lt2.false)))
-
--- OPEN octets::short_number

@@ -12,5 +12,3 @@ returns-then-n-lt4 c = c.short_number.ensures ∙ sym (number_short 4 _ c.args.s
 pub returns : goal.returns
 unfolding value
 returns c = omega (arith, number_is 4 c.args.s.now c.args.at (omega (arith, c.left-n.ensures, c.if-n-lt4.false)))
-
--- OPEN octets::short_number
