@@ -1,7 +1,7 @@
 // Reading standard input to its end, with a read that fails told from the end.
 ghost use Rattle.list.specs.Input.{Within};
 
-use std::io::{ErrorKind, Read};
+use std::io::Read;
 
 // What standard input holds.
 #[derive(Clone, Copy)]
@@ -11,24 +11,17 @@ pub(crate) enum Input {
     Failed,
 }
 
-// Reads until the input ends, the buffer is full, or a read fails. A read that a signal broke off is tried again.
+// Reads until the input ends, the buffer is full, or a read fails.
 pub(crate) fn read_input(input: &mut impl Read, buf: &mut [u8]) -> Input
     ensures { Within result buf.new }
 {
     let mut n = 0;
-    for _ in 0..u64::MAX {
-        if buf.len() <= n {
-            return Input::Octets(n);
-        }
+    while n < buf.len() {
         match input.read(&mut buf[n..]) {
             Ok(0) => return Input::Octets(n),
             Ok(more) => n += more,
-            Err(e) => {
-                if e.kind() != ErrorKind::Interrupted {
-                    return Input::Failed;
-                }
-            }
+            Err(_) => return Input::Failed,
         }
     }
-    Input::Failed
+    Input::Octets(n)
 }

@@ -6,7 +6,7 @@ ghost use Rattle.reporting.specs.File.{file_of};
 ghost use Rattle.reporting.specs.Report.{taken_from};
 
 use reporting::Tally;
-use std::io::{ErrorKind, Read};
+use std::io::Read;
 
 // How standard input ends.
 #[derive(Clone, Copy)]
@@ -66,8 +66,7 @@ fn count_piece(t: Tally, buf: &mut [u8], n: usize) -> Counted
     Counted { tally, left }
 }
 
-// Reads until the input ends or a read fails. A read that a signal broke off is tried again. The reads are more than any input needs:
-// each gives an octet at least.
+// Reads until the input ends or a read fails. The reads are more than any input needs: each gives an octet at least.
 pub(crate) fn read_input(input: &mut impl Read, buf: &mut [u8]) -> Found {
     let mut tally = reporting::none();
     let mut left = 0;
@@ -79,13 +78,11 @@ pub(crate) fn read_input(input: &mut impl Read, buf: &mut [u8]) -> Found {
                 tally = next.tally;
                 left = next.left;
             }
-            Err(e) => {
-                if e.kind() != ErrorKind::Interrupted {
-                    return Found {
-                        tally,
-                        ending: Ending::Failed,
-                    };
-                }
+            Err(_) => {
+                return Found {
+                    tally,
+                    ending: Ending::Failed,
+                };
             }
         }
     }

@@ -1,6 +1,9 @@
--- What was read so far lies within the buffer, which keeps its length.
-use Rattle.std.proofs.Common.{◌≡◌, ◌≤◌, length}
+-- What was read so far lies within the buffer, which keeps its length. The measure is the room that is left, which each read but the last makes less.
+use Rattle.std.proofs.Common.{◌≡◌, ◌-◌, ◌≤◌, length}
 use Rattle.list.proofs.input.read_input.Given as goal
 
-abbrev pub invariant-loop : goal.invariant-loop
-invariant-loop g l = (l.n ≤ length l.buf) × (length l.buf ≡ length l.initial.buf)
+abbrev pub invariant-loop-n : goal.invariant-loop-n
+invariant-loop-n g l = (l.n ≤ length l.buf) × (length l.buf ≡ length l.initial.buf)
+
+abbrev pub decreases-loop-n : goal.decreases-loop-n
+decreases-loop-n g l = length l.buf - l.n

@@ -7,13 +7,14 @@ use lib.ListN.{length, drop, length-drop}
 use lib.Seq.{length-paste}
 use Rattle.reporting.specs.declared.Taken.{Taken}
 use Rattle.report.proofs.Moved.{Left, left_of, moved_front}
+use borrow.Author.Rules.{rules}
 use Rattle.report.proofs.input.count_piece.Goals as goal
 use Rattle.report.proofs.input.count_piece.Goals.{After-with_octets-all}
 
 left : (c : After-with_octets-all) → Left c.args.buf.now c.args.n c.with_octets-all.result.used
 left c =
     let a = c.args in
-    left_of a.buf.now a.n a.t (λ i. (c.slice_known-1.given i).fits) c.requires c.with_octets-all.ensures
+    left_of a.buf.now a.n a.t (λ i. search rules) c.requires c.with_octets-all.ensures
 
 pub overflow_sub-left : goal.overflow_sub-left
 overflow_sub-left c = (left (goal.at.overflow_sub-left c).After-with_octets-all).within
