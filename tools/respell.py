@@ -1,5 +1,5 @@
 #!/usr/bin/env python3
-"""Brings the repository's own definitions and lemmas to snake case, after /opt/rattle/port/port.py.
+"""Brings the repository's own definitions and lemmas to snake case, after the kit's port.py.
 
 usage: python3 tools/respell.py         at the top of the repository, once; then `rt fmt` in each crate's folder
 
