@@ -1,4 +1,4 @@
--- What proofs by hand about counters share: those of `count` and of functions that call it.
+-- What a proof by hand about counters takes, of `count` and of functions that call it. Rattle makes these proofs itself today, and nothing cites this file.
 --     mach, mach_d     the machine values of counters and of a direction
 --     Told, Held       what the contracts state: of an answer, and of the counters then
 --     typed, typed_d   such a value has its MIR type

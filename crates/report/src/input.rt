@@ -31,6 +31,9 @@ struct Counted {
     pub left: usize,
 }
 
+// More reads than any input needs: each gives an octet at least.
+const READS: u64 = 0xffff_ffff_ffff_ffff;
+
 // Room for what is left of a piece, 65,536 octets at most, and as much again to read into.
 pub(crate) fn buffer() -> [u8; 131072]
     ensures { 131072 ≡ length result }
@@ -66,11 +69,13 @@ fn count_piece(t: Tally, buf: &mut [u8], n: usize) -> Counted
     Counted { tally, left }
 }
 
-// Reads until the input ends or a read fails. The reads are more than any input needs: each gives an octet at least.
+// Reads until the input ends or a read fails.
 pub(crate) fn read_input(input: &mut impl Read, buf: &mut [u8]) -> Found {
     let mut tally = reporting::none();
     let mut left = 0;
-    for _ in 0..u64::MAX {
+    let mut reads = READS;
+    while 0 < reads {
+        reads -= 1;
         match input.read(&mut buf[left..]) {
             Ok(0) => return at_end(tally, left),
             Ok(more) => {
