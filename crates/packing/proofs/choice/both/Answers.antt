@@ -38,7 +38,7 @@ call : (c : After-prefers_aggregated)
     ≡ both_written c.args.simple.now c.args.aggregated.now (pack (simple (family_of c.is_ipv6-ipv6.result)) c.args.path c.in-Is.l (left c.is_ipv6-ipv6.result c.args.e.now c.args.start)) (pack (aggregated (family_of c.is_ipv6-ipv6.result)) c.args.path c.in-Is.l (left c.is_ipv6-ipv6.result c.args.e.now c.args.start))
 call c says_asks =
     let a = c.args in
-    choice_packs (family_of c.is_ipv6-ipv6.result) a.path a.e.now a.start a.limit a.simple.now a.aggregated.now c.in-Is.l (says_asks)
+    choice_packs (family_of c.is_ipv6-ipv6.result) a.path a.e.now a.start a.limit a.simple.now a.aggregated.now c.in-Is.l says_asks
 
 prefers : (c : After-prefers_aggregated) → c.prefers_aggregated.result ≡ prefers_aggregated (pack (simple (family_of c.is_ipv6-ipv6.result)) c.args.path c.in-Is.l (left c.is_ipv6-ipv6.result c.args.e.now c.args.start)) (pack (aggregated (family_of c.is_ipv6-ipv6.result)) c.args.path c.in-Is.l (left c.is_ipv6-ipv6.result c.args.e.now c.args.start))
 prefers c =

@@ -35,7 +35,7 @@ counted c says_head says_fixed =
     let a = c.args in
     let es = entries_at (entries_for a.ipv6 a.kind) a.e.now a.from a.n in
     c.how_many_fixed-taken.ensures
-    ∙ sym (taken_fixed a.ipv6 a.kind c.requires.0 (says_fixed) a.limit es (says_head) ∙ ap (fitting a.ipv6 a.kind a.limit) (length_entries_at (entries_for a.ipv6 a.kind) a.e.now a.from a.n))
+    ∙ sym (taken_fixed a.ipv6 a.kind c.requires.0 says_fixed a.limit es says_head ∙ ap (fitting a.ipv6 a.kind a.limit) (length_entries_at (entries_for a.ipv6 a.kind) a.e.now a.from a.n))
 
 pub put_within-requires : goal.put_within-requires
 put_within-requires c =
@@ -69,4 +69,4 @@ returns c =
     let a = c.args in
     let t = c.how_many_fixed-taken.result in
     let same = fixed (goal.at.returns c).Else-l in
-    record { taken = counted (goal.at.returns c).After-how_many_fixed-taken (head (goal.at.returns c).Start) (fixed (goal.at.returns c).Else-l); next = c.put_records-next.ensures.next ∙ omega (arith, records_long a.ipv6 a.kind same a.e.now a.from t); buffer = rw (each_record a.ipv6 a.kind same (entries_at (entries_for a.ipv6 a.kind) a.e.now a.from t)) c.put_records-next.ensures.buffer }
+    record { taken = counted (goal.at.returns c).After-how_many_fixed-taken (head (goal.at.returns c).Start) same; next = c.put_records-next.ensures.next ∙ omega (arith, records_long a.ipv6 a.kind same a.e.now a.from t); buffer = rw (each_record a.ipv6 a.kind same (entries_at (entries_for a.ipv6 a.kind) a.e.now a.from t)) c.put_records-next.ensures.buffer }

@@ -22,7 +22,7 @@ inside c = c.requires.1
 there : (c : After-entry_size-size)
     → (c.args.start ≤ length c.args.e.now / (entries_for c.args.ipv6 c.args.kind).size)
     → c.entry_size-size.result * c.args.start + (entries_for c.args.ipv6 c.args.kind).size * (length c.args.e.now / c.entry_size-size.result - c.args.start) ≤ length c.args.e.now
-there c says_inside = rw c.entry_size-size.ensures (rest_there (entries_for c.args.ipv6 c.args.kind) c.args.e.now c.args.start (says_inside))
+there c says_inside = rw c.entry_size-size.ensures (rest_there (entries_for c.args.ipv6 c.args.kind) c.args.e.now c.args.start says_inside)
 
 left_are : (c : After-entry_size-size)
     → drop c.args.start (entries_of (entries_for c.args.ipv6 c.args.kind) c.args.e.now)
@@ -37,7 +37,9 @@ pub returns-then-n-eq0 : goal.returns-then-n-eq0
 unfolding octets_of took_of
 returns-then-n-eq0 c =
     let a = c.args in
-    record { answer = rw (left_are (goal.at.returns-then-n-eq0 c).After-entry_size-size, most_none a.ipv6 a.kind a.e.now (c.entry_size-size.result * a.start) (length a.e.now / c.entry_size-size.result - a.start) a.limit _ refl a.path c.if-n-eq0.true) (refl, refl); buffer = rw (left_are (goal.at.returns-then-n-eq0 c).After-entry_size-size, most_none a.ipv6 a.kind a.e.now (c.entry_size-size.result * a.start) (length a.e.now / c.entry_size-size.result - a.start) a.limit _ refl a.path c.if-n-eq0.true) (sym (put_nil a.d.now 0)) }
+    let left = left_are (goal.at.returns-then-n-eq0 c).After-entry_size-size in
+    let none = most_none a.ipv6 a.kind a.e.now (c.entry_size-size.result * a.start) (length a.e.now / c.entry_size-size.result - a.start) a.limit _ refl a.path c.if-n-eq0.true in
+    record { answer = rw (left, none) (refl, refl); buffer = rw (left, none) (sym (put_nil a.d.now 0)) }
 
 pub returns : goal.returns
 unfolding octets_of took_of
@@ -46,4 +48,6 @@ returns c =
     let at = c.entry_size-size.result * a.start in
     let n = length a.e.now / c.entry_size-size.result - a.start in
     let some : 0 < c.write_message.result.taken = rw c.write_message.ensures.taken (taken_some a.ipv6 a.kind c.requires.0 a.limit c.requires.2 a.e.now at n (omega (arith, c.if-n-eq0.false))) in
-    record { answer = rw (left_are (goal.at.returns c).After-entry_size-size, most_some a.ipv6 a.kind a.e.now at n a.limit c.write_message.result.taken c.write_message.ensures.taken a.path some) (c.write_message.ensures.size, refl); buffer = rw (left_are (goal.at.returns c).After-entry_size-size, most_some a.ipv6 a.kind a.e.now at n a.limit c.write_message.result.taken c.write_message.ensures.taken a.path some) c.write_message.ensures.buffer }
+    let left = left_are (goal.at.returns c).After-entry_size-size in
+    let most = most_some a.ipv6 a.kind a.e.now at n a.limit c.write_message.result.taken c.write_message.ensures.taken a.path some in
+    record { answer = rw (left, most) (c.write_message.ensures.size, refl); buffer = rw (left, most) c.write_message.ensures.buffer }

@@ -22,7 +22,7 @@ four c = rw c.if-ipv6.false at c.requires
 -- the low half, which is read first
 low : (c : After-whole64)
     → (c.args.at + 16 ≤ length c.args.e.now) → c.whole64.result ≡ number_at 8 c.args.e.now (c.args.at + 8)
-low c says_sixteen = let a = c.args in c.whole64.ensures ∙ whole_cut 8 a.e.now (a.at + 8) (a.at + 16) (omega arith) (says_sixteen)
+low c says_sixteen = let a = c.args in c.whole64.ensures ∙ whole_cut 8 a.e.now (a.at + 8) (a.at + 16) (omega arith) says_sixteen
 
 pub returns-then-whole64-ne0 : goal.returns-then-whole64-ne0
 returns-then-whole64-ne0 c =

@@ -30,7 +30,7 @@ could c =
 found : (c : After-rp_run-k)
     → ((c.smaller-most.result ≡ min c.args.n ((c.args.limit - c.args.out) / ((family_of c.args.ipv6).width + 2))) × (0 < (c.args.limit - c.args.out) / ((family_of c.args.ipv6).width + 2)))
     → c.rp_run-k.result ≡ run_length (family_of c.args.ipv6) Aggregated c.args.e.now c.args.from (min c.args.n ((c.args.limit - c.args.out) / ((family_of c.args.ipv6).width + 2)))
-found c says_could = rw (says_could).0 at c.rp_run-k.ensures
+found c says_could = rw says_could.0 at c.rp_run-k.ensures
 
 most : (c : After-put_groups_within-groups)
     → ((c.smaller-most.result ≡ min c.args.n ((c.args.limit - c.args.out) / ((family_of c.args.ipv6).width + 2))) × (0 < (c.args.limit - c.args.out) / ((family_of c.args.ipv6).width + 2)))
@@ -39,8 +39,8 @@ most : (c : After-put_groups_within-groups)
     (run_length (family_of c.args.ipv6) Aggregated c.args.e.now c.args.from c.args.n) (c.args.limit - c.args.out) c.put_groups_within-groups.result.taken
 most c says_could says_found =
     let a = c.args in
-    rp_most (family_of a.ipv6) a.e.now a.from c.requires.4 a.n a.out a.limit _ c.requires.0 (omega (arith, c.if-limit-out.false)) (says_could).1
-    (rw (says_found) at c.put_groups_within-groups.ensures.taken)
+    rp_most (family_of a.ipv6) a.e.now a.from c.requires.4 a.n a.out a.limit _ c.requires.0 (omega (arith, c.if-limit-out.false)) says_could.1
+    (rw says_found at c.put_groups_within-groups.ensures.taken)
 
 there : (c : After-width-w) → c.args.from + entry_size (family_of c.args.ipv6) ≤ length c.args.e.now
 there c = entry_there (family_of c.args.ipv6) c.args.e.now c.args.from c.args.n c.requires.0 c.requires.1
@@ -56,16 +56,19 @@ pub put_groups_within-groups-requires : goal.put_groups_within-groups-requires
 put_groups_within-groups-requires c =
     let a = c.args in
     let f = family_of a.ipv6 in
-    let few = could (goal.at.put_groups_within-groups-requires c).After-smaller-most in
+    let at = goal.at.put_groups_within-groups-requires c in
+    let few = could at.After-smaller-most in
     let range = run_range f Aggregated a.e.now a.from (min a.n ((a.limit - a.out) / (f.width + 2))) (omega (arith, few, c.requires.0)) in
-    let far : entry_size f * c.rp_run-k.result ≤ entry_size f * a.n = mul-le-mul_left (entry_size f) (omega (arith, found (goal.at.put_groups_within-groups-requires c).After-rp_run-k (could (goal.at.put_groups_within-groups-requires c).After-smaller-most), range.1)) in
+    let far : entry_size f * c.rp_run-k.result ≤ entry_size f * a.n = mul-le-mul_left (entry_size f) (omega (arith, found at.After-rp_run-k few, range.1)) in
     (omega (arith, c.requires.1), omega (arith, c.if-limit-out.false), c.requires.3)
 
 pub returns-then-groups-eq0 : goal.returns-then-groups-eq0
 returns-then-groups-eq0 c =
     let a = c.args in
     let f = family_of a.ipv6 in
-    let fit : MostWithin f (all_of f Aggregated) a.e.now a.from (run_length f Aggregated a.e.now a.from a.n) (a.limit - a.out) c.put_groups_within-groups.result.taken = most (goal.at.returns-then-groups-eq0 c).After-put_groups_within-groups (could (goal.at.returns-then-groups-eq0 c).After-smaller-most) (found (goal.at.returns-then-groups-eq0 c).After-rp_run-k (could (goal.at.returns-then-groups-eq0 c).After-smaller-most)) in
+    let at = goal.at.returns-then-groups-eq0 c in
+    let few = could at.After-smaller-most in
+    let fit : MostWithin f (all_of f Aggregated) a.e.now a.from (run_length f Aggregated a.e.now a.from a.n) (a.limit - a.out) c.put_groups_within-groups.result.taken = most at.After-put_groups_within-groups few (found at.After-rp_run-k few) in
     let rest = none_written f Aggregated a.e.now a.from a.out (rw (c.if-groups-eq0.true, all_none f Group a.e.now a.from) at c.put_groups_within-groups.ensures.buffer ∙ put_nil a.d.now (a.out + 12)) in
     record { taken = rw c.if-groups-eq0.true at fit; next = rest.0; buffer = rest.1 }
 
@@ -73,13 +76,15 @@ pub returns : goal.returns
 returns c =
     let a = c.args in
     let f = family_of a.ipv6 in
+    let at = goal.at.returns c in
+    let few = could at.After-smaller-most in
     let o = a.e.now in
     let v = number_at 4 o (group_at f a.from + 2 * f.width) in
     let m = number_at 4 o (group_at f a.from + 2 * f.width + 4) in
     let any : 0 < c.put_groups_within-groups.result.taken = omega (arith, c.if-groups-eq0.false) in
     let number = be 2 (number_of f Group (asserts f o a.from c.put_groups_within-groups.result.taken)) ++ reserved2 in
     let head : length ((be 4 v ++ be 4 m) ++ number) ≡ 12 = length-append (be 4 v ++ be 4 m) number ∙ omega (arith, metric_long v m, number_long (number_of f Group (asserts f o a.from c.put_groups_within-groups.result.taken))) in
-    let all = most (goal.at.returns c).After-put_groups_within-groups (could (goal.at.returns c).After-smaller-most) (found (goal.at.returns c).After-rp_run-k (could (goal.at.returns c).After-smaller-most)) in
+    let all = most at.After-put_groups_within-groups few (found at.After-rp_run-k few) in
     let one = one_all f Aggregated o a.from a.n c.put_groups_within-groups.result.taken any all.inside (omega (arith, all.inside, (run_range f Aggregated o a.from a.n c.requires.0).1)) in
     record {
       taken = all;

@@ -24,7 +24,7 @@ found : (c : After-source_run-taken)
 found c says_room =
     let a = c.args in
     let f = family_of a.ipv6 in
-    first_run f Aggregated a.e.now a.from a.n (a.limit - a.out) c.smaller-most.result c.source_run-taken.result c.requires.1 (says_room) (omega (arith, c.if-most-eq0.false))
+    first_run f Aggregated a.e.now a.from a.n (a.limit - a.out) c.smaller-most.result c.source_run-taken.result c.requires.1 says_room (omega (arith, c.if-most-eq0.false))
     (λ j some less. source_grows f a.e.now a.from c.requires.4 j c.smaller-most.result some less) c.source_run-taken.ensures
 
 pub returns-then-most-eq0 : goal.returns-then-most-eq0
@@ -45,4 +45,5 @@ pub returns : goal.returns
 returns c =
     let a = c.args in
     let run = found (goal.at.returns c).After-source_run-taken (room (goal.at.returns c).After-smaller-most) in
-    record { taken = run.most; next = rw (first_octets (family_of a.ipv6) Aggregated a.e.now a.from run) c.put_source_aggregated-next.ensures.next; buffer = rw (first_octets (family_of a.ipv6) Aggregated a.e.now a.from run) c.put_source_aggregated-next.ensures.buffer }
+    let octets = first_octets (family_of a.ipv6) Aggregated a.e.now a.from run in
+    record { taken = run.most; next = rw octets c.put_source_aggregated-next.ensures.next; buffer = rw octets c.put_source_aggregated-next.ensures.buffer }

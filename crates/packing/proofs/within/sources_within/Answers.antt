@@ -21,7 +21,7 @@ looked c =
 
 apart : (c : After-zeros-apart)
     → (c.smaller-2.result ≡ min (min c.args.n (few c.args.ipv6)) (c.args.room / ((family_of c.args.ipv6).width + 8))) → c.zeros-apart.result ≡ zeros c.args.ipv6 c.args.e.now c.args.from c.args.n c.args.room
-apart c says_looked = rw (says_looked) at c.zeros-apart.ensures
+apart c says_looked = rw says_looked at c.zeros-apart.ensures
 
 pub returns-then-few-joined : goal.returns-then-few-joined
 returns-then-few-joined c =
