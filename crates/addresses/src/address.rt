@@ -6,7 +6,7 @@ ghost use Rattle.format.specs.Path.{number_of};
 ghost use Rattle.addresses.specs.Addresses.{address_at, in_family};
 
 use format::Address;
-use octets::{copy4, copy16, number32, whole32, whole64};
+use octets::{copy, number, whole};
 
 // The IPv4 address at a place, or 0 where it is not there whole. Of parts that are lent with their length the compiler knows that no octet is missing.
 fn four_at(s: &[u8], at: usize) -> Address
@@ -20,7 +20,7 @@ fn four_at(s: &[u8], at: usize) -> Address
     }
     Address {
         high: 0,
-        low: whole32(&s[at..at + 4], 0) as u64,
+        low: whole::<u32>(&s[at..at + 4], 0) as u64,
     }
 }
 
@@ -35,8 +35,8 @@ fn sixteen_at(s: &[u8], at: usize) -> Address
         return Address { high: 0, low: 0 };
     }
     Address {
-        high: whole64(&s[at..at + 8], 0),
-        low: whole64(&s[at + 8..at + 16], 0),
+        high: whole::<u64>(&s[at..at + 8], 0),
+        low: whole::<u64>(&s[at + 8..at + 16], 0),
     }
 }
 
@@ -50,7 +50,7 @@ pub fn address_at(ipv6: bool, s: &[u8], at: usize) -> Address
     four_at(s, at)
 }
 
-// Addresses compare unsigned.
+// Addresses compare unsigned. `a < b` was tried, and `elect_among` took a tenth to a third more time.
 pub fn is_below(a: Address, b: Address) -> bool
     ensures { result ≡ ltb (number_of a) (number_of b) }
 {
@@ -63,14 +63,11 @@ pub fn is_below(a: Address, b: Address) -> bool
     a.low < b.low
 }
 
-// Two addresses are one if both halves are. The low ones are compared first: those of neighbours on a LAN mostly differ there alone.
+// Two addresses are one if both halves are.
 pub fn is_same(a: Address, b: Address) -> bool
     ensures { result ≡ eqb (number_of a) (number_of b) }
 {
-    if a.low != b.low {
-        return false;
-    }
-    a.high == b.high
+    a == b
 }
 
 // Whether an address is one of a family: every one is an IPv6 address, and those below 2^32 are IPv4 addresses.
@@ -106,16 +103,16 @@ pub fn is_zero_at(s: &[u8], at: usize) -> bool
     if s.len() - 16 < at {
         return true;
     }
-    if number32(s, at) != 0 {
+    if number::<u32>(s, at) != 0 {
         return false;
     }
-    if number32(s, at + 4) != 0 {
+    if number::<u32>(s, at + 4) != 0 {
         return false;
     }
-    if number32(s, at + 8) != 0 {
+    if number::<u32>(s, at + 8) != 0 {
         return false;
     }
-    number32(s, at + 12) == 0
+    number::<u32>(s, at + 12) == 0
 }
 
 // The octets of an address, from the start of one slice to the start of another. Lend parts of that length.
@@ -123,8 +120,8 @@ pub fn copy_address(ipv6: bool, s: &[u8], d: &mut [u8])
     ensures { d.new ≡ copied (family_of ipv6).width s.now d.old }
 {
     if ipv6 {
-        copy16(s, d);
+        copy::<16>(s, d);
         return;
     }
-    copy4(s, d);
+    copy::<4>(s, d);
 }

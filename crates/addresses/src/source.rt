@@ -6,7 +6,7 @@ ghost use Rattle.addresses.specs.Addresses.{address_at, source_first};
 
 use crate::address::is_zero_at;
 use crate::family::{is_multicast, width};
-use octets::number32;
+use octets::number;
 
 // Whether an address that begins with an octet is a source whatever follows: 1 to 223, in IPv6 1 to 254. These are nearly all.
 pub fn begins_source(ipv6: bool, first: u8) -> bool
@@ -37,7 +37,7 @@ fn four_source(s: &[u8], at: usize, zero_allowed: bool) -> bool
     requires { (at + 4 ≤ length s.now) × ((family_of false).is_group (address_at (family_of false) s.now at) ≡ false) }
     ensures { result ≡ may_be_source (family_of false) zero_allowed (address_at (family_of false) s.now at) }
 {
-    let a = number32(&s[at..at + 4], 0);
+    let a = number::<u32>(&s[at..at + 4], 0);
     if a == 0 {
         return zero_allowed;
     }

@@ -2,8 +2,8 @@
 // Both calls are total; what they answer is a definition of specs/. Merging and writing are in `popcount`.
 //
 // speed.rt       link speeds compared
-// options.rt     the options: their bits, how many octets each has, and its value after the one before
-// read.rt        an attribute: its fields of a fixed size, its options' values, the whole
+// options.rt     the options: their bits, how many octets each has, and their values
+// read.rt        an attribute: what follows its length, the whole
 #![tactic(auto)]
 
 mod options;
@@ -15,4 +15,4 @@ pub use options::{
     size_in, sizes,
 };
 pub use read::{Attribute, AttributeRead, read_attribute};
-pub use speed::{Order, compare_speeds};
+pub use speed::compare_speeds;

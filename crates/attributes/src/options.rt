@@ -1,11 +1,11 @@
-// The options of an attribute: their bits and values; how many octets each has; its value, read after the one before.
-ghost use Rattle.std.specs.Prelude.{◌≡◌, ◌^◌, ◌≤◌, ◌<◌};
-ghost use Rattle.octets.specs.Field.{field_of};
-ghost use Rattle.format.specs.Reader.{number};
+// The options of an attribute: their bits and values; how many octets each has; their values, read one after another.
+ghost use Rattle.std.specs.Prelude.{◌≡◌, ◌≤◌};
 ghost use Rattle.attributes.specs.Options.{has_bit, sizes};
-ghost use Rattle.attributes.specs.Answers.{size_for, size_by, option_at, past, number_of};
+ghost use Rattle.attributes.specs.Attribute.{values};
+ghost use Rattle.attributes.specs.Answers.{found, size_for, size_by, option_at};
 
-use octets::Field;
+use format::{Reason, Refusal};
+use octets::Unsigned;
 
 // The option bits, the highest first.
 pub const TRANSIT: u16 = 0x8000;
@@ -38,27 +38,22 @@ pub struct Values {
     pub time_zone: u8,
 }
 
-// Whether a word of option bits has a bit.
+// Whether a word of option bits has a bit. By division, since `size_in` promises it of any number, and not of the bits alone.
 fn has_bit(options: u16, bit: u16) -> bool
     ensures { result ≡ has_bit options bit }
 {
-    if bit == 0 {
-        return false;
-    }
-    options / bit % 2 == 1
+    bit != 0 && options / bit % 2 == 1
 }
 
 // How many octets an option has, by its bit.
 fn size_for(bit: u16) -> u32
     ensures { (result ≡ size_for bit) × (result ≤ 4) }
 {
-    if bit >= STUB {
-        return 4;
+    match bit {
+        STUB.. => 4,
+        MAXIMUM_SPEED.. => 2,
+        _ => 1,
     }
-    if bit >= MAXIMUM_SPEED {
-        return 2;
-    }
-    1
 }
 
 // The octets of an option: none where it is not present.
@@ -82,39 +77,40 @@ pub fn sizes(options: u16) -> u32
     counts + speeds + domain + diameter
 }
 
-// The number that an option's octets spell.
-fn number_for(o: &[u8], at: usize, bit: u16) -> Field
-    ensures { field_of result ≡ number (size_for bit) o.now at }
+// An option's value, and the place past it: 0 and the place itself where the option is not present.
+fn value<T: Unsigned>(o: &[u8], at: usize, options: u16, bit: u16) -> Result<(T, usize), Refusal>
+    ensures { found T.number result ≡ option_at T.SIZE options bit o.now at }
 {
-    if bit >= STUB {
-        return octets::read32(o, at);
-    }
-    if bit >= MAXIMUM_SPEED {
-        return octets::read16(o, at);
-    }
-    octets::read8(o, at)
-}
-
-// An option's value after a field: 0 where the option is not present. A field that is cut is handed on.
-pub(crate) fn value_after(o: &[u8], field: Field, options: u16, bit: u16) -> Field
-    ensures value { field_of result ≡ past (option_at options bit) o.now (field_of field) }
-    ensures fits { number_of (field_of result) < 256 ^ size_for bit }
-{
-    let Field::Got { value: _, next } = field else {
-        return field;
-    };
     if has_bit(options, bit) {
-        return number_for(o, next, bit);
+        let Some(field) = octets::read::<T>(o, at) else {
+            return Err(Reason::Cut.at(at));
+        };
+        return Ok(field);
     }
-    Field::Got { value: 0, next }
+    Ok((T::of_wide(0), at))
 }
 
-// The number of a field: 0 where it is cut.
-pub(crate) fn number_of(f: Field) -> u32
-    ensures { result ≡ number_of (field_of f) }
+// The options' values, and the place past them.
+pub(crate) fn read_values(o: &[u8], at: usize, options: u16) -> Result<(Values, usize), Refusal>
+    ensures { found (λ v. v) result ≡ values options o.now at }
 {
-    match f {
-        Field::Got { value, next: _ } => value,
-        Field::Short { place: _ } => 0,
-    }
+    let (transit, at) = value::<u32>(o, at, options, TRANSIT)?;
+    let (stub, at) = value::<u32>(o, at, options, STUB)?;
+    let (minimum_speed, at) = value::<u16>(o, at, options, MINIMUM_SPEED)?;
+    let (maximum_speed, at) = value::<u16>(o, at, options, MAXIMUM_SPEED)?;
+    let (domain, at) = value::<u8>(o, at, options, DOMAIN)?;
+    let (node, at) = value::<u8>(o, at, options, NODE)?;
+    let (diameter, at) = value::<u8>(o, at, options, DIAMETER)?;
+    let (time_zone, at) = value::<u8>(o, at, options, TIME_ZONE)?;
+    let all = Values {
+        transit,
+        stub,
+        minimum_speed,
+        maximum_speed,
+        domain,
+        node,
+        diameter,
+        time_zone,
+    };
+    Ok((all, at))
 }

@@ -1,16 +1,10 @@
-// An attribute read: what follows the option bits, what follows the length, the first two octets, the whole.
+// An attribute read: what follows the length, the first two octets, the whole.
 ghost use Rattle.std.specs.Prelude.{◌≡◌};
-ghost use Rattle.octets.specs.Field.{field_of, place_of};
-ghost use Rattle.format.specs.Reader.{bad};
 ghost use Rattle.attributes.specs.Attribute.{length_agrees, attribute};
-ghost use Rattle.attributes.specs.Answers.{read_by, fields_after, values_after};
+ghost use Rattle.attributes.specs.Answers.{read_by, fields_after};
 
-use crate::options::{
-    DIAMETER, DOMAIN, MAXIMUM_SPEED, MINIMUM_SPEED, NODE, STUB, TIME_ZONE, TRANSIT, Values,
-    number_of, sizes, value_after,
-};
-use format::Refusal;
-use octets::Field;
+use crate::options::{Values, read_values, sizes};
+use format::{Reason, Refusal};
 
 // An attribute: which options are present is told by `options`, as the attribute has it.
 #[repr(C)]
@@ -23,76 +17,11 @@ pub struct Attribute {
     pub values: Values,
 }
 
-// What reading an attribute finds.
+// What reading an attribute finds: the attribute, and the place past it.
 #[derive(Clone, Copy)]
-pub enum AttributeRead {
-    // The attribute, and the place past it.
-    Is(Attribute, usize),
-    Refused(Refusal),
-}
-
-// The fields of a fixed size.
-#[derive(Clone, Copy)]
-struct Fixed {
-    e: bool,
-    mtu: u16,
-    flags: u16,
-    options: u16,
-}
-
-// A refusal, by 01's number and the place.
-fn bad(number: u8, place: usize) -> AttributeRead
-    ensures { result ≡ AttributeRead.Refused (record { number = number; place = place }) }
-{
-    AttributeRead::Refused(Refusal { number, place })
-}
-
-// A field that is cut: 6, at the place that its reader found.
-fn cut(f: Field) -> AttributeRead
-    ensures { read_by result ≡ bad 6 (place_of (field_of f)) }
-{
-    bad(6, octets::place(f))
-}
-
-// The values, then so many octets that are ignored but due.
-fn values_after(o: &[u8], at: usize, fixed: Fixed, ignored: u32) -> AttributeRead
-    ensures { read_by result ≡ values_after fixed ignored o.now at }
-{
-    let w = fixed.options;
-    let start = Field::Got { value: 0, next: at };
-    let transit = value_after(o, start, w, TRANSIT);
-    let stub = value_after(o, transit, w, STUB);
-    let minimum = value_after(o, stub, w, MINIMUM_SPEED);
-    let maximum = value_after(o, minimum, w, MAXIMUM_SPEED);
-    let domain = value_after(o, maximum, w, DOMAIN);
-    let node = value_after(o, domain, w, NODE);
-    let diameter = value_after(o, node, w, DIAMETER);
-    let zone = value_after(o, diameter, w, TIME_ZONE);
-    let Field::Got { value: _, next } = zone else {
-        return cut(zone);
-    };
-    let f = octets::skip(o, next, ignored as usize);
-    let Field::Got { value: _, next } = f else {
-        return cut(f);
-    };
-    let values = Values {
-        transit: number_of(transit),
-        stub: number_of(stub),
-        minimum_speed: number_of(minimum) as u16,
-        maximum_speed: number_of(maximum) as u16,
-        domain: number_of(domain) as u8,
-        node: number_of(node) as u8,
-        diameter: number_of(diameter) as u8,
-        time_zone: number_of(zone) as u8,
-    };
-    let a = Attribute {
-        e: fixed.e,
-        mtu: fixed.mtu,
-        flags: fixed.flags,
-        options: w,
-        values,
-    };
-    AttributeRead::Is(a, next)
+pub struct AttributeRead {
+    pub attribute: Attribute,
+    pub next: usize,
 }
 
 // Whether a length is one that the options may have: exactly theirs, or more where an unallocated bit is set.
@@ -107,57 +36,58 @@ fn length_agrees(len: u32, options: u16) -> bool
 }
 
 // What follows the first octet and the length of the attribute that begins at a place.
-fn fields_after(o: &[u8], at: usize, first: usize, e: bool, len: u32) -> AttributeRead
+fn fields_after(
+    o: &[u8],
+    at: usize,
+    first: usize,
+    e: bool,
+    len: u32,
+) -> Result<AttributeRead, Refusal>
     ensures { read_by result ≡ fields_after first e len o.now at }
 {
-    let m = octets::read16(o, at);
-    let Field::Got { value, next } = m else {
-        return cut(m);
+    let Some((mtu, flags_at)) = octets::read::<u16>(o, at) else {
+        return Err(Reason::Cut.at(at));
     };
-    let mtu = value as u16;
-    let f = octets::read16(o, next);
-    let Field::Got { value, next } = f else {
-        return cut(f);
+    let Some((flags, options_at)) = octets::read::<u16>(o, flags_at) else {
+        return Err(Reason::Cut.at(flags_at));
     };
-    let flags = value as u16;
-    let w = octets::read16(o, next);
-    let Field::Got { value, next } = w else {
-        return cut(w);
+    let Some((options, values_at)) = octets::read::<u16>(o, options_at) else {
+        return Err(Reason::Cut.at(options_at));
     };
-    let options = value as u16;
-    if length_agrees(len, options) {
-        let fixed = Fixed {
-            e,
-            mtu,
-            flags,
-            options,
-        };
-        return values_after(o, next, fixed, len - (6 + sizes(options)));
+    if !length_agrees(len, options) {
+        return Err(Reason::BadOption.at(first));
     }
-    bad(13, first)
+    let (values, ignored_at) = read_values(o, values_at, options)?;
+    let ignored = len - (6 + sizes(options));
+    let Some(next) = octets::skip(o, ignored_at, ignored as usize) else {
+        return Err(Reason::Cut.at(ignored_at));
+    };
+    let attribute = Attribute {
+        e,
+        mtu,
+        flags,
+        options,
+        values,
+    };
+    Ok(AttributeRead { attribute, next })
 }
 
 // An attribute: 6 is at the field that is cut, and 13 at the attribute's first octet.
-pub fn read_attribute(o: &[u8], at: usize) -> AttributeRead
+pub fn read_attribute(o: &[u8], at: usize) -> Result<AttributeRead, Refusal>
     ensures { read_by result ≡ attribute o.now at }
 {
-    let t = octets::read8(o, at);
-    let Field::Got { value, next } = t else {
-        return cut(t);
+    let Some((octet, length_at)) = octets::read::<u8>(o, at) else {
+        return Err(Reason::Cut.at(at));
     };
-    if value / 128 != 0 {
-        return bad(13, at);
+    if octet / 128 != 0 || octet % 64 != 3 {
+        return Err(Reason::BadOption.at(at));
     }
-    if value % 64 != 3 {
-        return bad(13, at);
-    }
-    let e = value / 64 % 2 == 1;
-    let l = octets::read8(o, next);
-    let Field::Got { value: len, next } = l else {
-        return cut(l);
+    let Some((len, next)) = octets::read::<u8>(o, length_at) else {
+        return Err(Reason::Cut.at(length_at));
     };
     if len < 6 {
-        return bad(13, at);
+        return Err(Reason::BadOption.at(at));
     }
-    fields_after(o, next, at, e, len)
+    let e = octet / 64 % 2 == 1;
+    fields_after(o, next, at, e, len as u32)
 }

@@ -1,61 +1,55 @@
--- The invariant of the loop over words, with its start, its step and its ends: after each word the accumulator is at most 0xFFFF, and the one's complement sum of the words so far.
+-- The loop over pairs of octets, and its ends: after each pair the accumulator is the one's complement sum of the words so far.
 -- Assumes nothing.
-use mathlib.Core.Path.{◌≡◌, refl, ap, sym, ◌∙◌}
-use mathlib.Core.List.{List}
-use Prim.Native.Nat.{ℕ, suc, ◌+◌, ◌-◌, ◌*◌, ◌/◌, ◌%◌, ◌≤◌, ◌<◌}
+use mathlib.Core.Path.{◌≡◌, refl, ap, ◌∙◌}
+use mathlib.Core.List.{List, [], ◌∷◌}
+use Prim.Native.Nat.{ℕ, zero, suc, ◌+◌, ◌*◌, ◌/◌, ◌%◌, ◌≤◌, ◌<◌}
+use native.Mathlib.Numerals.{add-one}
 use native.Mathlib.Omega.{arith}
-use lib.ListN.{length, get_or, take, drop, length-drop, get_or-eq_default}
+use lib.ListN.{length, get_or, take, drop, get_or-eq_default}
 use lib.Seq.{take_all, get_or-drop}
+use Rattle.std.specs.Simd.{first_chunks}
 use Rattle.checksum.specs.Sum.{words, add, sum_from}
 use Rattle.checksum.proofs.Laws.{length_words, get_d_words, sum_from_take_suc}
 
--- octet `i` of `o` is reached after `count` words from octet `from`, summed onto `start`
-pub record SoFar (o : List ℕ) (from start i acc : ℕ) : Type 0 where
-  pub count : ℕ
-  pub place : i ≡ from + 2 * count
-  pub inside : i ≤ length o
-  pub fits : acc ≤ 65535
-  pub gives : acc ≡ sum_from start (take count (words (drop from o)))
+-- a pair is its word
+pair_word : (n : ℕ) (o : List ℕ) (k : ℕ) → k < n
+    → get_or (get_or (first_chunks 2 n o) k []) 0 0 * 256 + get_or (get_or (first_chunks 2 n o) k []) 1 0 ≡ get_or (words o) k 0
+unfolding words
+pair_word zero o k h = absurd (omega arith)
+pair_word (suc n) [] zero h = refl
+pair_word (suc n) [] (suc k) h = pair_word n [] k (omega arith)
+pair_word (suc n) (x ∷ []) zero h = omega arith
+pair_word (suc n) (x ∷ []) (suc k) h = pair_word n [] k (omega arith)
+pair_word (suc n) (x ∷ y ∷ o) zero h = refl
+pair_word (suc n) (x ∷ y ∷ o) (suc k) h = pair_word n o k (omega arith)
 
-pub so_far_start : (o : List ℕ) (from start : ℕ) → from ≤ length o → start ≤ 65535 → SoFar o from start from start
-unfolding sum_from
-so_far_start o from start hf hs = record { count = 0; place = omega arith; inside = hf; fits = hs; gives = refl }
+-- octets in pairs, and the odd last one by itself
+pub record Cut (o : List ℕ) (pairs : List (List ℕ)) (odd : List ℕ) : Type 0 where
+  pub front : pairs ≡ first_chunks 2 (length o / 2) o
+  pub front_len : length pairs ≡ length o / 2
+  pub back : odd ≡ drop (length o / 2 * 2) o
+  pub back_len : length odd ≡ length o % 2
 
-length_left : (o : List ℕ) (from : ℕ) → length (words (drop from o)) ≡ (length o - from + 1) / 2
-length_left o from = length_words (drop from o) ∙ ap (λ (n : ℕ). (n + 1) / 2) (length-drop from o)
+-- k pairs are summed
+module _ {o : List ℕ} {pairs : List (List ℕ)} {odd : List ℕ} (cut : Cut o pairs odd) (start k : ℕ) {acc : ℕ} (so_far : acc ≡ sum_from start (take k (words o))) where
+  -- one word more
+  word_more : k < length (words o) → {acc' w : ℕ} → w ≡ get_or (words o) k 0 → acc' ≡ add acc w → acc' ≡ sum_from start (take (suc k) (words o))
+  word_more h p s = s ∙ (rw (so_far, p, sum_from_take_suc (words o) start k h))
 
-word_left : (o : List ℕ) (from k : ℕ) → get_or (words (drop from o)) k 0 ≡ get_or o (from + 2 * k) 0 * 256 + get_or o (from + (2 * k + 1)) 0
-word_left o from k = get_d_words (drop from o) k ∙ (rw (get_or-drop from o (2 * k), get_or-drop from o (2 * k + 1)))
+  pub pair_more : k < length pairs → {acc' w : ℕ} → w ≡ get_or (get_or pairs k []) 0 0 * 256 + get_or (get_or pairs k []) 1 0 → acc' ≡ add acc w
+      → acc' ≡ sum_from start (take (k + 1) (words o))
+  pair_more h p s =
+      rw add-one (word_more (omega (arith, length_words o, cut.front_len)) (p ∙ (rw (cut.front, pair_word (length o / 2) o k (omega (arith, cut.front_len))))) s)
 
--- one more word, whole or padded
-more : {o : List ℕ} {from start i acc : ℕ} → (f : SoFar o from start i acc) → i < length o
-    → sum_from start (take (suc f.count) (words (drop from o))) ≡ add acc (get_or o i 0 * 256 + get_or o (i + 1) 0)
-more {o} {from} {start} {i} {acc} f h =
-    let k = f.count in
-    let e : from + 2 * k ≡ i = omega arith in
-    let e' : from + (2 * k + 1) ≡ i + 1 = omega arith in
-    let hk : k < length (words (drop from o)) = omega (arith, length_left o from) in
-    sum_from_take_suc (words (drop from o)) start k hk ∙ (rw (word_left o from k, e, e', ← f.gives))
+  pub none_left : length pairs ≤ k → length odd < 1 → acc ≡ sum_from start (words o)
+  none_left h even = so_far ∙ ap (sum_from start) (take_all k (words o) (omega (arith, length_words o, cut.front_len, cut.back_len)))
 
--- before the end of the whole words there is one more
-pub so_far_there : {o : List ℕ} {from start i acc : ℕ} → SoFar o from start i acc → i < length o - (length o - from) % 2 → i + 1 < length o
-so_far_there f h = omega (arith, f.place)
-
-pub so_far_next : {o : List ℕ} {from start i acc : ℕ} → SoFar o from start i acc → i + 1 < length o → (acc' : ℕ) → acc' ≤ 65535
-    → acc' ≡ add acc (get_or o i 0 * 256 + get_or o (i + 1) 0) → SoFar o from start (i + 2) acc'
-so_far_next f h acc' fits e =
-    record { count = suc f.count; place = omega arith; inside = omega arith; fits = fits; gives = e ∙ sym (more f (omega arith)) }
-
-pub so_far_end : {o : List ℕ} {from start i acc : ℕ} → SoFar o from start i acc → length o ≤ i → acc ≡ sum_from start (words (drop from o))
-so_far_end {o} {from} f h =
-    let hk : length (words (drop from o)) ≤ f.count = omega (arith, length_left o from) in
-    rw take_all at f.gives
-
-pub so_far_odd : {o : List ℕ} {from start i acc : ℕ} → SoFar o from start i acc → i + 1 ≡ length o
-    → add acc (get_or o i 0 * 256 + 0) ≡ sum_from start (words (drop from o))
-so_far_odd {o} {from} {start} {i} {acc} f h =
-    let hk : length (words (drop from o)) ≤ suc f.count = omega (arith, length_left o from) in
-    let z : get_or o (i + 1) 0 ≡ 0 = get_or-eq_default o 0 (omega arith) in
-    ap (λ (n : ℕ). add acc (get_or o i 0 * 256 + n)) (sym z)
-    ∙ sym (more f (omega arith))
-    ∙ ap (sum_from start) (take_all (suc f.count) (words (drop from o)) hk)
+  -- an odd last octet is a word with 0
+  pub odd_more : length pairs ≤ k → k ≤ length pairs → 1 ≤ length odd → {acc' w : ℕ} → w ≡ get_or odd 0 0 * 256 + 0 → acc' ≡ add acc w → acc' ≡ sum_from start (words o)
+  odd_more h h' one {w = w} p s =
+      let place : length o / 2 * 2 + 0 ≡ 2 * k = omega (arith, cut.front_len) in
+      let last : get_or (drop (length o / 2 * 2) o) 0 0 ≡ get_or o (2 * k) 0 = get_or-drop (length o / 2 * 2) o 0 0 ∙ ap (λ i. get_or o i 0) place in
+      let pad : get_or o (2 * k + 1) 0 ≡ 0 = get_or-eq_default o 0 (omega (arith, cut.front_len, cut.back_len)) in
+      let is : w ≡ get_or (words o) k 0 = rw (p, cut.back, last, get_d_words o k, pad) in
+      word_more (omega (arith, length_words o, cut.front_len, cut.back_len)) is s
+      ∙ ap (sum_from start) (take_all (suc k) (words o) (omega (arith, length_words o, cut.front_len, cut.back_len)))

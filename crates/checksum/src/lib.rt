@@ -29,17 +29,15 @@ fn sum_from(s: &[u8], from: usize, start: u16) -> u16
     requires { from ≤ length s.now }
     ensures { result ≡ sum_from start (words (drop from s.now)) }
 {
-    // Past the last whole word. With this end the compiler knows the number of turns, and takes two at a time.
-    let end = s.len() - (s.len() - from) % 2;
+    // Over pairs the compiler knows the number of turns, and takes two at a time.
+    let (pairs, odd) = s[from..].as_chunks::<2>();
     let mut acc = start;
-    let mut i = from;
-    while i < end {
-        acc = add(acc, word(s[i], s[i + 1]));
-        i += 2;
+    for [high, low] in pairs {
+        acc = add(acc, word(*high, *low));
     }
     // An odd last octet is the high half of its word.
-    if i < s.len() {
-        add(acc, word(s[i], 0))
+    if let [last] = odd {
+        add(acc, word(*last, 0))
     } else {
         acc
     }

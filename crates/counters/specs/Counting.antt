@@ -15,8 +15,9 @@ use Rattle.counters.specs.declared.ByKind.{ByKind}
 use Rattle.counters.specs.declared.Counters.{Counters}
 use Rattle.counters.specs.declared.Direction.{Direction}
 use Rattle.counters.specs.declared.Direction.TheVariants.{Sent, Received}
-use Rattle.counters.specs.declared.Answer.{Answer}
-use Rattle.counters.specs.declared.Answer.TheVariants.{Added, Refused}
+use Rattle.std.specs.Prelude.{Result, Ok, Err}
+use Rattle.format.specs.declared.Refusal.{Refusal}
+use Rattle.format.specs.Outcome.{reason_number}
 
 abbrev pub no_totals : Totals
 no_totals = record { messages = 0; records = 0 }
@@ -68,6 +69,6 @@ counting c d k n = cond (ltb k 6)
     (record { answer = gives tt; counters = more_in c d k n })
     (record { answer = refuses 4 0; counters = c })
 
-unfoldable pub answer_of : Answer → Outcome (Unit {0})
-answer_of Added = gives tt
-answer_of (Refused r) = refuses r.number r.place
+unfoldable pub answer_of : Result (Unit {0}) Refusal → Outcome (Unit {0})
+answer_of (Ok tt) = gives tt
+answer_of (Err r) = refuses (reason_number r.reason) r.place

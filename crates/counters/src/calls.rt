@@ -3,32 +3,28 @@ ghost use Rattle.std.specs.Prelude.{◌≡◌};
 ghost use Rattle.counters.specs.Counting.{counting, answer_of};
 
 use crate::sums::added_in;
-use crate::{Answer, Counters, CountersAfter, Direction};
-use format::Refusal;
+use crate::{Counters, CountersAfter, Direction};
+use format::{Kind, Reason, Refusal};
 
 // Adds one message and its records to the totals of a direction and a kind, by value.
 pub fn added(c: Counters, direction: Direction, kind: u8, records: u64) -> CountersAfter
     ensures answer { answer_of result.answer ≡ (counting c direction kind records).answer }
     ensures counters { result.counters ≡ (counting c direction kind records).counters }
 {
-    if 5 < kind {
+    let Ok(kind) = Kind::try_from(kind) else {
         return CountersAfter {
-            answer: Answer::Refused(Refusal {
-                number: 4,
-                place: 0,
-            }),
+            answer: Err(Reason::BadKind.at(0)),
             counters: c,
         };
-    }
-    let counters = added_in(c, direction, kind, records);
+    };
     CountersAfter {
-        answer: Answer::Added,
-        counters,
+        answer: Ok(()),
+        counters: added_in(c, direction, kind, records),
     }
 }
 
 // Adds one message and its records to counters that are lent, and changed there.
-pub fn count(c: &mut Counters, direction: Direction, kind: u8, records: u64) -> Answer
+pub fn count(c: &mut Counters, direction: Direction, kind: u8, records: u64) -> Result<(), Refusal>
     ensures answer { answer_of result ≡ (counting c.old direction kind records).answer }
     ensures counters { c.new ≡ (counting c.old direction kind records).counters }
 {

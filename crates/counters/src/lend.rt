@@ -3,10 +3,11 @@ ghost use Rattle.std.specs.Prelude.{◌≡◌};
 ghost use Rattle.counters.specs.Counting.{counting, answer_of};
 
 use crate::calls::count;
-use crate::{Answer, Counters, CountersAfter, Direction};
+use crate::{Counters, CountersAfter, Direction};
+use format::Refusal;
 
 // The answer and the counters as one value.
-fn both(answer: Answer, counters: Counters) -> CountersAfter
+fn both(answer: Result<(), Refusal>, counters: Counters) -> CountersAfter
     ensures { result ≡ record { answer = answer; counters = counters } }
 {
     CountersAfter { answer, counters }

@@ -14,10 +14,8 @@ mod sums;
 
 pub use calls::{added, count};
 use format::Refusal;
-pub use format::kind_number;
 pub use lend::counted;
 pub use start::none;
-pub use sums::saturating;
 
 // How many messages, and how many records they had.
 #[repr(C)]
@@ -53,16 +51,9 @@ pub enum Direction {
     Received,
 }
 
-// What a call did.
-#[derive(Clone, Copy)]
-pub enum Answer {
-    Added,
-    Refused(Refusal),
-}
-
 // What a call did, and the counters after it.
 #[derive(Clone, Copy)]
 pub struct CountersAfter {
-    pub answer: Answer,
+    pub answer: Result<(), Refusal>,
     pub counters: Counters,
 }

@@ -1,70 +1,68 @@
 // Sums that stay at the 64-bit maximum, added to the totals of one direction and kind.
-ghost use Rattle.std.specs.Prelude.{◌≡◌};
-ghost use Rattle.counters.specs.Counting.{sum, more_if, more_at, more_in};
+ghost use Rattle.std.specs.Prelude.{◌≡◌, true};
+ghost use Rattle.format.specs.Values.{kind_number};
+ghost use Rattle.counters.specs.Counting.{more_if, more_at, more_in};
 
 use crate::{ByKind, Counters, Direction, Totals};
+use format::Kind;
 
-// The 64-bit maximum, at which each number stays.
-const GREATEST: u64 = 0xffff_ffff_ffff_ffff;
-
-// A sum that stays at the maximum.
-pub fn saturating(a: u64, b: u64) -> u64
-    ensures { result ≡ sum a b }
+// One message more, and its records.
+#[tactic(auto, unfolding(crate::specs::Counting::sum, crate::specs::Counting::more_if))]
+fn with_message(t: Totals, records: u64) -> Totals
+    ensures { result ≡ more_if true records t }
 {
-    if GREATEST - a < b {
-        return GREATEST;
+    Totals {
+        messages: t.messages.saturating_add(1),
+        records: t.records.saturating_add(records),
     }
-    a + b
-}
-
-// One message more and its records, if the kind is the one named.
-fn added_if(named: bool, t: Totals, records: u64) -> Totals
-    ensures { result ≡ more_if named records t }
-{
-    if named {
-        let messages = saturating(t.messages, 1);
-        let all = saturating(t.records, records);
-        return Totals {
-            messages,
-            records: all,
-        };
-    }
-    t
 }
 
 // The totals with those of one kind changed.
-fn added_at(t: ByKind, kind: u8, records: u64) -> ByKind
-    ensures { result ≡ more_at kind records t }
+#[tactic(auto, unfolding(crate::specs::Counting::more_if, crate::specs::Counting::more_at))]
+fn added_at(t: ByKind, kind: Kind, records: u64) -> ByKind
+    ensures { result ≡ more_at (kind_number kind) records t }
 {
-    let hello = added_if(kind == 0, t.hello, records);
-    let assert = added_if(kind == 1, t.assert, records);
-    let simple = added_if(kind == 2, t.simple, records);
-    let aggregated = added_if(kind == 3, t.aggregated, records);
-    let null_register = added_if(kind == 4, t.null_register, records);
-    let register_stop = added_if(kind == 5, t.register_stop, records);
-    ByKind {
-        hello,
-        assert,
-        simple,
-        aggregated,
-        null_register,
-        register_stop,
+    match kind {
+        Kind::Hello => ByKind {
+            hello: with_message(t.hello, records),
+            ..t
+        },
+        Kind::Assert => ByKind {
+            assert: with_message(t.assert, records),
+            ..t
+        },
+        Kind::Simple => ByKind {
+            simple: with_message(t.simple, records),
+            ..t
+        },
+        Kind::Aggregated => ByKind {
+            aggregated: with_message(t.aggregated, records),
+            ..t
+        },
+        Kind::NullRegister => ByKind {
+            null_register: with_message(t.null_register, records),
+            ..t
+        },
+        Kind::RegisterStop => ByKind {
+            register_stop: with_message(t.register_stop, records),
+            ..t
+        },
     }
 }
 
 // The counters with those of one direction and kind changed.
-pub(crate) fn added_in(c: Counters, direction: Direction, kind: u8, records: u64) -> Counters
-    ensures { result ≡ more_in c direction kind records }
+#[tactic(auto, unfolding(crate::specs::Counting::more_in))]
+pub(crate) fn added_in(c: Counters, direction: Direction, kind: Kind, records: u64) -> Counters
+    ensures { result ≡ more_in c direction (kind_number kind) records }
 {
-    let mut next = c;
     match direction {
-        Direction::Sent => {
-            next.sent = added_at(c.sent, kind, records);
-            next
-        }
-        Direction::Received => {
-            next.received = added_at(c.received, kind, records);
-            next
-        }
+        Direction::Sent => Counters {
+            sent: added_at(c.sent, kind, records),
+            ..c
+        },
+        Direction::Received => Counters {
+            received: added_at(c.received, kind, records),
+            ..c
+        },
     }
 }

@@ -26,9 +26,8 @@ use Rattle.counting.proofs.Tallied.{tallies_bad, tallies_on, record_room, record
 use Rattle.fields.proofs.Plain.{assert_back, pair_back}
 use Rattle.fields.specs.Answers.{checked, skipped}
 use Rattle.counting.specs.Counts.{tallied, entry_count, sum, record_count, records_count, some_record, packed_kind, packed_start}
-use Rattle.fields.specs.declared.field.Checked.{Checked}
-use Rattle.fields.specs.declared.field.Checked.TheVariants.{Next, Bad}
 use Rattle.octets.proofs.Laws.{number_is, octets_there, number_there}
+use Rattle.std.specs.Prelude.{Result, Ok, Err}
 
 -- ---- Zero and Reserved
 
@@ -160,16 +159,16 @@ joined_count (bad n p) = refl
 -- ---- a plain assert
 
 module _ (f : Family) (o : List ℕ) where
-  pub plain_bad : {c : Checked} {x : Refusal} {y : Read ℕ} → c ≡ Bad x → checked c ≡ skipped (assert_record f o 4) → y ≡ tallied (λ u. 0) (checked c)
+  pub plain_bad : {c : Result ℕ Refusal} {x : Refusal} {y : Read ℕ} → c ≡ Err x → checked c ≡ skipped (assert_record f o 4) → y ≡ tallied (λ u. 0) (checked c)
       → y ≡ tallied length (asserts_body f Assert o 4)
   unfolding asserts_body ◌>>=◌
   plain_bad p q t = tallies_bad length (assert_record f o 4) _ p q t
 
-  pub plain_more : {c : Checked} {n : ℕ} → c ≡ Next n → checked c ≡ skipped (assert_record f o 4) → n < length o → bad 6 n ≡ tallied length (asserts_body f Assert o 4)
+  pub plain_more : {c : Result ℕ Refusal} {n : ℕ} → c ≡ Ok n → checked c ≡ skipped (assert_record f o 4) → n < length o → bad 6 n ≡ tallied length (asserts_body f Assert o 4)
   unfolding asserts_body ◌>>=◌ ◌>>◌ nothing_more continue tallied
   plain_more {n = n} p q h = tallies_on length (assert_record f o 4) _ p q (λ e g. rw (lt-leb (length o) n h))
 
-  pub plain_end : {c : Checked} {n : ℕ} → c ≡ Next n → checked c ≡ skipped (assert_record f o 4) → length o ≤ n → got 1 n ≡ tallied length (asserts_body f Assert o 4)
+  pub plain_end : {c : Result ℕ Refusal} {n : ℕ} → c ≡ Ok n → checked c ≡ skipped (assert_record f o 4) → length o ≤ n → got 1 n ≡ tallied length (asserts_body f Assert o 4)
   unfolding asserts_body ◌>>=◌ ◌>>◌ nothing_more continue give tallied
   plain_end {n = n} p q h = tallies_on length (assert_record f o 4) _ p q (λ e g. rw (le-leb (length o) n h))
 
@@ -190,18 +189,18 @@ module _ (f : Family) (o : List ℕ) where
   unfolding asserts_body ◌>>◌ ◌>>=◌ give
   joined_is = ap (tallied records_count) (packed_body (aggregated_record f) o) ∙ joined_last (zero_reserved o 4) (λ n. records (aggregated_record f) o n)
 
-  pub packed_bad : (joined : Bool) {w : Checked} {x : Refusal} {y : Read ℕ} → w ≡ Bad x → checked w ≡ skipped (packed_start o 4) → y ≡ tallied (λ u. 0) (checked w)
+  pub packed_bad : (joined : Bool) {w : Result ℕ Refusal} {x : Refusal} {y : Read ℕ} → w ≡ Err x → checked w ≡ skipped (packed_start o 4) → y ≡ tallied (λ u. 0) (checked w)
       → y ≡ tallied length (asserts_body f (packed_kind joined) o 4)
   packed_bad true p q t = tallies_bad records_count (packed_start o 4) _ p q t ∙ joined_is
   packed_bad false p q t = tallies_bad length (packed_start o 4) _ p q t ∙ simple_is
 
-  pub packed_on : (joined : Bool) {w : Checked} {n : ℕ} {y : Read ℕ} → w ≡ Next n → checked w ≡ skipped (packed_start o 4)
+  pub packed_on : (joined : Bool) {w : Result ℕ Refusal} {n : ℕ} {y : Read ℕ} → w ≡ Ok n → checked w ≡ skipped (packed_start o 4)
       → y ≡ tallied sum (to_end (length o) (entry_count f joined true false) o n) → y ≡ tallied length (asserts_body f (packed_kind joined) o 4)
   packed_on true {n = n} p q t = tallies_on records_count (packed_start o 4) _ p q (λ u g. t ∙ count_joined f o (length o) n) ∙ joined_is
   packed_on false {n = n} p q t = tallies_on length (packed_start o 4) _ p q (λ u g. t ∙ count_asserts f o (length o) n) ∙ simple_is
 
   -- a record begins within the message
-  pub start_room : {z : Checked} {n : ℕ} → z ≡ Next n → checked z ≡ skipped (packed_start o 4) → n < length o
+  pub start_room : {z : Result ℕ Refusal} {n : ℕ} → z ≡ Ok n → checked z ≡ skipped (packed_start o 4) → n < length o
   unfolding packed_start some_record ◌>>◌
   start_room {n = n} p q =
       checks_next (packed_start o 4) p q (λ u g. continue_back (zero_reserved o 4) _ g (λ v k first rest. go k (leb (length o) k) refl rest))

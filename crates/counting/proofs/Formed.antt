@@ -21,11 +21,11 @@ use Rattle.format.specs.Family.{Family, Lawful, may_be_source}
 use Rattle.format.specs.Address.{group_form, source_form}
 use Rattle.format.specs.Record.{assert_record, pair_record}
 use Rattle.fields.proofs.Fields.{part_number, part_form, group_is, source_is}
-use Rattle.counting.specs.declared.aggregated.Counted.TheVariants.{All}
 use Rattle.counting.specs.Counts.{counted, tallied, whole_in, record_size, record_form, allowed_records, passed_records, entry_count, sum}
 use Rattle.counting.proofs.Fits.{record_some}
 use Rattle.counting.proofs.Tallied.{end_on}
 use Rattle.counting.proofs.Bodies.{tallied_id, sum_none, sum_more}
+use Rattle.std.specs.Prelude.{Ok}
 
 -- ---- one record
 
@@ -178,7 +178,7 @@ module _ (f : Family) (law : Lawful f) (a z : Bool) (o : List ℕ) where
           let room : at + record_size f a + n * record_size f a ≤ length o = omega (arith, step_place (record_size f a) at n) in
           let one : at + record_size f a ≤ length o = omega arith in
           let on =
-          end_on (λ n. n) sum sum_none sum_more (entry_count f false a z) o at t k {d = All 1 (at + record_size f a)} (omega arith) b (omega arith) refl
+          end_on (λ n. n) sum sum_none sum_more (entry_count f false a z) o at t k {d = Ok (record { entries = 1; next = at + record_size f a })} (omega arith) b (omega arith) refl
           (sym (record_passes f law a z o at one u) ∙ sym (tallied_id (entry_count f false a z o at))) in
           let rest =
           again (t + 1) on.0 (at + record_size f a) t' at' room one on.1.0 (omega arith) (p ∙ step_place (record_size f a) at (allowed_records f a z n o (at + record_size f a))) in

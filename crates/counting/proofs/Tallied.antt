@@ -31,35 +31,34 @@ use Rattle.format.specs.declared.Refusal.{Refusal}
 use Rattle.format.proofs.Taken.{takes_group_record, takes_aggregated_record}
 use Rattle.fields.specs.Answers.{checked, skipped}
 use Rattle.counting.specs.Counts.{counted, tallied, group_count, groups_count, record_count, records_count}
-use Rattle.fields.specs.declared.field.Checked.{Checked}
-use Rattle.fields.specs.declared.field.Checked.TheVariants.{Next, Bad}
 use Rattle.counting.specs.declared.aggregated.Counted.{Counted}
-use Rattle.counting.specs.declared.aggregated.Counted.TheVariants.{All, Bad as Not}
 use Rattle.fields.proofs.Skipped.{no_got, continue_back, checks_bad, checks_next, skipped_last}
 use Rattle.octets.proofs.Laws.{number_there, number_back}
 use Rattle.fields.proofs.Fields.{number_skipped, group_back}
+use Rattle.std.specs.Prelude.{Result, Ok, Err}
+use Rattle.format.specs.declared.Reason.TheVariants.{Cut}
 
 -- ---- a check, and what is counted after it
 
-pub tallies_bad : {A B : Type 0} (size : B → ℕ) (r : Read A) (k : A → ℕ → Read B) {c : Checked} {x : Refusal} {y : Read ℕ} → c ≡ Bad x
+pub tallies_bad : {A B : Type 0} (size : B → ℕ) (r : Read A) (k : A → ℕ → Read B) {c : Result ℕ Refusal} {x : Refusal} {y : Read ℕ} → c ≡ Err x
     → checked c ≡ skipped r → y ≡ tallied (λ u. 0) (checked c) → y ≡ tallied size (continue r k)
 unfolding checked skipped continue tallied
 tallies_bad size (got a n) k p q t = absurd (no_got (sym (ap checked p) ∙ q))
 tallies_bad size (bad n i) k p q t = t ∙ ap (tallied (λ u. 0)) q
 
-pub tallies_on : {A B : Type 0} (size : B → ℕ) (r : Read A) (k : A → ℕ → Read B) {c : Checked} {n : ℕ} {y : Read ℕ} → c ≡ Next n
+pub tallies_on : {A B : Type 0} (size : B → ℕ) (r : Read A) (k : A → ℕ → Read B) {c : Result ℕ Refusal} {n : ℕ} {y : Read ℕ} → c ≡ Ok n
     → checked c ≡ skipped r → ((a : A) → r ≡ got a n → y ≡ tallied size (k a n)) → y ≡ tallied size (continue r k)
 unfolding continue
 tallies_on size r k p q next = checks_next r p q (λ a e. rw e (next a e))
 
 -- a count that refused, or passed
-counts_bad : {A B : Type 0} (one : A → ℕ) (size : B → ℕ) (r : Read A) (k : A → ℕ → Read B) {d : Counted} {x : Refusal} → d ≡ Not x
+counts_bad : {A B : Type 0} (one : A → ℕ) (size : B → ℕ) (r : Read A) (k : A → ℕ → Read B) {d : Result Counted Refusal} {x : Refusal} → d ≡ Err x
     → counted d ≡ tallied one r → counted d ≡ tallied size (continue r k)
 unfolding counted tallied continue
 counts_bad one size (got a n) k p q = absurd (no_got (sym (ap counted p) ∙ q))
 counts_bad one size (bad n i) k p q = q
 
-pub counts_next : {A C : Type 0} (one : A → ℕ) (r : Read A) {d : Counted} {e n : ℕ} → d ≡ All e n → counted d ≡ tallied one r
+pub counts_next : {A C : Type 0} (one : A → ℕ) (r : Read A) {d : Result Counted Refusal} {e n : ℕ} → d ≡ Ok (record { entries = e; next = n }) → counted d ≡ tallied one r
     → ((a : A) → r ≡ got a n → one a ≡ e → C) → C
 unfolding counted tallied
 counts_next one (got a m) {e = e} {n = n} p q next =
@@ -90,7 +89,7 @@ tallied_value one size g h (bad n p) = refl
 pub checks_number : (k : ℕ) (o : List ℕ) (at : ℕ) {y : Read (Unit {0})} → y ≡ skipped (octets k o at) → y ≡ skipped (number k o at)
 checks_number k o at q = q ∙ sym (number_skipped k o at)
 
-pub positive_short : (o : List ℕ) (at : ℕ) {c : Checked} {x : Refusal} → c ≡ Bad x → checked c ≡ skipped (octets 2 o at) → checked c ≡ skipped (positive o at)
+pub positive_short : (o : List ℕ) (at : ℕ) {c : Result ℕ Refusal} {x : Refusal} → c ≡ Err x → checked c ≡ skipped (octets 2 o at) → checked c ≡ skipped (positive o at)
 unfolding positive must
 positive_short o at p q = checks_bad (number 2 o at) _ p (checks_number 2 o at q)
 
@@ -100,13 +99,13 @@ unfolding positive must continue
 positive_is o at h = rw (number_there 2 o at h)
 
 -- a check that read it as v
-pub positive_none : (o : List ℕ) (at : ℕ) {c : Checked} {v : ℕ} → at + 2 ≤ length o → v ≡ number_at 2 o at → v ≡ 0
-    → c ≡ Bad (record { number = 6; place = at }) → checked c ≡ skipped (positive o at)
+pub positive_none : (o : List ℕ) (at : ℕ) {c : Result ℕ Refusal} {v : ℕ} → at + 2 ≤ length o → v ≡ number_at 2 o at → v ≡ 0
+    → c ≡ Err (record { reason = Cut; place = at }) → checked c ≡ skipped (positive o at)
 unfolding checked skipped
 positive_none o at h t z e = rw (e, positive_is o at h, ← t, eq-eqb _ _ z)
 
 pub positive_some : (o : List ℕ) (at : ℕ) {n v : ℕ} → (at + 2 ≤ length o) × (n ≡ at + 2) → v ≡ number_at 2 o at → (v ≡ 0 → ⊥)
-    → checked (Next n) ≡ skipped (positive o at)
+    → checked (Ok n) ≡ skipped (positive o at)
 unfolding checked skipped
 positive_some o at h t z = rw (h.1, positive_is o at h.0, ← t, ne_eqb _ _ z)
 
@@ -124,12 +123,12 @@ positive_back o at {v} {n} e =
     passed false x m p = absurd (no_got p)
 
 -- a number that was checked, and is then read
-pub tallies_number : {B : Type 0} (size : B → ℕ) (k : ℕ) (o : List ℕ) (at : ℕ) (K : ℕ → ℕ → Read B) {c : Checked} {n v : ℕ} {y : Read ℕ} → c ≡ Next n
+pub tallies_number : {B : Type 0} (size : B → ℕ) (k : ℕ) (o : List ℕ) (at : ℕ) (K : ℕ → ℕ → Read B) {c : Result ℕ Refusal} {n v : ℕ} {y : Read ℕ} → c ≡ Ok n
     → checked c ≡ skipped (octets k o at) → v ≡ number_at k o at → y ≡ tallied size (K v n) → y ≡ tallied size (continue (number k o at) K)
 tallies_number size k o at K p q t next =
     tallies_on size (number k o at) K p (checks_number k o at q) (λ w e. rw ((number_back k o at e).0, ← t) next)
 
-pub tallies_positive : {B : Type 0} (size : B → ℕ) (o : List ℕ) (at : ℕ) (K : ℕ → ℕ → Read B) {c : Checked} {n v : ℕ} {y : Read ℕ} → c ≡ Next n
+pub tallies_positive : {B : Type 0} (size : B → ℕ) (o : List ℕ) (at : ℕ) (K : ℕ → ℕ → Read B) {c : Result ℕ Refusal} {n v : ℕ} {y : Read ℕ} → c ≡ Ok n
     → checked c ≡ skipped (positive o at) → v ≡ number_at 2 o at → y ≡ tallied size (K v n) → y ≡ tallied size (continue (positive o at) K)
 tallies_positive size o at K p q t next =
     tallies_on size (positive o at) K p q (λ w e. rw ((positive_back o at e).0, ← t) next)
@@ -140,11 +139,11 @@ one_less : (n i : ℕ) → i < n → n - i ≡ suc (n - (i + 1))
 one_less n i h = omega arith
 
 module _ {A : Type 0} (r : Reader A) (o : List ℕ) (at n i : ℕ) where
-  pub times_bad : {c : Checked} {x : Refusal} → i < n → c ≡ Bad x → checked c ≡ skipped (r o at) → checked c ≡ skipped (times (n - i) r o at)
+  pub times_bad : {c : Result ℕ Refusal} {x : Refusal} → i < n → c ≡ Err x → checked c ≡ skipped (r o at) → checked c ≡ skipped (times (n - i) r o at)
   unfolding times ◌>>=◌
   times_bad h p q = rw (one_less n i h) (checks_bad (r o at) _ p q)
 
-  pub times_on : {c : Checked} {next : ℕ} → i < n → c ≡ Next next → checked c ≡ skipped (r o at)
+  pub times_on : {c : Result ℕ Refusal} {next : ℕ} → i < n → c ≡ Ok next → checked c ≡ skipped (r o at)
       → skipped (times (n - (i + 1)) r o next) ≡ skipped (times (n - i) r o at)
   unfolding times ◌>>=◌ give continue
   times_on {next = next} h p q =
@@ -182,12 +181,12 @@ module _ {A : Type 0} (one : A → ℕ) (all : List A → ℕ) (none : all [] �
   unfolding tallied
   tally_empty e = rw e (ap (λ k. got k at) (omega (arith, none)))
 
-  pub tally_bad : (n i : ℕ) {d : Counted} {x : Refusal} → i < n → d ≡ Not x → counted d ≡ tallied one (r o at)
+  pub tally_bad : (n i : ℕ) {d : Result Counted Refusal} {x : Refusal} → i < n → d ≡ Err x → counted d ≡ tallied one (r o at)
       → counted d ≡ tallied (λ l. total + all l) (times (n - i) r o at)
   unfolding times ◌>>=◌
   tally_bad n i h p q = rw (one_less n i h) (counts_bad one _ (r o at) _ p q)
 
-  pub tally_on : (n i : ℕ) {d : Counted} {e next : ℕ} → i < n → d ≡ All e next → counted d ≡ tallied one (r o at)
+  pub tally_on : (n i : ℕ) {d : Result Counted Refusal} {e next : ℕ} → i < n → d ≡ Ok (record { entries = e; next = next }) → counted d ≡ tallied one (r o at)
       → tallied (λ l. (total + e) + all l) (times (n - (i + 1)) r o next) ≡ tallied (λ l. total + all l) (times (n - i) r o at)
   unfolding times ◌>>=◌ give continue
   tally_on n i {next = next} h p q =
@@ -199,13 +198,13 @@ module _ {A : Type 0} (one : A → ℕ) (all : List A → ℕ) (none : all [] �
 
   -- up to the end, with so many records at most
 
-  pub end_bad : (k : ℕ) {d : Counted} {x : Refusal} → at < length o → length o ≤ at + k → d ≡ Not x → counted d ≡ tallied one (r o at)
+  pub end_bad : (k : ℕ) {d : Result Counted Refusal} {x : Refusal} → at < length o → length o ≤ at + k → d ≡ Err x → counted d ≡ tallied one (r o at)
       → counted d ≡ tallied (λ l. total + all l) (to_end k r o at)
   unfolding to_end
   end_bad zero h b p q = absurd (omega arith)
   end_bad (suc k) h b p q = rw (lt-leb (length o) at h) (counts_bad one _ (r o at) _ p q)
 
-  pub end_on : (k : ℕ) {d : Counted} {e next : ℕ} → at < length o → length o ≤ at + k → at < next → d ≡ All e next → counted d ≡ tallied one (r o at)
+  pub end_on : (k : ℕ) {d : Result Counted Refusal} {e next : ℕ} → at < length o → length o ≤ at + k → at < next → d ≡ Ok (record { entries = e; next = next }) → counted d ≡ tallied one (r o at)
       → (j : ℕ) × ((length o ≤ next + j) × (tallied (λ l. (total + e) + all l) (to_end j r o next) ≡ tallied (λ l. total + all l) (to_end k r o at)))
   unfolding to_end continue
   end_on zero h b f p q = absurd (omega arith)

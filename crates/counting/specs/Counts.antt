@@ -20,11 +20,13 @@ use Rattle.format.specs.declared.Kind.{Kind}
 use Rattle.format.specs.declared.Kind.TheVariants.{Simple, Aggregated}
 use Rattle.format.specs.Body.{zero_reserved}
 use Rattle.counting.specs.declared.aggregated.Counted.{Counted}
-use Rattle.counting.specs.declared.aggregated.Counted.TheVariants.{All, Bad}
+use Rattle.std.specs.Prelude.{Result, Ok, Err}
+use Rattle.format.specs.declared.Refusal.{Refusal}
+use Rattle.format.specs.Outcome.{reason_number}
 
-unfoldable pub counted : Counted → Read ℕ
-counted (All n next) = got n next
-counted (Bad r) = bad r.number r.place
+unfoldable pub counted : Result Counted Refusal → Read ℕ
+counted (Ok c) = got c.entries c.next
+counted (Err r) = bad (reason_number r.reason) r.place
 
 unfoldable pub tallied : {A : Type 0} → (A → ℕ) → Read A → Read ℕ
 tallied size (got a next) = got (size a) next

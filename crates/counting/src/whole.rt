@@ -9,7 +9,7 @@ ghost use Rattle.counting.specs.Counts.{whole_in, record_size, record_form, allo
 use addresses::width;
 use fields::{is_group, is_source};
 use format::r_bit;
-use octets::number32;
+use octets::number;
 
 // The octets of an assert record, or of a pair.
 pub(crate) fn record_size(ipv6: bool, is_assert: bool) -> usize
@@ -43,7 +43,7 @@ fn may_be_zero(m: &[u8], word: usize, is_assert: bool, zero_allowed: bool) -> bo
     ensures { result ≡ cond is_assert (r_bit (number_at 4 m.now word)) zero_allowed }
 {
     if is_assert {
-        return r_bit(number32(&m[word..word + 4], 0));
+        return r_bit(number::<u32>(&m[word..word + 4], 0));
     }
     zero_allowed
 }
@@ -66,44 +66,22 @@ fn record_allowed(ipv6: bool, m: &[u8], at: usize, is_assert: bool, zero_allowed
 }
 
 // How many of the records that are there whole stand before the first that is not allowed.
-fn allowed_records_of(
-    ipv6: bool,
-    m: &[u8],
-    from: usize,
-    whole: usize,
-    is_assert: bool,
-    zero_allowed: bool,
-) -> usize
-    requires { whole ≡ whole_in (record_size (family_of ipv6) is_assert) m.now from }
-    ensures { result ≡ allowed_records (family_of ipv6) is_assert zero_allowed whole m.now from }
-{
-    let mut at = from;
-    let mut i = 0;
-    while i < whole {
-        if record_allowed(ipv6, m, at, is_assert, zero_allowed) {
-            at += record_size(ipv6, is_assert);
-            i += 1;
-        } else {
-            return i;
-        }
-    }
-    i
-}
-
-// The same with the family as a literal, so that the compiler makes the loop for each.
-pub(crate) fn allowed_records(
-    ipv6: bool,
+pub(crate) fn allowed_records<const IPV6: bool>(
     m: &[u8],
     from: usize,
     is_assert: bool,
     zero_allowed: bool,
 ) -> usize
     requires { from ≤ length m.now }
-    ensures { result ≡ allowed_records (family_of ipv6) is_assert zero_allowed (whole_in (record_size (family_of ipv6) is_assert) m.now from) m.now from }
+    ensures { result ≡ allowed_records (family_of IPV6) is_assert zero_allowed (whole_in (record_size (family_of IPV6) is_assert) m.now from) m.now from }
 {
-    let whole = records_in(ipv6, is_assert, m.len() - from);
-    if ipv6 {
-        return allowed_records_of(true, m, from, whole, is_assert, zero_allowed);
+    let whole = records_in(IPV6, is_assert, m.len() - from);
+    let mut at = from;
+    for i in 0..whole {
+        if !record_allowed(IPV6, m, at, is_assert, zero_allowed) {
+            return i;
+        }
+        at += record_size(IPV6, is_assert);
     }
-    allowed_records_of(false, m, from, whole, is_assert, zero_allowed)
+    whole
 }

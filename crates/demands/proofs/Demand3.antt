@@ -7,6 +7,7 @@
 --     demand3, complete       the theorems, in any lawful family, and in IPv4 and IPv6
 --     empty                   the empty list yields no message
 -- Assumes nothing.
+use Rattle.packing.proofs.Reasons.{answered, packing_reasoned}
 use Prim.Native.Nat.{ℕ, ◌+◌, ◌-◌, ◌*◌, ◌≤◌}
 use native.Mathlib.Nat.{le_trans, mul-zero, mul-add, zero-div}
 use native.Mathlib.Omega.{arith}
@@ -18,11 +19,11 @@ use lib.Seq.{take-add, drop-drop, drop_at, take-nil, take-take, take-append_seam
 use Rattle.records.specs.Every.{Every}
 use Rattle.records.specs.Records.{AssertRecord}
 use Rattle.records.proofs.Every.{every_map, every_mapped}
-use Rattle.format.specs.Outcome.{Outcome, gives, refuses}
+use Rattle.format.specs.Outcome.{Outcome, gives}
 use Rattle.format.specs.Family.{Family, ipv4, ipv6, Lawful}
 use Rattle.format.specs.Entry.{assert_entries, count, entries_at, entries_of, entries_octets}
 use Rattle.format.specs.Unpacking.{unpack_asserts}
-use Rattle.format.specs.Packing.{read_limit, aggregated, Wrote, wrote, PackingCall, packing}
+use Rattle.format.specs.Packing.{read_limit, aggregated, Wrote, PackingCall, packing}
 use Rattle.format.specs.Reading.{read_asserts}
 use Rattle.format.specs.Train.{Lent, Made, Sent, taken_by, calls, Given, Within, Unpacks}
 use Rattle.format.specs.declared.Kind.TheVariants.{Aggregated}
@@ -34,10 +35,11 @@ use Rattle.format.proofs.Trains.{from_start, least_train, reaches, comparable}
 use Rattle.format.proofs.Families.{lawful}
 use Rattle.packing.specs.Answers.{packed}
 use Rattle.packing.specs.declared.calls.Packing.{Packing}
-use Rattle.packing.specs.declared.calls.Packing.TheVariants.{Wrote as Written, Refused}
 use Rattle.demands.specs.Calls.{PackCall, Packs}
 use Rattle.demands.specs.Demand3.{Calls, seen, lent_to, taken, messages, Called, AllCalled, ReadBack, Demand3, Complete}
 use Rattle.demands.proofs.Demand2.{part_octets, part_length, delivers}
+use Rattle.std.specs.Prelude.{Result}
+use Rattle.format.specs.declared.Refusal.{Refusal}
 
 call_same : {a a' : Outcome Wrote} {b b' : List ℕ} → a ≡ a' → b ≡ b' → ◌≡◌ {A = PackingCall} (record { answer = a; buffer = b }) (record { answer = a'; buffer = b' })
 call_same p q = rw (p, q)
@@ -170,19 +172,13 @@ module _ (f : Family) (law : Lawful f) (entries : List ℕ) (l : ℕ) (given : G
 
   -- ---- calls that exist, and that take every entry
 
-  made_answer : Outcome Wrote → Packing
-  made_answer (gives (wrote n k)) = Written n k
-  made_answer (refuses n p) = Refused (record { number = n; place = p })
-
-  made_packed : (x : Outcome Wrote) → packed (made_answer x) ≡ x
-  unfolding packed made_answer
-  made_packed (gives (wrote n k)) = refl
-  made_packed (refuses n p) = refl
+  made_answer : (limit start : ℕ) (d : Lent) → (r : Result Packing Refusal) × (packed r ≡ (packing (aggregated f) d.path entries start limit d.buffer).answer)
+  made_answer limit start d =
+      answered (packing (aggregated f) d.path entries start limit d.buffer).answer (packing_reasoned (aggregated f) d.path entries start limit d.buffer)
 
   made : (limit start : ℕ) (d : Lent) → PackCall
   made limit start d =
-      let c = packing (aggregated f) d.path entries start limit d.buffer in
-      record { path = d.path; limit = limit; lent = d.buffer; answer = made_answer c.answer; returned = c.buffer }
+      record { path = d.path; limit = limit; lent = d.buffer; answer = (made_answer limit start d).0; returned = (packing (aggregated f) d.path entries start limit d.buffer).buffer }
 
   make : (limit : ℕ) → read_limit f limit ≡ gives l → (ds : List Lent) (start : ℕ) → (cs : List PackCall) × (lents cs ≡ ds) × Calls f entries l start cs
   unfolding made Calls
@@ -190,7 +186,7 @@ module _ (f : Family) (law : Lawful f) (entries : List ℕ) (l : ℕ) (given : G
   make limit read (d ∷ ds) start =
       let c : PackCall = made limit start d in
       let rest = make limit read ds (start + taken_by (packed c.answer)) in
-      (c ∷ rest.0, ap (λ l. d ∷ l) rest.1, (read, record { answers = made_packed _; returns = refl }, rest.2))
+      (c ∷ rest.0, ap (λ l. d ∷ l) rest.1, (read, record { answers = (made_answer limit start d).1; returns = refl }, rest.2))
 
   take_all : (cs : List PackCall) → Calls f entries l 0 cs → Every (λ (c : PackCall). l ≤ length c.lent) cs → length es ≤ length cs → taken cs ≡ length es
   unfolding taken

@@ -14,13 +14,15 @@ use Rattle.packing.specs.Answers.{packed}
 use Rattle.packing.specs.declared.calls.Packing.{Packing}
 use Rattle.reading.specs.Calls.{answered}
 use Rattle.reading.specs.declared.entries.Reading.{Reading}
+use Rattle.std.specs.Prelude.{Result}
+use Rattle.format.specs.declared.Refusal.{Refusal}
 
 pub record PackCall : Type 0 where
   -- the addresses that the checksum of its message is made from
   pub path : Path
   pub limit : ℕ
   pub lent : List ℕ
-  pub answer : Packing
+  pub answer : Result Packing Refusal
   pub returned : List ℕ
 
 -- the two promises of the packing call of a form, for example of `pack_aggregated`
@@ -30,7 +32,7 @@ pub record Packs {E : Entries} (F : Form E) (entries : List ℕ) (start : ℕ) (
 
 pub record ReadCall : Type 0 where
   pub lent : List ℕ
-  pub answer : Reading
+  pub answer : Result Reading Refusal
   pub returned : List ℕ
 
 -- the two promises of a reading call on a message, `read_asserts` or `read_pairs`, with the addresses that the caller gives it

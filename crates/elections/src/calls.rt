@@ -1,8 +1,8 @@
 // Calls in IPv6 that no scenario has: a neighbour heard again and forgotten, a full table, what is of the other family, address 0, and
 // elections that the high halves of addresses decide.
-use format::{Address, AddressFamily, is_ipv6};
+use format::{Address, AddressFamily, Refusal, is_ipv6};
 use hello::Hello;
-use neighbours::{Allowance, Change, Changed, Elected, ROWS, Table};
+use neighbours::{Change, Changed, ROWS, Table};
 use printing::{flag, named, refused, text, told};
 
 // fe80:: and a number.
@@ -36,22 +36,20 @@ fn call(out: &impl Print, family: AddressFamily, name: &[u8], a: Address) -> boo
     table_of(out, family) && text(out, name) && printing::address(out, true, a) && text(out, b": ")
 }
 
-fn done(out: &impl Print, change: Change) -> bool {
+fn done(out: &impl Print, change: Result<Change, Refusal>) -> bool {
     match change {
-        Change::Replaced => text(out, b"replaced"),
-        Change::Appended => text(out, b"appended"),
-        Change::Forgotten => text(out, b"forgotten"),
-        Change::Refused(r) => refused(out, r, b""),
+        Ok(Change::Replaced) => text(out, b"replaced"),
+        Ok(Change::Appended) => text(out, b"appended"),
+        Ok(Change::Forgotten) => text(out, b"forgotten"),
+        Err(r) => refused(out, r, b""),
     }
 }
 
 // What a call did, and how many rows are in use after it.
 fn changed(out: &impl Print, err: &impl Print, c: Changed) -> Table {
-    let table = c.table;
-    let change = c.change;
-    let written = done(out, change) && named(out, b", rows ", table.count as u64);
+    let written = done(out, c.change) && named(out, b", rows ", c.table.count as u64);
     told(err, written, b"the calls were");
-    table
+    c.table
 }
 
 fn hear(
@@ -79,22 +77,20 @@ fn forget(
 }
 
 fn elect(out: &impl Print, err: &impl Print, table: Table, family: AddressFamily, a: Address) {
-    let e = table.elect(family, a, 1);
     let written = call(out, family, b"elect with our own ", a)
-        && match e {
-            Elected::Is(a) => printing::address(out, true, a) && text(out, b"\n"),
-            Elected::Refused(r) => refused(out, r, b"\n"),
+        && match table.elect(family, a, 1) {
+            Ok(a) => printing::address(out, true, a) && text(out, b"\n"),
+            Err(r) => refused(out, r, b"\n"),
         };
     told(err, written, b"the calls were");
 }
 
 fn packing_allowed(out: &impl Print, err: &impl Print, table: Table, family: AddressFamily) {
-    let x = table.packing_allowed(family);
     let written = table_of(out, family)
         && text(out, b"packing allowed: ")
-        && match x {
-            Allowance::Allowed(b) => flag(out, b) && text(out, b"\n"),
-            Allowance::Refused(r) => refused(out, r, b"\n"),
+        && match table.packing_allowed(family) {
+            Ok(b) => flag(out, b) && text(out, b"\n"),
+            Err(r) => refused(out, r, b"\n"),
         };
     told(err, written, b"the calls were");
 }
@@ -102,11 +98,9 @@ fn packing_allowed(out: &impl Print, err: &impl Print, table: Table, family: Add
 // A table of fe80::1 and the numbers after it, all its rows in use.
 fn full() -> Table {
     let mut table = Table::empty();
-    let mut n: usize = 0;
-    while n < ROWS {
-        n += 1;
-        let c = table.hear(AddressFamily::Ipv6, local(n as u64), announced());
-        table = c.table;
+    for n in 1..=ROWS {
+        let heard = table.hear(AddressFamily::Ipv6, local(n as u64), announced());
+        table = heard.table;
     }
     table
 }

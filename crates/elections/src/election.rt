@@ -3,10 +3,9 @@
 ghost use Rattle.std.specs.Prelude.{◌+◌, ◌<◌, ◌≤◌, length};
 
 use addresses::{address_at, width};
-use format::{Address, AddressFamily, Path, Writing, is_ipv6};
-use hello::{Hello, HelloRead};
-use neighbours::{Change, Changed, Elected, Table};
-use octets::Field;
+use format::{Address, AddressFamily, Path, Refusal, is_ipv6};
+use hello::Hello;
+use neighbours::Table;
 use printing::front;
 
 // How many octets a router has.
@@ -33,17 +32,13 @@ fn rest(family: AddressFamily, m: &[u8], at: usize) -> usize
 pub(crate) fn has_priority(family: AddressFamily, m: &[u8], at: usize) -> bool
     requires { at < length m.now }
 {
-    let f = octets::read8(m, rest(family, m, at) + 4);
-    let Field::Got { value, next: _ } = f else {
-        return false;
-    };
-    value == 1
+    octets::number::<u8>(m, rest(family, m, at) + 4) == 1
 }
 
 fn priority(family: AddressFamily, m: &[u8], at: usize) -> u32
     requires { at < length m.now }
 {
-    octets::number32(m, rest(family, m, at))
+    octets::number::<u32>(m, rest(family, m, at))
 }
 
 // What the router at a place says.
@@ -51,7 +46,7 @@ fn said(family: AddressFamily, m: &[u8], at: usize) -> Hello
     requires { at < length m.now }
 {
     Hello {
-        holdtime: octets::number16(m, rest(family, m, at) + 6) as u16,
+        holdtime: octets::number::<u16>(m, rest(family, m, at) + 6),
         has_priority: has_priority(family, m, at),
         priority: priority(family, m, at),
         packing: false,
@@ -76,70 +71,40 @@ fn to_all(family: AddressFamily, source: Address) -> Path {
     }
 }
 
-// The Hello of the router at a place, written, read again and heard; or the first refusal.
-fn heard(family: AddressFamily, table: Table, m: &[u8], at: usize) -> Changed
+// The table with the Hello of the router at a place, written, read again and heard; or the first refusal.
+fn heard(family: AddressFamily, table: Table, m: &[u8], at: usize) -> Result<Table, Refusal>
     requires { at < length m.now }
 {
     let from = address(family, m, at);
     let path = to_all(family, from);
     let mut d = [0; 22];
-    let w = hello::write_hello(family, path, said(family, m, at), &mut d);
-    let n = match w {
-        Writing::Wrote(n) => n,
-        Writing::Refused(r) => {
-            return Changed {
-                table,
-                change: Change::Refused(r),
-            };
-        }
-    };
-    let h = hello::read_hello(family, path, front(&d, n));
-    match h {
-        HelloRead::Is(said) => table.hear(family, from, said),
-        HelloRead::Refused(r) => Changed {
-            table,
-            change: Change::Refused(r),
-        },
-    }
+    let n = hello::write_hello(family, path, said(family, m, at), &mut d)?;
+    let says = hello::read_hello(family, path, front(&d, n))?;
+    let heard = table.hear(family, from, says);
+    heard.change?;
+    Ok(heard.table)
 }
 
 // Every other router is heard, then the router at a place elects; or the first refusal.
-pub(crate) fn elected(family: AddressFamily, m: &[u8], own: usize) -> Elected
+pub(crate) fn elected(family: AddressFamily, m: &[u8], own: usize) -> Result<Address, Refusal>
     requires { own < length m.now }
 {
     let size = router_size(family);
     let mut table = Table::empty();
-    let mut at = 0;
-    while at < m.len() {
+    for at in (0..m.len()).step_by(size) {
         if at != own {
-            let heard = heard(family, table, m, at);
-            let change = heard.change;
-            match change {
-                Change::Refused(r) => return Elected::Refused(r),
-                _ => {}
-            }
-            table = heard.table;
+            table = heard(family, table, m, at)?;
         }
-        at += size;
     }
     table.elect(family, address(family, m, own), priority(family, m, own))
 }
 
 // Every router is heard, then the rows elect, without our own; or the first refusal.
-pub(crate) fn elected_among(family: AddressFamily, m: &[u8]) -> Elected {
+pub(crate) fn elected_among(family: AddressFamily, m: &[u8]) -> Result<Address, Refusal> {
     let size = router_size(family);
     let mut table = Table::empty();
-    let mut at = 0;
-    while at < m.len() {
-        let heard = heard(family, table, m, at);
-        let change = heard.change;
-        match change {
-            Change::Refused(r) => return Elected::Refused(r),
-            _ => {}
-        }
-        table = heard.table;
-        at += size;
+    for at in (0..m.len()).step_by(size) {
+        table = heard(family, table, m, at)?;
     }
-    let rows = table.rows;
-    neighbours::elect_rows(rows, table.count)
+    neighbours::elect_rows(table.rows, table.count)
 }

@@ -4,9 +4,8 @@ ghost use Rattle.std.specs.Prelude.{◌<◌, length};
 
 use crate::election::{address, elected, elected_among, has_priority, router_size};
 use addresses::{is_same, width};
-use format::{Address, AddressFamily, is_ipv6};
-use neighbours::Elected;
-use printing::{case_at, front, refused, text, told};
+use format::{Address, AddressFamily, Refusal, is_ipv6};
+use printing::{each_case, front, refused, text, told};
 
 // The address elected, beside the one observed.
 fn compared(out: &impl Print, family: AddressFamily, a: Address, observed: Address) -> bool {
@@ -19,10 +18,15 @@ fn compared(out: &impl Print, family: AddressFamily, a: Address, observed: Addre
         && text(out, b"\n")
 }
 
-fn answer(out: &impl Print, family: AddressFamily, e: Elected, observed: Address) -> bool {
+fn answer(
+    out: &impl Print,
+    family: AddressFamily,
+    e: Result<Address, Refusal>,
+    observed: Address,
+) -> bool {
     match e {
-        Elected::Is(a) => compared(out, family, a, observed),
-        Elected::Refused(r) => refused(out, r, b"\n"),
+        Ok(a) => compared(out, family, a, observed),
+        Err(r) => refused(out, r, b"\n"),
     }
 }
 
@@ -95,17 +99,7 @@ fn show(out: &impl Print, err: &impl Print, family: AddressFamily, name: &[u8], 
 }
 
 pub(crate) fn show_all(out: &impl Print, err: &impl Print, family: AddressFamily, table: &[u8]) {
-    let mut o = [0; 256];
-    let mut at = 0;
-    while at < table.len() {
-        let c = case_at(table, at, &mut o);
-        show(
-            out,
-            err,
-            family,
-            front(&table[at..], c.name),
-            front(&o, c.length),
-        );
-        at = c.next;
-    }
+    each_case(table, &mut [0; 256], |name, o| {
+        show(out, err, family, name, o);
+    });
 }

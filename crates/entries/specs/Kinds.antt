@@ -17,8 +17,7 @@ use Rattle.format.specs.Family.{Family, family_of, with_front}
 use Rattle.format.specs.Entry.{Entries, assert_entries, pair_entries}
 use Rattle.format.specs.declared.Kind.{Kind}
 use Rattle.format.specs.declared.Kind.TheVariants.{Hello, Assert, Simple, Aggregated, NullRegister, RegisterStop}
-use Rattle.entries.specs.declared.Listed.{Listed}
-use Rattle.entries.specs.declared.Listed.TheVariants.{Allowed, Bad}
+use Rattle.std.specs.Prelude.{Option, None, Some}
 
 -- a row of a table, in the order of the kinds
 abbrev pub by_kind : {A : Type 0} → A → A → A → A → A → A → Kind → A
@@ -65,6 +64,6 @@ unfoldable pub numbered : ℕ → ℕ → Outcome (Unit {0})
 numbered n i = cond (ltb i n) (refuses 7 i) (gives tt)
 
 -- "7 with the number of the first bad entry"
-unfoldable pub listed_by : Listed → Outcome (Unit {0})
-listed_by Allowed = gives tt
-listed_by (Bad i) = refuses 7 i
+unfoldable pub listed_by : Option ℕ → Outcome (Unit {0})
+listed_by None = gives tt
+listed_by (Some i) = refuses 7 i

@@ -14,15 +14,7 @@ use addresses::{
     width,
 };
 use format::{Kind, r_bit};
-use octets::number32;
-
-// Whether the entries of a list are allowed.
-#[derive(Clone, Copy)]
-pub enum Listed {
-    Allowed,
-    // The number of the first that is not.
-    Bad(usize),
-}
+use octets::number;
 
 // Whether entries are asserts: R with preference and metric stand past group and source.
 pub fn is_assert(kind: Kind) -> bool
@@ -121,7 +113,7 @@ fn zero_allowed(ipv6: bool, asserts: bool, stop: bool, e: &[u8], group: usize) -
 {
     if asserts {
         let word = group + 2 * width(ipv6);
-        return r_bit(number32(&e[word..word + 4], 0));
+        return r_bit(number::<u32>(&e[word..word + 4], 0));
     }
     stop
 }
@@ -178,45 +170,28 @@ fn three_begin(ipv6: bool, prefixed: bool, asserts: bool, e: &[u8], at: usize) -
     begins(ipv6, prefixed, e, at + 2 * size)
 }
 
-fn past_of(ipv6: bool, prefixed: bool, asserts: bool, e: &[u8], from: usize, count: usize) -> usize
-    requires { (from ≤ count) × ((stop : Bool) → count ≡ length e.now / (entries_by (family_with ipv6 prefixed) asserts stop).size) }
-    ensures { (from ≤ result) × (result ≤ count) × ((stop : Bool) → first_bad (entries_by (family_with ipv6 prefixed) asserts stop) e.now result ≡ first_bad (entries_by (family_with ipv6 prefixed) asserts stop) e.now from) }
+// Past entries from a number on that are passed so, three in a turn: most lists are long, and few of their entries have to be looked at further. The
+// compiler makes a loop for each family and each size, as long as it is small; one loop for all took three times as long.
+fn past<const IPV6: bool, const PREFIXED: bool, const ASSERTS: bool>(
+    e: &[u8],
+    from: usize,
+    count: usize,
+) -> usize
+    requires { (from ≤ count) × ((stop : Bool) → count ≡ length e.now / (entries_by (family_with IPV6 PREFIXED) ASSERTS stop).size) }
+    ensures { (from ≤ result) × (result ≤ count) × ((stop : Bool) → first_bad (entries_by (family_with IPV6 PREFIXED) ASSERTS stop) e.now result ≡ first_bad (entries_by (family_with IPV6 PREFIXED) ASSERTS stop) e.now from) }
 {
-    let size = size_by(ipv6, prefixed, asserts);
+    let size = size_by(IPV6, PREFIXED, ASSERTS);
     let mut i = from;
     let mut at = size * from;
+    // The answer is where three in a turn end: a `for` over turns would have to work it out at both returns.
     while 3 <= count - i {
-        if !three_begin(ipv6, prefixed, asserts, e, at) {
+        if !three_begin(IPV6, PREFIXED, ASSERTS, e, at) {
             return i;
         }
         i += 3;
         at += 3 * size;
     }
     i
-}
-
-// Past entries from a number on that are passed so, three in a turn: most lists are long, and few of their entries have to be looked at further. The
-// compiler makes a loop for each family and each size, as long as it is small; one loop for all took three times as long.
-fn past(ipv6: bool, prefixed: bool, asserts: bool, e: &[u8], from: usize, count: usize) -> usize
-    requires { (from ≤ count) × ((stop : Bool) → count ≡ length e.now / (entries_by (family_with ipv6 prefixed) asserts stop).size) }
-    ensures { (from ≤ result) × (result ≤ count) × ((stop : Bool) → first_bad (entries_by (family_with ipv6 prefixed) asserts stop) e.now result ≡ first_bad (entries_by (family_with ipv6 prefixed) asserts stop) e.now from) }
-{
-    if prefixed {
-        if ipv6 {
-            if asserts {
-                return past_of(true, true, true, e, from, count);
-            }
-            return past_of(true, true, false, e, from, count);
-        }
-        if asserts {
-            return past_of(false, true, true, e, from, count);
-        }
-        return past_of(false, true, false, e, from, count);
-    }
-    if ipv6 {
-        return past_of(true, false, asserts, e, from, count);
-    }
-    past_of(false, false, asserts, e, from, count)
 }
 
 // Past entries from a number on that are passed so, one in a turn: the first that is not may be any of three.
@@ -232,16 +207,12 @@ fn past_ones(
     ensures { (from ≤ result) × (result ≤ count) × ((stop : Bool) → first_bad (entries_by (family_with ipv6 prefixed) asserts stop) e.now result ≡ first_bad (entries_by (family_with ipv6 prefixed) asserts stop) e.now from) }
 {
     let size = size_by(ipv6, prefixed, asserts);
-    let mut i = from;
-    let mut at = size * from;
-    while i < count {
-        if !begins(ipv6, prefixed, e, at) {
+    for i in from..count {
+        if !begins(ipv6, prefixed, e, size * i) {
             return i;
         }
-        i += 1;
-        at += size;
     }
-    i
+    count
 }
 
 // Whether an entry is allowed that has no source. Of one that has a source nothing is said.
@@ -263,58 +234,24 @@ fn has_none(ipv6: bool, prefixed: bool, asserts: bool, stop: bool, e: &[u8], at:
     zero_allowed(ipv6, asserts, stop, e, group)
 }
 
-fn past_none_of(
-    ipv6: bool,
-    prefixed: bool,
-    asserts: bool,
-    stop: bool,
-    e: &[u8],
-    from: usize,
-    count: usize,
-) -> usize
-    requires { (from ≤ count) × (count ≡ length e.now / (entries_by (family_with ipv6 prefixed) asserts stop).size) }
-    ensures { (from ≤ result) × (result ≤ count) × (first_bad (entries_by (family_with ipv6 prefixed) asserts stop) e.now result ≡ first_bad (entries_by (family_with ipv6 prefixed) asserts stop) e.now from) }
-{
-    let size = size_by(ipv6, prefixed, asserts);
-    let mut i = from;
-    let mut at = size * from;
-    while i < count {
-        if !has_none(ipv6, prefixed, asserts, stop, e, at) {
-            return i;
-        }
-        i += 1;
-        at += size;
-    }
-    i
-}
-
 // Past entries from a number on that have no source, and are allowed: they often stand together, and singly each takes four times as long. The compiler
 // makes a loop for each, as in `past`.
-fn past_none(
-    ipv6: bool,
-    prefixed: bool,
-    asserts: bool,
+fn past_none<const IPV6: bool, const PREFIXED: bool, const ASSERTS: bool>(
     stop: bool,
     e: &[u8],
     from: usize,
     count: usize,
 ) -> usize
-    requires { (from ≤ count) × (count ≡ length e.now / (entries_by (family_with ipv6 prefixed) asserts stop).size) }
-    ensures { (from ≤ result) × (result ≤ count) × (first_bad (entries_by (family_with ipv6 prefixed) asserts stop) e.now result ≡ first_bad (entries_by (family_with ipv6 prefixed) asserts stop) e.now from) }
+    requires { (from ≤ count) × (count ≡ length e.now / (entries_by (family_with IPV6 PREFIXED) ASSERTS stop).size) }
+    ensures { (from ≤ result) × (result ≤ count) × (first_bad (entries_by (family_with IPV6 PREFIXED) ASSERTS stop) e.now result ≡ first_bad (entries_by (family_with IPV6 PREFIXED) ASSERTS stop) e.now from) }
 {
-    if prefixed {
-        if ipv6 {
-            if asserts {
-                return past_none_of(true, true, true, stop, e, from, count);
-            }
-            return past_none_of(true, true, false, stop, e, from, count);
+    let size = size_by(IPV6, PREFIXED, ASSERTS);
+    for i in from..count {
+        if !has_none(IPV6, PREFIXED, ASSERTS, stop, e, size * i) {
+            return i;
         }
-        if asserts {
-            return past_none_of(false, true, true, stop, e, from, count);
-        }
-        return past_none_of(false, true, false, stop, e, from, count);
     }
-    past_none_of(ipv6, false, asserts, stop, e, from, count)
+    count
 }
 
 // The number of the first entry that is not allowed, of those from a number up to another one, or that one.
@@ -331,14 +268,12 @@ fn singly(
     ensures { (from ≤ result) × (result ≤ end) × (first_bad (entries_by (family_with ipv6 prefixed) asserts stop) e.now result ≡ first_bad (entries_by (family_with ipv6 prefixed) asserts stop) e.now from) × (result < end → (entries_by (family_with ipv6 prefixed) asserts stop).allowed_at e.now ((entries_by (family_with ipv6 prefixed) asserts stop).size * result) ≡ false) }
 {
     let size = size_by(ipv6, prefixed, asserts);
-    let mut i = from;
-    while i < end {
+    for i in from..end {
         if !allowed(ipv6, prefixed, asserts, stop, e, size * i) {
             return i;
         }
-        i += 1;
     }
-    i
+    end
 }
 
 // How far entries are looked at singly, past some that were passed: no further, or where none was passed, one.
@@ -357,7 +292,32 @@ fn one_end(from: usize, i: usize, count: usize) -> usize
 
 // The number of the first entry from a number on that is not allowed, or how many there are. Where three are not passed by their first octets, the first
 // that is not is looked for, then entries without a source, then one entry whatever it is; and then three are tried again.
-fn up_to(
+fn up_to<const IPV6: bool, const PREFIXED: bool, const ASSERTS: bool>(
+    stop: bool,
+    e: &[u8],
+    start: usize,
+    count: usize,
+) -> usize
+    requires { (start ≤ count) × (count ≡ length e.now / (entries_by (family_with IPV6 PREFIXED) ASSERTS stop).size) }
+    ensures { numbered count result ≡ first_bad (entries_by (family_with IPV6 PREFIXED) ASSERTS stop) e.now start }
+{
+    let mut i = past::<IPV6, PREFIXED, ASSERTS>(e, start, count);
+    // A turn goes on from where its calls stopped, so a `for` has no range to go over.
+    while i < count {
+        let ones = past_ones(IPV6, PREFIXED, ASSERTS, e, i, count);
+        let none = past_none::<IPV6, PREFIXED, ASSERTS>(stop, e, ones, count);
+        let end = one_end(ones, none, count);
+        let bad = singly(IPV6, PREFIXED, ASSERTS, stop, e, none, end);
+        if bad < end {
+            return bad;
+        }
+        i = past::<IPV6, PREFIXED, ASSERTS>(e, end, count);
+    }
+    i
+}
+
+// The same by flags that are known at run time: the one place where they become const parameters.
+fn up_to_by(
     ipv6: bool,
     prefixed: bool,
     asserts: bool,
@@ -369,32 +329,42 @@ fn up_to(
     requires { (start ≤ count) × (count ≡ length e.now / (entries_by (family_with ipv6 prefixed) asserts stop).size) }
     ensures { numbered count result ≡ first_bad (entries_by (family_with ipv6 prefixed) asserts stop) e.now start }
 {
-    let mut i = past(ipv6, prefixed, asserts, e, start, count);
-    while i < count {
-        let ones = past_ones(ipv6, prefixed, asserts, e, i, count);
-        let none = past_none(ipv6, prefixed, asserts, stop, e, ones, count);
-        let end = one_end(ones, none, count);
-        let bad = singly(ipv6, prefixed, asserts, stop, e, none, end);
-        if bad < end {
-            return bad;
+    if prefixed {
+        if ipv6 {
+            if asserts {
+                return up_to::<true, true, true>(stop, e, start, count);
+            }
+            return up_to::<true, true, false>(stop, e, start, count);
         }
-        i = past(ipv6, prefixed, asserts, e, end, count);
+        if asserts {
+            return up_to::<false, true, true>(stop, e, start, count);
+        }
+        return up_to::<false, true, false>(stop, e, start, count);
     }
-    i
+    if ipv6 {
+        if asserts {
+            return up_to::<true, false, true>(stop, e, start, count);
+        }
+        return up_to::<true, false, false>(stop, e, start, count);
+    }
+    if asserts {
+        return up_to::<false, false, true>(stop, e, start, count);
+    }
+    up_to::<false, false, false>(stop, e, start, count)
 }
 
 // The first entry from a number on that a message of a kind may not have.
-pub fn first_bad(ipv6: bool, prefixed: bool, kind: Kind, e: &[u8], start: usize) -> Listed
+pub fn first_bad(ipv6: bool, prefixed: bool, kind: Kind, e: &[u8], start: usize) -> Option<usize>
     ensures { listed_by result ≡ first_bad (entries_with ipv6 prefixed kind) e.now start }
 {
     let asserts = is_assert(kind);
     let count = e.len() / size_by(ipv6, prefixed, asserts);
     if count < start {
-        return Listed::Allowed;
+        return None;
     }
-    let i = up_to(ipv6, prefixed, asserts, is_stop(kind), e, start, count);
+    let i = up_to_by(ipv6, prefixed, asserts, is_stop(kind), e, start, count);
     if i < count {
-        return Listed::Bad(i);
+        return Some(i);
     }
-    Listed::Allowed
+    None
 }

@@ -22,24 +22,24 @@ use Rattle.format.specs.Address.{group_field, source_field}
 use Rattle.format.specs.Record.{assert_record}
 use Rattle.format.specs.declared.Refusal.{Refusal}
 use Rattle.fields.specs.Answers.{checked, skipped}
-use Rattle.fields.specs.declared.field.Checked.{Checked}
-use Rattle.fields.specs.declared.field.Checked.TheVariants.{Next, Bad}
 use Rattle.fields.proofs.Skipped.{checks_bad, checks_next, checks_on, skipped_last}
 use Rattle.fields.proofs.Fields.{number_skipped, group_back, source_back}
+use Rattle.std.specs.Prelude.{Result, Ok, Err}
+use Rattle.format.specs.declared.Reason.TheVariants.{BadAddress}
 
 module _ (f : Family) (o : List ℕ) (at : ℕ) where
-  pub assert_no_group : {c : Checked} {x : Refusal} → c ≡ Bad x → checked c ≡ skipped (group_field f o at)
+  pub assert_no_group : {c : Result ℕ Refusal} {x : Refusal} → c ≡ Err x → checked c ≡ skipped (group_field f o at)
       → checked c ≡ skipped (assert_record f o at)
   unfolding assert_record ◌>>=◌
   assert_no_group p q = checks_bad (group_field f o at) _ p q
 
-  pub assert_no_source : {g c : Checked} {p : ℕ} {x : Refusal} → g ≡ Next p → checked g ≡ skipped (group_field f o at)
-      → c ≡ Bad x → checked c ≡ skipped (source_field f true o p) → checked c ≡ skipped (assert_record f o at)
+  pub assert_no_source : {g c : Result ℕ Refusal} {p : ℕ} {x : Refusal} → g ≡ Ok p → checked g ≡ skipped (group_field f o at)
+      → c ≡ Err x → checked c ≡ skipped (source_field f true o p) → checked c ≡ skipped (assert_record f o at)
   unfolding assert_record ◌>>=◌ here continue
   assert_no_source {p = p} e h e2 h2 = checks_on (group_field f o at) _ e h (λ g r. checks_bad (source_field f true o p) _ e2 h2)
 
-  pub assert_no_word : {g s c : Checked} {p q : ℕ} {x : Refusal} → g ≡ Next p → checked g ≡ skipped (group_field f o at)
-      → s ≡ Next q → checked s ≡ skipped (source_field f true o p) → c ≡ Bad x → checked c ≡ skipped (octets 4 o q)
+  pub assert_no_word : {g s c : Result ℕ Refusal} {p q : ℕ} {x : Refusal} → g ≡ Ok p → checked g ≡ skipped (group_field f o at)
+      → s ≡ Ok q → checked s ≡ skipped (source_field f true o p) → c ≡ Err x → checked c ≡ skipped (octets 4 o q)
       → checked c ≡ skipped (assert_record f o at)
   unfolding assert_record ◌>>=◌ here continue
   assert_no_word {p = p} {q = q} e h e2 h2 e3 h3 =
@@ -60,8 +60,8 @@ pub record Head (f : Family) (o : List ℕ) (at p q n : ℕ) : Type 0 where
 abbrev pub zero_source : Family → List ℕ → ℕ → ℕ → Bool
 zero_source f o p q = not (r_bit (number_at 4 o q)) && eqb (number_at f.width o (p + 2)) 0
 
-pub head : (f : Family) (o : List ℕ) (at : ℕ) {g s c : Checked} {p q n : ℕ} → g ≡ Next p → checked g ≡ skipped (group_field f o at)
-    → s ≡ Next q → checked s ≡ skipped (source_field f true o p) → c ≡ Next n → checked c ≡ skipped (octets 4 o q)
+pub head : (f : Family) (o : List ℕ) (at : ℕ) {g s c : Result ℕ Refusal} {p q n : ℕ} → g ≡ Ok p → checked g ≡ skipped (group_field f o at)
+    → s ≡ Ok q → checked s ≡ skipped (source_field f true o p) → c ≡ Ok n → checked c ≡ skipped (octets 4 o q)
     → Head f o at p q n
 head f o at {p = p} {q = q} e h e2 h2 e3 h3 =
     checks_next (group_field f o at) e h (λ g r.
@@ -91,7 +91,7 @@ module _ {f : Family} {o : List ℕ} {at p q n : ℕ} (h : Head f o at p q n) wh
       → zero_source f o p q ≡ (not x && y)
   zero_tested e t g u = rw (← e, t, ← g, u)
 
-  pub assert_zero : zero_source f o p q ≡ true → {c : Checked} → c ≡ Bad (record { number = 7; place = p })
+  pub assert_zero : zero_source f o p q ≡ true → {c : Result ℕ Refusal} → c ≡ Err (record { reason = BadAddress; place = p })
       → checked c ≡ skipped (assert_record f o at)
   unfolding refuse continue checked skipped
   assert_zero t e = rw (e, head_rest, test_is, t)

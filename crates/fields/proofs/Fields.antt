@@ -29,14 +29,14 @@ use Rattle.addresses.specs.Addresses.{group_first}
 use Rattle.addresses.proofs.Laws.{group_first_lem}
 use Rattle.fields.specs.Answers.{checked, skipped}
 use Rattle.fields.specs.Encoded.{address_size, address_form, address_field}
-use Rattle.fields.specs.declared.field.Checked.{Checked}
-use Rattle.fields.specs.declared.field.Checked.TheVariants.{Next, Bad}
 use Rattle.fields.proofs.Skipped.{no_got, continue_back, checks_bad, checks_next, skipped_last}
+use Rattle.std.specs.Prelude.{Result, Ok, Err}
+use Rattle.format.specs.declared.Reason.TheVariants.{BadAddress}
 
 -- ---- octets and numbers
 
 -- what a check of k octets that passed says
-pub octets_room : (k : ℕ) (o : List ℕ) (at : ℕ) {c : Checked} {n : ℕ} → c ≡ Next n → checked c ≡ skipped (octets k o at) → (at + k ≤ length o) × (n ≡ at + k)
+pub octets_room : (k : ℕ) (o : List ℕ) (at : ℕ) {c : Result ℕ Refusal} {n : ℕ} → c ≡ Ok n → checked c ≡ skipped (octets k o at) → (at + k ≤ length o) × (n ≡ at + k)
 octets_room k o at p q = checks_next (octets k o at) p q (λ x e. let b = octets_back_lem k o at e in (omega arith, b.1))
 
 pub number_none : (k : ℕ) (o : List ℕ) (at : ℕ) → length o ≤ at → number_at k o at ≡ 0
@@ -77,19 +77,19 @@ pub record Comes {A : Type 0} (r : Read A) (test : Bool) (a : A) (next at : ℕ)
   pub is : r ≡ cond test (got a next) (bad 7 at)
 
 -- a check that made the test, and refused the field, or passed it
-pub form_no : {A : Type 0} {r : Read A} {test : Bool} {a : A} {next at : ℕ} → Comes r test a next at → {c : Checked} → c ≡ Bad (record { number = 7; place = at })
+pub form_no : {A : Type 0} {r : Read A} {test : Bool} {a : A} {next at : ℕ} → Comes r test a next at → {c : Result ℕ Refusal} → c ≡ Err (record { reason = BadAddress; place = at })
     → test ≡ false → checked c ≡ skipped r
 unfolding checked skipped
 form_no h e t = rw (e, h.is, t)
 
 pub form_yes : {A : Type 0} {r : Read A} {test : Bool} {a : A} {next at : ℕ} → Comes r test a next at → {n : ℕ} → n ≡ next
-    → test ≡ true → checked (Next n) ≡ skipped r
+    → test ≡ true → checked (Ok n) ≡ skipped r
 unfolding checked skipped
 form_yes h e t = rw (e, h.is, t)
 
 module _ (w j : ℕ) (test : List ℕ → Bool) (o : List ℕ) (at : ℕ) where
   -- where its octets are not there, the field is not
-  formed_short : {c : Checked} {x : Refusal} → c ≡ Bad x → checked c ≡ skipped (octets (w + j) o at) → checked c ≡ skipped (formed w j test o at)
+  formed_short : {c : Result ℕ Refusal} {x : Refusal} → c ≡ Err x → checked c ≡ skipped (octets (w + j) o at) → checked c ≡ skipped (formed w j test o at)
   unfolding ◌>>=◌ must
   formed_short p q = checks_bad _ _ p (checks_bad (octets (w + j) o at) _ p q)
 
@@ -178,7 +178,7 @@ unfolding address_field address_size address_form
 address_is f true z o at h = group_is f o at h
 address_is f false z o at h = source_is f z o at h
 
-pub address_short : (f : Family) (g z : Bool) (o : List ℕ) (at : ℕ) {c : Checked} {x : Refusal} → c ≡ Bad x → checked c ≡ skipped (octets (address_size f g) o at)
+pub address_short : (f : Family) (g z : Bool) (o : List ℕ) (at : ℕ) {c : Result ℕ Refusal} {x : Refusal} → c ≡ Err x → checked c ≡ skipped (octets (address_size f g) o at)
     → checked c ≡ skipped (address_field f g z o at)
 unfolding address_field address_size group_field source_field
 address_short f true z o at p q = formed_short f.width 4 (group_form f) o at p q

@@ -14,22 +14,22 @@ use Rattle.format.specs.Record.{Single, an_assert, a_pair}
 use Rattle.format.specs.declared.Kind.{Kind}
 use Rattle.format.specs.declared.Kind.TheVariants.{Hello, Assert as AssertKind, Simple, Aggregated, NullRegister, RegisterStop}
 use Rattle.format.specs.Values.{record_of}
-use Rattle.fields.specs.declared.field.Checked.{Checked}
-use Rattle.fields.specs.declared.field.Checked.TheVariants.{Next, Bad}
-use Rattle.fields.specs.declared.record.Single.{Single as SingleAnswer}
-use Rattle.fields.specs.declared.record.Single.TheVariants.{Got, Refused as NoRecord}
+use Rattle.fields.specs.declared.record.Single.{Single as SingleRead}
+use Rattle.std.specs.Prelude.{Result, Ok, Err}
+use Rattle.format.specs.declared.Refusal.{Refusal}
+use Rattle.format.specs.Outcome.{reason_number}
 
-unfoldable pub checked : Checked → Read (Unit {0})
-checked (Next n) = got tt n
-checked (Bad r) = bad r.number r.place
+unfoldable pub checked : Result ℕ Refusal → Read (Unit {0})
+checked (Ok n) = got tt n
+checked (Err r) = bad (reason_number r.reason) r.place
 
 unfoldable pub skipped : {A : Type 0} → Read A → Read (Unit {0})
 skipped (got a n) = got tt n
 skipped (bad n p) = bad n p
 
-unfoldable pub single : SingleAnswer → Read Single
-single (Got r next) = got (record_of r) next
-single (NoRecord r) = bad r.number r.place
+unfoldable pub single : Result SingleRead Refusal → Read Single
+single (Ok s) = got (record_of s.record) s.next
+single (Err r) = bad (reason_number r.reason) r.place
 
 -- the group's address at octet 4, then the source's, the R word and the metric: in IPv4 at 10, 14 and 18
 unfoldable pub plain_assert : Family → List ℕ → ℕ → AssertRecord

@@ -9,35 +9,20 @@ ghost use Rattle.fields.specs.Answers.{checked, skipped};
 ghost use Rattle.fields.specs.Encoded.{address_size, address_form, address_field};
 
 use addresses::{begins_source, family_number, is_multicast, mask_length, may_be_source, width};
-use format::Refusal;
-
-// What a check finds.
-#[derive(Clone, Copy)]
-pub enum Checked {
-    // The place past what was checked.
-    Next(usize),
-    Bad(Refusal),
-}
-
-// A refusal.
-pub fn bad(number: u8, place: usize) -> Checked
-    ensures { result ≡ Checked.Bad (record { number = number; place = place }) }
-{
-    Checked::Bad(Refusal { number, place })
-}
+use format::{Reason, Refusal};
 
 // k octets are there. It makes the test of `octets::skip` itself, since it stands in the loops over records: over that
 // answer the compiler calls a record's check and does not put it into the loop.
-pub fn octets_check(m: &[u8], at: usize, k: usize) -> Checked
+pub fn octets_check(m: &[u8], at: usize, k: usize) -> Result<usize, Refusal>
     ensures { checked result ≡ skipped (octets k m.now at) }
 {
     if m.len() < at {
-        return bad(6, at);
+        return Err(Reason::Cut.at(at));
     }
     if m.len() - at < k {
-        return bad(6, at);
+        return Err(Reason::Cut.at(at));
     }
-    Checked::Next(at + k)
+    Ok(at + k)
 }
 
 // Whether octets begin as every encoded address of a family does, with the family and 00 for its native encoding. Both are tested as one
@@ -103,28 +88,34 @@ pub fn is_address(ipv6: bool, is_group: bool, x: &[u8], zero_allowed: bool) -> b
 }
 
 // A group, or a source, is there and allowed.
-fn address_check(ipv6: bool, is_group: bool, m: &[u8], at: usize, zero_allowed: bool) -> Checked
+fn address_check(
+    ipv6: bool,
+    is_group: bool,
+    m: &[u8],
+    at: usize,
+    zero_allowed: bool,
+) -> Result<usize, Refusal>
     ensures { checked result ≡ skipped (address_field (family_of ipv6) is_group zero_allowed m.now at) }
 {
     let f = octets_check(m, at, address_size(ipv6, is_group));
-    let Checked::Next(next) = f else {
+    let Ok(next) = f else {
         return f;
     };
     if is_address(ipv6, is_group, &m[at..next], zero_allowed) {
-        return Checked::Next(next);
+        return Ok(next);
     }
-    bad(7, at)
+    Err(Reason::BadAddress.at(at))
 }
 
 // A group.
-pub fn group_check(ipv6: bool, m: &[u8], at: usize) -> Checked
+pub fn group_check(ipv6: bool, m: &[u8], at: usize) -> Result<usize, Refusal>
     ensures { checked result ≡ skipped (group_field (family_of ipv6) m.now at) }
 {
     address_check(ipv6, true, m, at, false)
 }
 
 // A source.
-pub fn source_check(ipv6: bool, m: &[u8], at: usize, zero_allowed: bool) -> Checked
+pub fn source_check(ipv6: bool, m: &[u8], at: usize, zero_allowed: bool) -> Result<usize, Refusal>
     ensures { checked result ≡ skipped (source_field (family_of ipv6) zero_allowed m.now at) }
 {
     address_check(ipv6, false, m, at, zero_allowed)

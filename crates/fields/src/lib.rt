@@ -9,7 +9,6 @@ mod field;
 mod record;
 
 pub use field::{
-    Checked, address_size, bad, group_check, is_address, is_group, is_source, octets_check,
-    source_check,
+    address_size, group_check, is_address, is_group, is_source, octets_check, source_check,
 };
 pub use record::{Single, assert_check, pair_check, read_record};

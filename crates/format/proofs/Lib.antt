@@ -13,3 +13,5 @@ pub mod Reading
 pub mod Trains
 pub mod MostThatFit
 pub mod Families
+pub mod Refusals
+pub mod Constants

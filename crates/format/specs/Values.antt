@@ -3,16 +3,15 @@
 --     kind_named, named_by   the kind that a number names, and an answer about it
 --     assert_of, pair_of     "an assert with its four fields or a pair with its two"
 --     record_of             a record read singly, by its case
--- A refusal is its number and its place. Assumes nothing: these are definitions.
-use Rattle.std.specs.Prelude.{ℕ, cond, List, [], ◌∷◌, eqb}
+-- Assumes nothing: these are definitions.
+use Rattle.std.specs.Prelude.{ℕ, cond, List, [], ◌∷◌, eqb, Result, Ok, Err}
 use Rattle.std.proofs.Math.Option.{Option, none, some}
 use Rattle.records.specs.Records.{AssertRecord, assert, PairRecord, pair}
 use Rattle.format.specs.Path.{number_of}
 use Rattle.format.specs.Record.{Single, an_assert, a_pair}
 use Rattle.format.specs.declared.Kind.{Kind}
 use Rattle.format.specs.declared.Kind.TheVariants.{Hello, Assert as AssertKind, Simple, Aggregated, NullRegister, RegisterStop}
-use Rattle.format.specs.declared.Named.{Named}
-use Rattle.format.specs.declared.Named.TheVariants.{Is, Nothing}
+use Rattle.format.specs.declared.NoKind.{NoKind}
 use Rattle.format.specs.declared.AssertFields.{AssertFields}
 use Rattle.format.specs.declared.PairFields.{PairFields}
 use Rattle.format.specs.declared.Record.{Record}
@@ -39,9 +38,9 @@ named n (k ∷ ks) = cond (eqb n (kind_number k)) (some k) (named n ks)
 unfoldable pub kind_named : ℕ → Option Kind
 kind_named n = named n kinds
 
-unfoldable pub named_by : Named → Option Kind
-named_by (Is k) = some k
-named_by Nothing = none
+unfoldable pub named_by : Result Kind NoKind → Option Kind
+named_by (Ok k) = some k
+named_by (Err e) = none
 
 -- ---- records
 

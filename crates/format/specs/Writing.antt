@@ -4,11 +4,10 @@
 --     length_of        what is answered of them: how many they are
 --     length_by        01's number and values for each case of an answer
 -- Assumes nothing: these are definitions.
-use Rattle.std.specs.Prelude.{ℕ, List, length}
+use Rattle.std.specs.Prelude.{ℕ, List, length, Result, Ok, Err}
 use Rattle.octets.specs.Octets.{put}
-use Rattle.format.specs.Outcome.{Outcome, gives, refuses}
-use Rattle.format.specs.declared.Writing.{Writing}
-use Rattle.format.specs.declared.Writing.TheVariants.{Wrote, Refused}
+use Rattle.format.specs.Outcome.{Outcome, gives, refuses, reason_number}
+use Rattle.format.specs.declared.Refusal.{Refusal}
 
 pub record WritingCall : Type 0 where
   -- the length written
@@ -24,6 +23,6 @@ unfoldable pub into_buffer : List ℕ → Outcome (List ℕ) → WritingCall
 into_buffer d (gives e) = record { answer = gives (length e); buffer = put d 0 e }
 into_buffer d (refuses n p) = record { answer = refuses n p; buffer = d }
 
-unfoldable pub length_by : Writing → Outcome ℕ
-length_by (Wrote n) = gives n
-length_by (Refused r) = refuses r.number r.place
+unfoldable pub length_by : Result ℕ Refusal → Outcome ℕ
+length_by (Ok n) = gives n
+length_by (Err r) = refuses (reason_number r.reason) r.place

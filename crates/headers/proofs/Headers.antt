@@ -20,8 +20,7 @@ use Rattle.format.specs.declared.Path.{Path}
 use Rattle.format.specs.declared.Refusal.{Refusal}
 use Rattle.format.proofs.Outcomes.{unless_gives}
 use Rattle.headers.specs.Answers.{headed}
-use Rattle.headers.specs.declared.message.Headed.{Headed}
-use Rattle.headers.specs.declared.message.Headed.TheVariants.{Is, Refused}
+use Rattle.std.specs.Prelude.{Result, Ok, Err}
 
 neither : (a b : Bool) → (a || b) ≡ false → (a ≡ false) × (b ≡ false)
 neither true b e = absurd (let z : ◌≡◌ {A = ℕ} 0 1 = cc in omega arith)
@@ -34,15 +33,15 @@ header_room f p o k e =
     let b = neither (ltb (length o) shortest) (ltb longest (length o)) t in
     (ltb-false (length o) shortest b.0, ltb-false longest (length o) b.1))
 
-module _ (f : Family) (p : Path) (o : List ℕ) {h : Headed} where
-  pub headed_room : {k : Kind} → h ≡ Is k → headed h ≡ header f p o → 4 ≤ length o
+module _ (f : Family) (p : Path) (o : List ℕ) {h : Result Kind Refusal} where
+  pub headed_room : {k : Kind} → h ≡ Ok k → headed h ≡ header f p o → 4 ≤ length o
   unfolding headed
   headed_room {k} e q = (header_room f p o k (sym q ∙ ap headed e)).0
 
-  pub body_some : {k : Kind} → h ≡ Is k → headed h ≡ header f p o → take (length o - 4) (drop 4 o) ≡ body f p o
+  pub body_some : {k : Kind} → h ≡ Ok k → headed h ≡ header f p o → take (length o - 4) (drop 4 o) ≡ body f p o
   unfolding headed body body_of
   body_some e q = rw (← q, e) (take_all (length o - 4) (drop 4 o) (simp length-drop (omega arith)))
 
-  pub body_none : {x : Refusal} → h ≡ Refused x → headed h ≡ header f p o → [] ≡ body f p o
+  pub body_none : {x : Refusal} → h ≡ Err x → headed h ≡ header f p o → [] ≡ body f p o
   unfolding headed body body_of
   body_none e q = rw (← q, e)

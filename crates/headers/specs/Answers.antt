@@ -3,9 +3,10 @@
 -- Assumes nothing: these are definitions.
 use Rattle.format.specs.Outcome.{Outcome, gives, refuses}
 use Rattle.format.specs.declared.Kind.{Kind}
-use Rattle.headers.specs.declared.message.Headed.{Headed}
-use Rattle.headers.specs.declared.message.Headed.TheVariants.{Is, Refused}
+use Rattle.std.specs.Prelude.{Result, Ok, Err}
+use Rattle.format.specs.declared.Refusal.{Refusal}
+use Rattle.format.specs.Outcome.{reason_number}
 
-unfoldable pub headed : Headed → Outcome Kind
-headed (Is k) = gives k
-headed (Refused r) = refuses r.number r.place
+unfoldable pub headed : Result Kind Refusal → Outcome Kind
+headed (Ok k) = gives k
+headed (Err r) = refuses (reason_number r.reason) r.place

@@ -5,5 +5,5 @@
 mod message;
 mod sealing;
 
-pub use message::{Headed, body, header};
+pub use message::{body, header};
 pub use sealing::{put_header, seal, start_sum};

@@ -5,32 +5,19 @@ ghost use Rattle.format.specs.Header.{assert_kind, register_kind, kind_of, sums,
 ghost use Rattle.headers.specs.Answers.{headed};
 
 use addresses::sum_before;
-use format::{GREATEST_LIMIT, Kind, Path, Refusal};
-
-// What a header says.
-#[derive(Clone, Copy)]
-pub enum Headed {
-    Is(Kind),
-    Refused(Refusal),
-}
-
-fn refused(number: u8) -> Headed
-    ensures { result ≡ Headed.Refused (record { number = number; place = 0 }) }
-{
-    Headed::Refused(Refusal { number, place: 0 })
-}
+use format::{GREATEST_LIMIT, Kind, Path, Reason, Refusal};
 
 // The kind of a type 13 message: the subtype is the high half of octet 1.
-fn register_kind(x: u8) -> Headed
+fn register_kind(x: u8) -> Result<Kind, Refusal>
     ensures { headed result ≡ register_kind x }
 {
     if x / 16 == 0 {
-        return Headed::Is(Kind::NullRegister);
+        return Ok(Kind::NullRegister);
     }
     if x / 16 == 1 {
-        return Headed::Is(Kind::RegisterStop);
+        return Ok(Kind::RegisterStop);
     }
-    refused(4)
+    Err(Reason::BadKind.at(0))
 }
 
 // The kind of a type 5 message: P is bit 0 of octet 1, A bit 1.
@@ -46,19 +33,19 @@ fn assert_kind(x: u8) -> Kind
     Kind::Aggregated
 }
 
-fn kind_of(t: u8, x: u8) -> Headed
+fn kind_of(t: u8, x: u8) -> Result<Kind, Refusal>
     ensures { headed result ≡ kind_of t x }
 {
     if t == 0 {
-        return Headed::Is(Kind::Hello);
+        return Ok(Kind::Hello);
     }
     if t == 5 {
-        return Headed::Is(assert_kind(x));
+        return Ok(assert_kind(x));
     }
     if t == 13 {
         return register_kind(x);
     }
-    refused(4)
+    Err(Reason::BadKind.at(0))
 }
 
 // Whether the checksum of a message holds: in IPv6 with what is summed before it. Each family has its own loop, so that the compiler puts that of IPv4,
@@ -73,20 +60,20 @@ fn holds(ipv6: bool, path: Path, m: &[u8]) -> bool
 }
 
 // The kind of a message, or the first of 1, 2, 3 and 4 that applies. No message is longer than the greatest limit.
-pub fn header(ipv6: bool, path: Path, m: &[u8]) -> Headed
+pub fn header(ipv6: bool, path: Path, m: &[u8]) -> Result<Kind, Refusal>
     ensures { headed result ≡ header_of (family_of ipv6) path m.now }
 {
     if m.len() < 4 {
-        return refused(1);
+        return Err(Reason::BadLength.at(0));
     }
     if GREATEST_LIMIT < m.len() {
-        return refused(1);
+        return Err(Reason::BadLength.at(0));
     }
     if m[0] / 16 != 2 {
-        return refused(2);
+        return Err(Reason::BadVersion.at(0));
     }
     if !holds(ipv6, path, m) {
-        return refused(3);
+        return Err(Reason::BadChecksum.at(0));
     }
     kind_of(m[0] % 16, m[1])
 }
@@ -96,7 +83,7 @@ pub fn body(ipv6: bool, path: Path, m: &[u8]) -> &[u8]
     ensures { result.now ≡ body_of (family_of ipv6) path m.now }
 {
     let h = header(ipv6, path, m);
-    let Headed::Is(_) = h else {
+    let Ok(_) = h else {
         return &m[..0];
     };
     &m[4..]

@@ -6,7 +6,7 @@ ghost use Rattle.headers.specs.Sealing.{first_word, start_sum, with_header, seal
 
 use addresses::sum_before;
 use format::{GREATEST_LIMIT, Kind, Path};
-use octets::write16;
+use octets::write;
 
 // The first word of a message: version 2 and the type; then P and A of an assert, or the
 // subtype of a register.
@@ -37,8 +37,8 @@ pub fn put_header(kind: Kind, sum: u16, d: &mut [u8])
     if d.len() < 4 {
         return;
     }
-    write16(d, 0, first_word(kind));
-    write16(d, 2, 65535 - sum);
+    write::<u16>(d, 0, first_word(kind));
+    write::<u16>(d, 2, 65535 - sum);
 }
 
 // The header of the message of n octets whose body stands at octet 4 of a buffer. Nothing where the buffer has fewer

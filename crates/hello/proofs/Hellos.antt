@@ -6,14 +6,13 @@
 --     read_refused, read_body             the message, by what its header says
 --     other_kind                          a message of another kind
 -- Assumes nothing.
+use native.Mathlib.Omega.{arith}
 use Prim.Native.Nat.{ℕ}
 use mathlib.Core.Path.{◌≡◌, refl}
-use mathlib.Core.Bool.{Bool, true, false, not, cond}
+use mathlib.Core.Bool.{Bool, true, false, cond}
 use mathlib.Core.List.{List}
-use mathlib.Core.Option.{none, some}
-use borrow.Author.Tests.{not-false}
-use lib.Dec.{eqb}
 use lib.ListN.{length}
+use Rattle.std.specs.Prelude.{Option as Maybe, Some, None, is_some}
 use Rattle.format.specs.Outcome.{gives, refuses, ◌>>=◌, ◌>>◌}
 use Rattle.format.specs.Reader.{from}
 use Rattle.format.specs.Family.{Family}
@@ -23,7 +22,7 @@ use Rattle.format.specs.declared.Path.{Path}
 use Rattle.format.specs.declared.Kind.TheVariants.{Hello, Assert, Simple, Aggregated, NullRegister, RegisterStop}
 use Rattle.hello.specs.Options.{Said, nothing, options}
 use Rattle.hello.specs.Hello.{hello_of, hello_options, options_fine, hello_body, read_hello}
-use Rattle.hello.specs.Answers.{if_given, if_placed}
+use Rattle.hello.specs.Answers.{if_given, if_placed, priority_at}
 
 pub given_zero : (b : Bool) (n : ℕ) → if_given b (cond b n 0) ≡ if_given b n
 unfolding if_given
@@ -33,16 +32,15 @@ given_zero false n = refl
 pub none_zero : (b : Bool) (n : ℕ) → b ≡ false → cond b n 0 ≡ 0
 none_zero b n e = rw e
 
-pub placed_zero : (at n : ℕ) → if_given (not (eqb at 0)) (cond (eqb at 0) 0 n) ≡ if_placed at n
-unfolding if_given if_placed
-placed_zero at n = go (eqb at 0)
-  where
-    go : (b : Bool) → cond (not b) (some (cond b 0 n)) none ≡ cond b none (some n)
-    go true = refl
-    go false = refl
+pub placed_zero : (o : List ℕ) (v : Maybe ℕ) → if_given (is_some v) (priority_at o v) ≡ if_placed 4 o v
+unfolding if_given if_placed priority_at
+placed_zero o (Some at) = refl
+placed_zero o None = refl
 
-pub placed_none : (at n : ℕ) → not (eqb at 0) ≡ false → cond (eqb at 0) 0 n ≡ 0
-placed_none at n e = rw (not-false (eqb at 0) e)
+pub placed_none : (o : List ℕ) (v : Maybe ℕ) → is_some v ≡ false → priority_at o v ≡ 0
+unfolding priority_at
+placed_none o (Some at) e = absurd (let z : ◌≡◌ {A = ℕ} 0 1 = cc in omega arith)
+placed_none o None e = refl
 
 pub hello_all : (o : List ℕ) {s : Said} → from 4 (options (length o) nothing) o ≡ gives s → hello_options o ≡ gives (hello_of s)
 unfolding hello_options ◌>>=◌

@@ -1,46 +1,30 @@
 -- What an option reads as, by the tests that the code made: laws over the definitions of specs/Options.antt and specs/Answers.antt.
---     stepped_bad, taken_cut, taken_got                 what the code answers
---     some_given, some_placed                           an option with whether it was there
+--     some_given, value_given, some_value, some_placed  an option with whether it was there
 --     short_back                                        octets that are cut
 --     value_refused                                     an option's value, refused
---     head_cut, Head, head                              an option's type and length: cut, or there
+--     type_cut, length_cut, Head, head                  an option's type and length: cut, or there
 --     Begins, begins                                    an option by its four first octets
 --     option_refused, known_taken, other_taken          an option: refused; a known one or any other, its value there or cut
 -- Assumes nothing.
 use mathlib.Core.Path.{◌≡◌, refl, sym, ap, ◌∙◌}
-use mathlib.Core.Bool.{Bool, true, false, not, cond}
+use mathlib.Core.Bool.{Bool, true, false, cond}
 use mathlib.Core.List.{List}
-use mathlib.Core.Option.{none, some}
 use Prim.Native.Nat.{ℕ, ◌+◌, ◌*◌, ◌/◌, ◌%◌, ◌≤◌, ◌<◌}
 use native.Mathlib.Omega.{arith}
-use borrow.Author.Tests.{eq-eqb, ne_eqb, eqb-true, eqb-false, leb-true, leb-false}
+use borrow.Author.Tests.{eq-eqb, ne_eqb, eqb-true, eqb-false, leb-false}
 use lib.Dec.{eqb, leb}
 use lib.ListN.{length, take, drop}
 use Rattle.octets.specs.Octets.{Octets, number_at}
-use Rattle.octets.specs.Field.{field_of, place_of}
-use Rattle.octets.specs.declared.Field.{Field}
-use Rattle.octets.specs.declared.Field.TheVariants.{Got, Short}
+use Rattle.octets.specs.Field.{ignored}
+use Rattle.std.specs.Prelude.{Option as Maybe, Some, None, is_some as is_there}
+use Rattle.std.specs.Bool.{then_some}
 use Rattle.octets.proofs.Laws.{number_split, number_there, number_back, field_short}
-use Rattle.format.specs.Reader.{Read, got, bad, continue, ◌>>=◌, ◌>>◌, give, here, octets, number, refuse}
+use Rattle.format.specs.Reader.{got, bad, continue, ◌>>=◌, ◌>>◌, give, here, octets, number, refuse}
 use Rattle.format.proofs.Entries.{number_at_lt}
 use Rattle.hello.specs.Options.{Said, said, type_of, among, named, length_of, is_some, given, against, hear, option_value, option}
-use Rattle.hello.specs.Answers.{if_given, if_placed, head_of, among_heads, beginning, is_known, refused_as, taken, stepped}
+use Rattle.hello.specs.Answers.{if_given, value_in, if_placed, head_of, among_heads, beginning, is_known, refused_as, taken}
 use Rattle.hello.specs.declared.table.Known.{Known}
 use Rattle.hello.specs.declared.table.Known.TheVariants.{Holdtime, Priority, Packing, Other}
-use Rattle.hello.specs.declared.table.Step.{Step}
-use Rattle.hello.specs.declared.table.Step.TheVariants.{Bad}
-
-pub stepped_bad : (o : List ℕ) {r : Step} {n p : ℕ} → r ≡ Bad n p → stepped o r ≡ bad n p
-unfolding stepped
-stepped_bad o e = rw e
-
-pub taken_cut : (s : Said) (f : Field) {p : ℕ} → f ≡ Short p → bad 6 (place_of (field_of f)) ≡ taken s (field_of f)
-unfolding taken continue
-taken_cut s f e = rw e
-
-pub taken_got : (s : Said) (f : Field) {v n : ℕ} → f ≡ Got v n → got s n ≡ taken s (field_of f)
-unfolding taken continue
-taken_got s f e = rw e
 
 -- ---- whether an option was there
 
@@ -49,13 +33,20 @@ unfolding is_some if_given
 some_given true n = refl
 some_given false n = refl
 
-pub some_placed : (at n : ℕ) → is_some (if_placed at n) ≡ not (eqb at 0)
+pub value_given : (b : Bool) (n : ℕ) → value_in (then_some b n) ≡ if_given b n
+unfolding value_in if_given
+value_given true n = refl
+value_given false n = refl
+
+pub some_value : (v : Maybe ℕ) → is_some (value_in v) ≡ is_there v
+unfolding is_some value_in
+some_value (Some n) = refl
+some_value None = refl
+
+pub some_placed : (k : ℕ) (o : List ℕ) (v : Maybe ℕ) → is_some (if_placed k o v) ≡ is_there v
 unfolding is_some if_placed
-some_placed at n = go (eqb at 0)
-  where
-    go : (b : Bool) → is_some (cond b none (some n)) ≡ not b
-    go true = refl
-    go false = refl
+some_placed k o (Some at) = refl
+some_placed k o None = refl
 
 -- ---- an option's value
 
@@ -71,39 +62,32 @@ pub value_refused : (first : ℕ) (s : Said) (k : Known) (n : ℕ) (o : List ℕ
 unfolding option_value refuse ◌>>◌ continue
 value_refused first s k n o at e = rw e
 
--- whatever number w the code's reader made of the octets
-value_taken : (first : ℕ) (s : Said) (k : Known) (n : ℕ) (o : List ℕ) (at : ℕ) (w : List ℕ → ℕ) (s' : Said) → against s k n ≡ false
-    → s' ≡ hear s k (take n (drop at o)) → taken s' (continue (octets n o at) (λ x next. got (w x) next)) ≡ option_value first s k n o at
-unfolding taken option_value refuse octets give ◌>>◌ ◌>>=◌ continue
-value_taken first s k n o at w s' e f = rw e (go (leb (at + n) (length o)))
+-- the code skipped the value, and s' is said with it
+value_taken : (first : ℕ) (s : Said) (k : Known) (n : ℕ) (o : List ℕ) (at : ℕ) (s' : Said) → against s k n ≡ false
+    → s' ≡ hear s k (take n (drop at o)) → taken s' (ignored n o at) ≡ option_value first s k n o at
+unfolding taken ignored option_value refuse octets give ◌>>◌ ◌>>=◌ continue
+value_taken first s k n o at s' e f = rw e (go (leb (at + n) (length o)))
   where
     go : (l : Bool)
-        → continue (continue (cond l (got (take n (drop at o)) (at + n)) (bad 6 at)) (λ x next. got (w x) next)) (λ x next. got s' next)
+        → continue (continue {B = ℕ} (cond l (got (take n (drop at o)) (at + n)) (bad 6 at)) (λ x next. got 0 next)) (λ x next. got s' next)
         ≡ continue (cond l (got (take n (drop at o)) (at + n)) (bad 6 at)) (λ v next. got (hear s k v) next)
     go true = ap (λ (x : Said). got x (at + n)) f
     go false = refl
 
 -- ---- an option's type and length
 
-no_type : (s : Said) (o : List ℕ) (at : ℕ) {i p : ℕ} → number 2 o at ≡ bad i p → option s o at ≡ bad i p
+pub type_cut : (s : Said) (o : List ℕ) (at : ℕ) {i p : ℕ} → number 2 o at ≡ bad i p → option s o at ≡ bad i p
 unfolding option here ◌>>=◌ continue
-no_type s o at e = rw e
+type_cut s o at e = rw e
 
 no_length : (s : Said) (o : List ℕ) (at : ℕ) {t b i p : ℕ} → number 2 o at ≡ got t b → number 2 o b ≡ bad i p → option s o at ≡ bad i p
 unfolding option here ◌>>=◌ continue
 no_length s o at e f = rw (e, f)
 
--- where the four octets are not there, the place that the type's reader found is that of the field which is cut
-pub head_cut : (s : Said) (o : List ℕ) (at : ℕ) → length o < at + 4 → option s o at ≡ bad 6 (place_of (number 2 o at))
-head_cut s o at h = go (leb (at + 2) (length o)) refl
-  where
-    go : (b : Bool) → leb (at + 2) (length o) ≡ b → option s o at ≡ bad 6 (place_of (number 2 o at))
-    go true t =
-        let e = number_there 2 o at (leb-true _ _ t) in
-        no_length s o at e (sym (field_short 2 o (at + 2) (omega arith))) ∙ ap (λ (x : Read ℕ). bad 6 (place_of x)) (sym e)
-    go false t =
-        let e = sym (field_short 2 o at (leb-false _ _ t)) in
-        no_type s o at e ∙ ap (λ (x : Read ℕ). bad 6 (place_of x)) (sym e)
+pub length_cut : (s : Said) (o : List ℕ) (at : ℕ) {t b : ℕ} → length o < at + 4 → number 2 o at ≡ got t b → option s o at ≡ bad 6 b
+length_cut s o at {t} {b} h e =
+    let past = (number_back 2 o at e).1 in
+    no_length s o at e (sym (field_short 2 o b (omega arith)))
 
 -- the four octets at a place are the type and the length of an option, and its value is due at the next place
 pub record Head (o : List ℕ) (at h next : ℕ) : Type 0 where
@@ -217,20 +201,19 @@ module _ {o : List ℕ} {at h next : ℕ} (d : Head o at h next) (s : Said) wher
   pub option_refused : (k : Known) {r : Bool} → k ≡ beginning h → r ≡ refused_as s k (h / 65536) → r ≡ true → option s o at ≡ bad 13 at
   option_refused k e r t = d.reads s ∙ value_refused at s _ _ o next (refused_is s h k e ∙ sym r ∙ t)
 
-  -- the code read the value of the option k as a number w of its octets, and s' is said with it
-  pub known_taken : (k : Known) (w : List ℕ → ℕ) (s' : Said) {r : Bool} → is_known k ≡ true → k ≡ beginning h → h ≡ head_of k
+  pub known_taken : (k : Known) (s' : Said) {r : Bool} → is_known k ≡ true → k ≡ beginning h → h ≡ head_of k
       → r ≡ refused_as s k (h / 65536) → r ≡ false → s' ≡ hear s k (take (length_of k 0) (drop next o))
-      → taken s' (continue (octets (length_of k 0) o next) (λ x next. got (w x) next)) ≡ option s o at
-  known_taken k w s' i e f r t g =
+      → taken s' (ignored (length_of k 0) o next) ≡ option s o at
+  known_taken k s' i e f r t g =
       let n = known_named k i f in
-      value_taken at s k (length_of k 0) o next w s' (rw (n.0, n.1) at (refused_is s h k e ∙ sym r ∙ t)) g ∙ sym (rw (n.0, n.1) at (d.reads s))
+      value_taken at s k (length_of k 0) o next s' (rw (n.0, n.1) at (refused_is s h k e ∙ sym r ∙ t)) g ∙ sym (rw (n.0, n.1) at (d.reads s))
 
-  pub other_taken : (w : List ℕ → ℕ) (s' : Said) {r : Bool} → Other ≡ beginning h
+  pub other_taken : (s' : Said) {r : Bool} → Other ≡ beginning h
       → r ≡ refused_as s Other (h / 65536) → r ≡ false → s' ≡ s
-      → taken s' (continue (octets (h % 65536) o next) (λ x next. got (w x) next)) ≡ option s o at
+      → taken s' (ignored (h % 65536) o next) ≡ option s o at
   unfolding refused_as is_known
-  other_taken w s' e r t g =
+  other_taken s' e r t g =
       let v : List ℕ = take (h % 65536) (drop next o) in
-      value_taken at s (named (h / 65536)) (h % 65536) o next w s' (refused_is s h Other e ∙ sym r ∙ t)
+      value_taken at s (named (h / 65536)) (h % 65536) o next s' (refused_is s h Other e ∙ sym r ∙ t)
       (g ∙ sym (ap (λ (x : Known). hear s x v) (not_known (named (h / 65536)) (sym r ∙ t)) ∙ hear_other s v))
       ∙ sym (d.reads s)

@@ -34,12 +34,12 @@ use Rattle.hello.specs.Hello.{Hello, hello, holdtime_of, hello_of, hello_options
 use Rattle.hello.specs.Answers.{if_given, hello_by, told, ZeroPriority, Unannounced}
 use Rattle.hello.specs.RoundTrip.{WriteCall, Writes, announced, Trip, RoundTrip}
 use Rattle.hello.specs.declared.Hello.{Hello as Fields}
-use Rattle.hello.specs.declared.HelloRead.{HelloRead}
-use Rattle.hello.specs.declared.HelloRead.TheVariants.{Is, Refused}
 use Rattle.hello.proofs.Laws.{some_given}
 use Rattle.hello.proofs.SoFar.{SoFar, so_far_start, so_far_next, so_far_end}
 use Rattle.hello.proofs.Hellos.{given_zero, none_zero, hello_all, read_body}
 use Rattle.hello.proofs.Written.{option_given, option_absent, option_long, value_long, options_are, options_long, hello_long, hello_small, hello_refused, hello_written}
+use Rattle.std.specs.Prelude.{Result, Ok, Err}
+use Rattle.format.specs.declared.Refusal.{Refusal}
 
 -- ---- one option
 
@@ -266,10 +266,10 @@ module _ (f : Family) (lawful : Lawful f) (c : WriteCall) (n : ℕ) (w : Writes 
   unfolding hello_by
   says = rw form (options_back f c.path c.said.holdtime (if_given c.said.has_priority c.said.priority) c.said.packing fits)
 
-  back : (r : HelloRead) → told r ≡ read_hello f c.path (take n c.returned) → Unannounced r → r ≡ Is (announced c.said)
+  back : (r : Result Fields Refusal) → told r ≡ read_hello f c.path (take n c.returned) → Unannounced r → r ≡ Ok (announced c.said)
   unfolding told
-  back (Is g) q z = ap Is (same_hello g c.said (gives_same (q ∙ reads)) z)
-  back (Refused r) q z = absurd (let x = q ∙ reads in let y : ◌≡◌ {A = ℕ} 0 1 = cc in omega arith)
+  back (Ok g) q z = ap Ok (same_hello g c.said (gives_same (q ∙ reads)) z)
+  back (Err r) q z = absurd (let x = q ∙ reads in let y : ◌≡◌ {A = ℕ} 0 1 = cc in omega arith)
 
   pub trip : Trip f c n
   trip = record { size = left.0 ∙ hello_size f c.path c.said; form = form; past = past; back = back }

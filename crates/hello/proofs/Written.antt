@@ -39,7 +39,8 @@ use Rattle.hello.specs.declared.table.Known.{Known}
 use Rattle.hello.specs.declared.table.Known.TheVariants.{Holdtime, Priority, Packing, Other}
 use Rattle.hello.specs.Options.{Said, said, type_of, length_of, is_some, given, number_octets, value_of, option_octets, options_octets}
 use Rattle.hello.specs.Hello.{Hello, said_in, hello_message, write_hello}
-use Rattle.hello.specs.Answers.{if_given}
+use Rattle.hello.specs.Answers.{value_in}
+use Rattle.std.specs.Prelude.{Option as Maybe, Some}
 
 -- ---- one option
 
@@ -83,10 +84,9 @@ option_small s k = go (given s k) refl
     go true e = omega (arith, option_long s k e, length_small k)
     go false e = rw (option_absent s k e) (omega arith)
 
-pub number_given : (k n : ℕ) (b : Bool) → is_some (if_given b n) ≡ true → number_octets k (if_given b n) ≡ be k n
-unfolding is_some if_given number_octets
-number_given k n true e = refl
-number_given k n false e = absurd (let z : ◌≡◌ {A = ℕ} 0 1 = cc in omega arith)
+pub number_given : (k : ℕ) {v : Maybe ℕ} {n : ℕ} → v ≡ Some n → number_octets k (value_in v) ≡ be k n
+unfolding value_in number_octets
+number_given k e = rw e
 
 -- four octets, copied into a part that was lent
 pub put_string : (a b c e : ℕ) (d : List ℕ) (at : ℕ) {x : List ℕ} → x ≡ copied 4 (a ∷ b ∷ c ∷ e ∷ []) (take (at + 4 - at) (drop at d)) → at + 4 ≤ length d

@@ -1,6 +1,8 @@
 -- What the answers of this crate's calls mean: 01's number and values for each case.
---     if_given, said_by               an option that is there or not; what is said, by numbers
---     if_placed, said_at              the same by the places of the values, 0 for none
+--     if_given                       a number with a flag for whether it is there
+--     value_in, said_by              an option that is there or not; what is said, by numbers
+--     if_placed, said_at             the same by the places of the values
+--     priority_at                    the priority by the place of its value, 0 where none is announced
 --     beginning, is_known            the option that begins with four octets; whether it is a known one
 --     refused_as, taken              whether it is refused; an option by what reading its value came to
 --     stepped, heard                what reading one option finds, and what reading options finds
@@ -8,7 +10,7 @@
 --     checked                       what checking options finds
 --     ZeroPriority, Unannounced     a priority that is not announced is answered as 0
 -- Assumes nothing: these are definitions.
-use Rattle.std.specs.Prelude.{ℕ, ◌+◌, ◌*◌, ◌≡◌, Bool, true, false, not, cond, List, [], ◌∷◌, eqb}
+use Rattle.std.specs.Prelude.{ℕ, ◌+◌, ◌*◌, ◌≡◌, Bool, true, false, cond, List, [], ◌∷◌, eqb}
 use Rattle.std.proofs.Math.Option.{Option, none, some}
 use Rattle.octets.specs.Octets.{number_at}
 use Rattle.format.specs.Outcome.{Outcome, gives, refuses}
@@ -20,26 +22,31 @@ use Rattle.hello.specs.declared.table.ValuePlaces.{ValuePlaces}
 use Rattle.hello.specs.declared.table.Known.{Known}
 use Rattle.hello.specs.declared.table.Known.TheVariants.{Holdtime, Priority, Packing, Other}
 use Rattle.hello.specs.declared.Hello.{Hello}
-use Rattle.hello.specs.declared.HelloRead.{HelloRead}
-use Rattle.hello.specs.declared.HelloRead.TheVariants.{Is, Refused as NoHello}
-use Rattle.hello.specs.declared.OptionsChecked.{OptionsChecked}
-use Rattle.hello.specs.declared.OptionsChecked.TheVariants.{Fine, Refused}
-use Rattle.hello.specs.declared.OptionsRead.{OptionsRead}
-use Rattle.hello.specs.declared.OptionsRead.TheVariants.{All, Bad as NotAll}
-use Rattle.hello.specs.declared.table.Step.{Step}
-use Rattle.hello.specs.declared.table.Step.TheVariants.{Next, Bad}
+use Rattle.std.specs.Prelude.{Result, Ok, Err, Option as Maybe, Some, None, is_some as is_there}
+use Rattle.format.specs.declared.Refusal.{Refusal}
+use Rattle.format.specs.Outcome.{reason_number}
 
 unfoldable pub if_given : Bool → ℕ → Option ℕ
 if_given b n = cond b (some n) none
 
-unfoldable pub said_by : Heard → Said
-said_by h = said (if_given h.has_holdtime h.holdtime) (if_given h.has_priority h.priority) h.packing
+unfoldable pub value_in : Maybe ℕ → Option ℕ
+value_in (Some n) = some n
+value_in None = none
 
-unfoldable pub if_placed : ℕ → ℕ → Option ℕ
-if_placed at n = cond (eqb at 0) none (some n)
+unfoldable pub said_by : Heard → Said
+said_by h = said (value_in h.holdtime) (value_in h.priority) h.packing
+
+-- the number of k octets at a place
+unfoldable pub if_placed : ℕ → List ℕ → Maybe ℕ → Option ℕ
+if_placed k o (Some at) = some (number_at k o at)
+if_placed k o None = none
 
 unfoldable pub said_at : List ℕ → ValuePlaces → Said
-said_at o p = said (if_placed p.holdtime (number_at 2 o p.holdtime)) (if_placed p.priority (number_at 4 o p.priority)) (not (eqb p.packing 0))
+said_at o p = said (if_placed 2 o p.holdtime) (if_placed 4 o p.priority) (is_there p.packing)
+
+unfoldable pub priority_at : List ℕ → Maybe ℕ → ℕ
+priority_at o (Some at) = number_at 4 o at
+priority_at o None = 0
 
 -- "type 16, length 16" as one number: "packed assert capability is the four octets 00 28 00 00"
 unfoldable pub head_of : Known → ℕ
@@ -66,29 +73,29 @@ refused_as s k t = cond (is_known k) (given s k) (is_known (named t))
 unfoldable pub taken : Said → Read ℕ → Read Said
 taken s f = continue f (λ x next. got s next)
 
-unfoldable pub stepped : List ℕ → Step → Read Said
-stepped o (Next p next) = got (said_at o p) next
-stepped o (Bad n place) = bad n place
+unfoldable pub stepped : List ℕ → Result (ValuePlaces × ℕ) Refusal → Read Said
+stepped o (Ok (p, next)) = got (said_at o p) next
+stepped o (Err r) = bad (reason_number r.reason) r.place
 
-unfoldable pub heard : List ℕ → OptionsRead → Outcome Said
-heard o (All p) = gives (said_at o p)
-heard o (NotAll n place) = refuses n place
+unfoldable pub heard : List ℕ → Result ValuePlaces Refusal → Outcome Said
+heard o (Ok p) = gives (said_at o p)
+heard o (Err r) = refuses (reason_number r.reason) r.place
 
 unfoldable pub hello_by : Hello → HelloSaid
 hello_by h = hello h.holdtime (if_given h.has_priority h.priority) h.packing
 
-unfoldable pub told : HelloRead → Outcome HelloSaid
-told (Is h) = gives (hello_by h)
-told (NoHello r) = refuses r.number r.place
+unfoldable pub told : Result Hello Refusal → Outcome HelloSaid
+told (Ok h) = gives (hello_by h)
+told (Err r) = refuses (reason_number r.reason) r.place
 
-unfoldable pub checked : OptionsChecked → Outcome (Unit {0})
-checked Fine = gives tt
-checked (Refused r) = refuses r.number r.place
+unfoldable pub checked : Result (Unit {0}) Refusal → Outcome (Unit {0})
+checked (Ok tt) = gives tt
+checked (Err r) = refuses (reason_number r.reason) r.place
 
 -- "a priority not announced is stored as 0" (01, "Neighbours and election"): so it is answered as 0 already
 abbrev pub ZeroPriority : Hello → Type 0
 ZeroPriority h = h.has_priority ≡ false → h.priority ≡ 0
 
-abbrev pub Unannounced : HelloRead → Type 0
-Unannounced (Is h) = ZeroPriority h
-Unannounced (NoHello r) = Unit {0}
+abbrev pub Unannounced : Result Hello Refusal → Type 0
+Unannounced (Ok h) = ZeroPriority h
+Unannounced (Err r) = Unit {0}

@@ -9,17 +9,16 @@ use Rattle.format.specs.Outcome.{gives}
 use Rattle.format.specs.Family.{Family}
 use Rattle.format.specs.Writing.{length_by}
 use Rattle.format.specs.declared.Path.{Path}
-use Rattle.format.specs.declared.Writing.{Writing}
 use Rattle.hello.specs.Hello.{hello_message, read_hello, write_hello}
 use Rattle.hello.specs.Answers.{hello_by, told, Unannounced}
 use Rattle.hello.specs.declared.Hello.{Hello}
-use Rattle.hello.specs.declared.HelloRead.{HelloRead}
-use Rattle.hello.specs.declared.HelloRead.TheVariants.{Is}
+use Rattle.std.specs.Prelude.{Result, Ok}
+use Rattle.format.specs.declared.Refusal.{Refusal}
 
 pub record WriteCall : Type 0 where
   pub path : Path
   pub said : Hello
-  pub answer : Writing
+  pub answer : Result ℕ Refusal
   -- the buffer as it was lent, and as the call returned it
   pub lent : List ℕ
   pub returned : List ℕ
@@ -42,7 +41,7 @@ pub record Trip (f : Family) (c : WriteCall) (n : ℕ) : Type 0 where
   pub form : take n c.returned ≡ hello_message f c.path (hello_by c.said)
   pub past : drop n c.returned ≡ drop n c.lent
   -- whatever `read_hello` answers of these n octets, with the same addresses, is what went in
-  pub back : (r : HelloRead) → told r ≡ read_hello f c.path (take n c.returned) → Unannounced r → r ≡ Is (announced c.said)
+  pub back : (r : Result Hello Refusal) → told r ≡ read_hello f c.path (take n c.returned) → Unannounced r → r ≡ Ok (announced c.said)
 
 pub record RoundTrip (f : Family) : Type 0 where
   pub trip : (c : WriteCall) (n : ℕ) → Writes f c → length_by c.answer ≡ gives n → Trip f c n

@@ -7,27 +7,18 @@
 mod table;
 mod write;
 
-ghost use Rattle.std.specs.Prelude.{◌≡◌, cond, eqb, length};
-ghost use Rattle.octets.specs.Octets.{number_at};
+ghost use Rattle.std.specs.Prelude.{◌≡◌, length};
 ghost use Rattle.format.specs.Family.{family_named};
 ghost use Rattle.format.specs.Reader.{from};
 ghost use Rattle.hello.specs.Options.{nothing, options};
 ghost use Rattle.hello.specs.Hello.{holdtime_of, hello_of, hello_options, options_fine, read_hello};
-ghost use Rattle.hello.specs.Answers.{if_placed, said_at, heard, hello_by, ZeroPriority, told, Unannounced, checked};
+ghost use Rattle.hello.specs.Answers.{if_placed, priority_at, said_at, heard, hello_by, ZeroPriority, told, Unannounced, checked};
 
-use format::{AddressFamily, Kind, Path, Refusal, is_ipv6};
-use headers::Headed;
-use table::{Step, ValuePlaces, option};
+use format::{AddressFamily, Kind, Path, Reason, Refusal, is_ipv6};
+use table::{ValuePlaces, option};
 pub use write::write_hello;
 
-// What reading options finds. A refusal stands as its two fields, as in Step.
-#[derive(Clone, Copy)]
-enum OptionsRead {
-    All(ValuePlaces),
-    Bad { number: u8, place: usize },
-}
-
-// What a Hello says: the priority is 0 where none is announced.
+// What a Hello says: the priority is 0 where none is announced. C has this struct too, so the priority is a flag and a number.
 #[repr(C)]
 #[derive(Clone, Copy)]
 pub struct Hello {
@@ -37,61 +28,43 @@ pub struct Hello {
     pub packing: bool,
 }
 
-// What reading a Hello finds.
-#[derive(Clone, Copy)]
-pub enum HelloRead {
-    Is(Hello),
-    Refused(Refusal),
-}
-
-// What checking a Hello's options finds.
-#[derive(Clone, Copy)]
-pub enum OptionsChecked {
-    Fine,
-    Refused(Refusal),
-}
-
 // The options from a place to the end of the octets.
-fn options(m: &[u8], start: usize) -> OptionsRead
+fn options(m: &[u8], start: usize) -> Result<ValuePlaces, Refusal>
     ensures { heard m.now result ≡ from start (options (length m.now) nothing) m.now }
 {
     let mut p = ValuePlaces {
-        holdtime: 0,
-        priority: 0,
-        packing: 0,
+        holdtime: None,
+        priority: None,
+        packing: None,
     };
     let mut at = start;
+    // The step is an option's own length, so this is no `for`.
     while at < m.len() {
-        let s = option(m, at, p);
-        match s {
-            Step::Next(places, next) => {
-                p = places;
-                at = next;
-            }
-            Step::Bad { number, place } => return OptionsRead::Bad { number, place },
-        }
+        let (places, next) = option(m, at, p)?;
+        p = places;
+        at = next;
     }
-    OptionsRead::All(p)
+    Ok(p)
 }
 
 // The holdtime with its value at a place, 105 s where it is absent.
-fn holdtime_of(m: &[u8], at: usize) -> u16
-    ensures { result ≡ holdtime_of (if_placed at (number_at 2 m.now at)) }
+fn holdtime_of(m: &[u8], at: Option<usize>) -> u16
+    ensures { result ≡ holdtime_of (if_placed 2 m.now at) }
 {
-    if at == 0 {
-        return 105;
+    match at {
+        Some(at) => octets::number::<u16>(m, at),
+        None => 105,
     }
-    octets::number16(m, at) as u16
 }
 
 // The priority with its value at a place, 0 where none is announced.
-fn priority_of(m: &[u8], at: usize) -> u32
-    ensures { result ≡ cond (eqb at 0) 0 (number_at 4 m.now at) }
+fn priority_of(m: &[u8], at: Option<usize>) -> u32
+    ensures { result ≡ priority_at m.now at }
 {
-    if at == 0 {
-        return 0;
+    match at {
+        Some(at) => octets::number::<u32>(m, at),
+        None => 0,
     }
-    octets::number32(m, at)
 }
 
 // What the options say, with what was not announced filled in.
@@ -101,49 +74,36 @@ fn hello_of(m: &[u8], p: ValuePlaces) -> Hello
 {
     Hello {
         holdtime: holdtime_of(m, p.holdtime),
-        has_priority: p.priority != 0,
+        has_priority: p.priority.is_some(),
         priority: priority_of(m, p.priority),
-        packing: p.packing != 0,
+        packing: p.packing.is_some(),
     }
 }
 
 // A Hello's options, from octet 4 on.
-fn hello_options(m: &[u8]) -> HelloRead
+fn hello_options(m: &[u8]) -> Result<Hello, Refusal>
     ensures says { told result ≡ hello_options m.now }
     ensures zero { Unannounced result }
 {
-    let all = options(m, 4);
-    match all {
-        OptionsRead::All(p) => HelloRead::Is(hello_of(m, p)),
-        OptionsRead::Bad { number, place } => HelloRead::Refused(Refusal { number, place }),
-    }
+    let places = options(m, 4)?;
+    Ok(hello_of(m, places))
 }
 
 // The same for a caller that has read the header and does not ask what they say.
-pub fn check_options(m: &[u8]) -> OptionsChecked
+pub fn check_options(m: &[u8]) -> Result<(), Refusal>
     ensures { checked result ≡ options_fine m.now }
 {
-    let all = options(m, 4);
-    match all {
-        OptionsRead::All(_) => OptionsChecked::Fine,
-        OptionsRead::Bad { number, place } => OptionsChecked::Refused(Refusal { number, place }),
-    }
+    options(m, 4)?;
+    Ok(())
 }
 
 // A Hello: the checks of every message, 4 for another kind, then its options.
-pub fn read_hello(family: AddressFamily, path: Path, m: &[u8]) -> HelloRead
+pub fn read_hello(family: AddressFamily, path: Path, m: &[u8]) -> Result<Hello, Refusal>
     ensures says { told result ≡ read_hello (family_named family) path m.now }
     ensures zero { Unannounced result }
 {
-    let k = headers::header(is_ipv6(family), path, m);
-    match k {
-        Headed::Refused(r) => HelloRead::Refused(r),
-        Headed::Is(kind) => match kind {
-            Kind::Hello => hello_options(m),
-            _ => HelloRead::Refused(Refusal {
-                number: 4,
-                place: 0,
-            }),
-        },
+    match headers::header(is_ipv6(family), path, m)? {
+        Kind::Hello => hello_options(m),
+        _ => Err(Reason::BadKind.at(0)),
     }
 }

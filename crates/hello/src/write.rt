@@ -13,8 +13,8 @@ ghost use Rattle.hello.specs.Answers.{said_by, hello_by};
 use crate::Hello;
 use crate::table::{CAPABILITY, HOLDTIME, Heard, Known, PRIORITY, was_given};
 use checksum::{add, sum_after};
-use format::{AddressFamily, Kind, Path, Refusal, Writing, is_ipv6};
-use octets::{copy4, write16, write32};
+use format::{AddressFamily, Kind, Path, Reason, Refusal, is_ipv6};
+use octets::{copy, write};
 
 // How far a message goes, and the sum of its words but for the checksum.
 #[derive(Clone, Copy)]
@@ -28,10 +28,8 @@ fn to_say(said: Hello) -> Heard
     ensures { said_by result ≡ said_in (hello_by said) }
 {
     Heard {
-        has_holdtime: true,
-        holdtime: said.holdtime,
-        has_priority: said.has_priority,
-        priority: said.priority,
+        holdtime: Some(said.holdtime),
+        priority: said.has_priority.then_some(said.priority),
         packing: said.packing,
     }
 }
@@ -54,10 +52,11 @@ fn sum_given(h: Heard, k: Known, start: u16) -> u16
     ensures { result ≡ sum_from start (words (option_octets (said_by h) k)) }
 {
     match k {
-        Known::Holdtime => add(sum_after(start, &HOLDTIME), h.holdtime),
+        Known::Holdtime => add(sum_after(start, &HOLDTIME), h.holdtime.unwrap()),
         Known::Priority => {
-            let high = add(sum_after(start, &PRIORITY), (h.priority / 65536) as u16);
-            add(high, (h.priority % 65536) as u16)
+            let priority = h.priority.unwrap();
+            let high = add(sum_after(start, &PRIORITY), (priority / 65536) as u16);
+            add(high, (priority % 65536) as u16)
         }
         Known::Packing => sum_after(start, &CAPABILITY),
         Known::Other => start,
@@ -71,14 +70,14 @@ fn put_given(h: Heard, k: Known, d: &mut [u8], at: usize)
 {
     match k {
         Known::Holdtime => {
-            copy4(&HOLDTIME, &mut d[at..at + 4]);
-            write16(d, at + 4, h.holdtime);
+            copy::<4>(&HOLDTIME, &mut d[at..at + 4]);
+            write::<u16>(d, at + 4, h.holdtime.unwrap());
         }
         Known::Priority => {
-            copy4(&PRIORITY, &mut d[at..at + 4]);
-            write32(d, at + 4, h.priority);
+            copy::<4>(&PRIORITY, &mut d[at..at + 4]);
+            write::<u32>(d, at + 4, h.priority.unwrap());
         }
-        Known::Packing => copy4(&CAPABILITY, &mut d[at..at + 4]),
+        Known::Packing => copy::<4>(&CAPABILITY, &mut d[at..at + 4]),
         Known::Other => {}
     }
 }
@@ -122,7 +121,12 @@ fn pass(h: Heard, write: bool, start: u16, d: &mut [u8]) -> Extent
 }
 
 // Writes the one Hello that says this. A priority that it has not is not looked at.
-pub fn write_hello(family: AddressFamily, path: Path, said: Hello, d: &mut [u8]) -> Writing
+pub fn write_hello(
+    family: AddressFamily,
+    path: Path,
+    said: Hello,
+    d: &mut [u8],
+) -> Result<usize, Refusal>
     ensures answer { length_by result ≡ (write_hello (family_named family) path (hello_by said) d.old).answer }
     ensures buffer { d.new ≡ (write_hello (family_named family) path (hello_by said) d.old).buffer }
 {
@@ -130,13 +134,10 @@ pub fn write_hello(family: AddressFamily, path: Path, said: Hello, d: &mut [u8])
     let measured = pass(h, false, 0, d);
     let n = measured.end;
     if d.len() < n {
-        return Writing::Refused(Refusal {
-            number: 8,
-            place: 0,
-        });
+        return Err(Reason::NoRoom.at(0));
     }
     let start = headers::start_sum(is_ipv6(family), path, Kind::Hello, n);
     let x = pass(h, true, start, d);
     headers::put_header(Kind::Hello, x.sum, d);
-    Writing::Wrote(n)
+    Ok(n)
 }

@@ -6,7 +6,7 @@
 
 mod input;
 
-use input::{Input, read_input};
+use input::read_input;
 use printing::text;
 
 // The buffer is longer than the longest message, 65,515 octets, so that a longer input is refused and not cut.
@@ -14,10 +14,9 @@ fn main(rt: HostRuntime) {
     let out = rt.stdout();
     let err = rt.stderr();
     let mut buf = [0; 65536];
-    let found = read_input(&mut rt.stdin(), &mut buf);
-    match found {
-        Input::Octets(n) => listing::list(&out, &err, &buf[..n]),
-        Input::Failed => {
+    match read_input(&mut rt.stdin(), &mut buf) {
+        Ok(n) => listing::list(&out, &err, &buf[..n]),
+        Err(_) => {
             text(&err, b"list: standard input cannot be read\n");
         }
     }

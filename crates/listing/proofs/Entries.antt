@@ -1,10 +1,8 @@
--- Entries one after another, and the numbers of one, over the family.
---     one_more                    where n fit, the next one is there
+-- The numbers of an entry, over the family.
 --     pair_read, assert_read      what code reads of one that is there
 -- Assumes nothing.
-use Prim.Native.Nat.{ℕ, suc, ◌+◌, ◌*◌, ◌≤◌, ◌<◌}
+use Prim.Native.Nat.{ℕ, ◌+◌, ◌*◌, ◌≤◌}
 use native.Mathlib.Omega.{arith}
-use native.Mathlib.Nat.{mul-suc, mul-le-mul_left}
 use mathlib.Core.Path.{◌≡◌, ap, ◌∙◌}
 use mathlib.Core.Bool.{false}
 use mathlib.Core.List.{List}
@@ -15,11 +13,6 @@ use Rattle.format.specs.Family.{Family}
 use Rattle.format.specs.Entry.{front_size, assert_at, assert_entries, pair_at, pair_entries}
 use Rattle.addresses.specs.Addresses.{address_at}
 use Rattle.addresses.proofs.Laws.{address_there}
-
-pub one_more : (s n i l : ℕ) → s * n ≤ l → i < n → s * i + s ≤ l
-one_more s n i l h t =
-    let more : s * suc i ≤ s * n = mul-le-mul_left s t in
-    omega (arith, mul-suc s i)
 
 -- w is the width, and p the place of the group, as code has them
 module _ (f : Family) (o : List ℕ) (at : ℕ) {w p g s : ℕ} (wide : w ≡ f.width) (place : p ≡ at + front_size f) (group : g ≡ address_at f o p) (source : s ≡ address_at f o (p + w)) where

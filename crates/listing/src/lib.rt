@@ -3,7 +3,6 @@
 // is proved safe and ending, and what is computed for a line comes from functions with contracts.
 //
 // value.rt     the numbers of an entry
-// words.rt     what the number of a refusal means
 // line.rt      the lines
 //
 // Programs that name what they list, or list what no message holds, call `show`, `show_all`, `list_of`, `record` and `refused`.
@@ -11,15 +10,12 @@
 
 mod line;
 mod value;
-mod words;
 
 ghost use Rattle.std.specs.Prelude.{◌≡◌, length};
 
 use format::{AddressFamily, Kind, Path, Record, Refusal, is_ipv6, nowhere};
-use hello::HelloRead;
 use line::{assert_lines, heading, hello_lines, pair_lines, record_line, refused_line};
-use printing::{case_at, front, title};
-use reading::{Headed, Reading};
+use printing::{each_case, title};
 
 // Room for the entries of every message, in either family. None gives more than an aggregated one: a message of 65,515 octets has
 // at most 10,913 of them in IPv4, of 20 octets, which are 218,260, and 3,637 in IPv6, of 44 octets, which are 160,028.
@@ -38,48 +34,37 @@ fn pair_room() -> [u8; 62028]
 }
 
 fn list_hello(out: &impl Print, family: AddressFamily, path: Path, m: &[u8]) -> bool {
-    let h = hello::read_hello(family, path, m);
-    match h {
-        HelloRead::Is(says) => hello_lines(out, says),
-        HelloRead::Refused(r) => refused_line(out, r),
+    match hello::read_hello(family, path, m) {
+        Ok(says) => hello_lines(out, says),
+        Err(r) => refused_line(out, r),
     }
 }
 
 fn list_asserts(out: &impl Print, family: AddressFamily, path: Path, m: &[u8]) -> bool {
     let mut entries = assert_room();
     let ipv6 = is_ipv6(family);
-    let found = reading::read_asserts(family, path, m, &mut entries);
-    match found {
-        Reading::Entries { kind, count } => heading(out, kind, count)
-            && assert_lines(out, ipv6, &entries, count),
-        Reading::Refused(r) => refused_line(out, r),
+    match reading::read_asserts(family, path, m, &mut entries) {
+        Ok(r) => heading(out, r.kind, r.count) && assert_lines(out, ipv6, &entries, r.count),
+        Err(r) => refused_line(out, r),
     }
 }
 
 fn list_pairs(out: &impl Print, family: AddressFamily, path: Path, m: &[u8]) -> bool {
     let mut entries = pair_room();
     let ipv6 = is_ipv6(family);
-    let found = reading::read_pairs(family, path, m, &mut entries);
-    match found {
-        Reading::Entries { kind, count } => heading(out, kind, count)
-            && pair_lines(out, ipv6, &entries, count),
-        Reading::Refused(r) => refused_line(out, r),
+    match reading::read_pairs(family, path, m, &mut entries) {
+        Ok(r) => heading(out, r.kind, r.count) && pair_lines(out, ipv6, &entries, r.count),
+        Err(r) => refused_line(out, r),
     }
 }
 
 // The kind says which call reads the rest. Whether all was written.
 fn list_message(out: &impl Print, family: AddressFamily, path: Path, m: &[u8]) -> bool {
-    let h = reading::header(family, path, m);
-    match h {
-        Headed::Refused(r) => refused_line(out, r),
-        Headed::Is(kind) => match kind {
-            Kind::Hello => list_hello(out, family, path, m),
-            Kind::Assert => list_asserts(out, family, path, m),
-            Kind::Simple => list_asserts(out, family, path, m),
-            Kind::Aggregated => list_asserts(out, family, path, m),
-            Kind::NullRegister => list_pairs(out, family, path, m),
-            Kind::RegisterStop => list_pairs(out, family, path, m),
-        },
+    match reading::header(family, path, m) {
+        Ok(Kind::Hello) => list_hello(out, family, path, m),
+        Ok(Kind::Assert | Kind::Simple | Kind::Aggregated) => list_asserts(out, family, path, m),
+        Ok(Kind::NullRegister | Kind::RegisterStop) => list_pairs(out, family, path, m),
+        Err(r) => refused_line(out, r),
     }
 }
 
@@ -118,20 +103,9 @@ pub fn show_all(
     path: Path,
     table: &[u8],
 ) {
-    let mut m = [0; 1480];
-    let mut at = 0;
-    while at < table.len() {
-        let c = case_at(table, at, &mut m);
-        show(
-            out,
-            err,
-            family,
-            path,
-            front(&table[at..], c.name),
-            front(&m, c.length),
-        );
-        at = c.next;
-    }
+    each_case(table, &mut [0; 1480], |name, m| {
+        show(out, err, family, path, name, m);
+    });
 }
 
 // A record that was read singly, with its number.

@@ -5,27 +5,18 @@ ghost use Rattle.format.specs.Family.{family_of};
 ghost use Rattle.format.specs.Entry.{assert_entries, pair_entries};
 
 use crate::value::{assert_at, assert_size, pair_at, pair_size, preference, r_number};
-use crate::words::words;
 use format::{Address, AssertFields, Kind, PairFields, Record, Refusal};
 use hello::Hello;
-use printing::{address, decimal, named, number, refused, text};
+use printing::{address, decimal, named, number, text};
 
 // The kind and the number of records.
 pub(crate) fn heading(out: &impl Print, kind: Kind, n: usize) -> bool {
-    let count = n as u64;
-    match kind {
-        Kind::Hello => named(out, b"hello ", count),
-        Kind::Assert => named(out, b"assert ", count),
-        Kind::Simple => named(out, b"simple ", count),
-        Kind::Aggregated => named(out, b"aggregated ", count),
-        Kind::NullRegister => named(out, b"null-register ", count),
-        Kind::RegisterStop => named(out, b"register-stop ", count),
-    }
+    println!(out; "{kind} {n}").is_ok()
 }
 
-// The number, the place, and what the number means.
+// The number, the place, and what is meant.
 pub(crate) fn refused_line(out: &impl Print, r: Refusal) -> bool {
-    refused(out, r, b": ") && words(out, r.number) && text(out, b"\n")
+    println!(out; "{r}: {}", r.reason).is_ok()
 }
 
 fn priority_line(out: &impl Print, h: Hello) -> bool {
@@ -84,14 +75,7 @@ pub(crate) fn assert_lines(out: &impl Print, ipv6: bool, e: &[u8], n: usize) -> 
     requires { (assert_entries (family_of ipv6)).size * n ≤ length e.now }
 {
     let size = assert_size(ipv6);
-    let mut i = 0;
-    while i < n {
-        if !assert_line(out, ipv6, i + 1, assert_at(ipv6, e, size * i)) {
-            return false;
-        }
-        i += 1;
-    }
-    true
+    (0..n).all(|i| assert_line(out, ipv6, i + 1, assert_at(ipv6, e, size * i)))
 }
 
 // The first n of the entries of pairs, counted from 1.
@@ -99,12 +83,5 @@ pub(crate) fn pair_lines(out: &impl Print, ipv6: bool, e: &[u8], n: usize) -> bo
     requires { (pair_entries (family_of ipv6) false).size * n ≤ length e.now }
 {
     let size = pair_size(ipv6);
-    let mut i = 0;
-    while i < n {
-        if !pair_line(out, ipv6, i + 1, pair_at(ipv6, e, size * i)) {
-            return false;
-        }
-        i += 1;
-    }
-    true
+    (0..n).all(|i| pair_line(out, ipv6, i + 1, pair_at(ipv6, e, size * i)))
 }

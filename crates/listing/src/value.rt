@@ -7,7 +7,7 @@ ghost use Rattle.format.specs.Values.{assert_of, pair_of};
 
 use addresses::{address_at, front_size, width};
 use format::{AssertFields, PairFields, r_bit};
-use octets::number32;
+use octets::number;
 
 // The octets of an assert's entry: 20 in IPv4, 44 in IPv6.
 pub(crate) fn assert_size(ipv6: bool) -> usize
@@ -33,8 +33,8 @@ pub(crate) fn assert_at(ipv6: bool, e: &[u8], at: usize) -> AssertFields
     AssertFields {
         group: address_at(ipv6, e, group_at),
         source: address_at(ipv6, e, group_at + w),
-        r_preference: number32(e, group_at + 2 * w),
-        metric: number32(e, group_at + 2 * w + 4),
+        r_preference: number::<u32>(e, group_at + 2 * w),
+        metric: number::<u32>(e, group_at + 2 * w + 4),
     }
 }
 

@@ -1,6 +1,6 @@
 // The layouts of RFC 6807, section 3.2, with 01's lengths, and damaged attributes.
 use crate::output::read;
-use printing::{case_at, front, text};
+use printing::{each_case, text};
 
 fn case(out: &impl Print, name: &[u8], o: &[u8]) {
     text(out, name);
@@ -9,13 +9,7 @@ fn case(out: &impl Print, name: &[u8], o: &[u8]) {
 }
 
 fn cases(out: &impl Print, table: &[u8]) {
-    let mut o = [0; 64];
-    let mut at = 0;
-    while at < table.len() {
-        let c = case_at(table, at, &mut o);
-        case(out, front(&table[at..], c.name), front(&o, c.length));
-        at = c.next;
-    }
+    each_case(table, &mut [0; 64], |name, o| case(out, name, o));
 }
 
 // A minimum-size attribute, one with all options, one with stub and node.

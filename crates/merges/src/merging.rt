@@ -3,9 +3,8 @@
 ghost use Rattle.std.specs.Prelude.{◌≡◌, length};
 
 use crate::output::read;
-use format::Writing;
 use popcount::Own;
-use printing::{case_at, front, number, refused, text};
+use printing::{each_case, front, number, refused, text};
 
 fn own() -> Own {
     Own {
@@ -20,14 +19,13 @@ fn own() -> Own {
 
 // What merging writes into a buffer, read back.
 fn line(out: &impl Print, e: bool, contributors: &[u8], d: &mut [u8]) {
-    let m = popcount::merge(own(), e, contributors, d);
-    match m {
-        Writing::Wrote(n) => {
+    match popcount::merge(own(), e, contributors, d) {
+        Ok(n) => {
             number(out, b"length ", n as u64);
             text(out, b": ");
             read(out, d, 0);
         }
-        Writing::Refused(r) => {
+        Err(r) => {
             refused(out, r, b"\n");
         }
     }
@@ -43,11 +41,7 @@ fn paste(d: &mut [u8], at: usize, s: &[u8]) -> usize
     if d.len() - at < s.len() {
         return at;
     }
-    let mut i = 0;
-    while i < s.len() {
-        d[at + i] = s[i];
-        i += 1;
-    }
+    d[at..at + s.len()].copy_from_slice(s);
     at + s.len()
 }
 
@@ -55,7 +49,7 @@ fn paste(d: &mut [u8], at: usize, s: &[u8]) -> usize
 fn contributors(out: &impl Print, name: &[u8], n: usize, last: &[u8]) {
     let mut o = [0; 480];
     let mut at = 0;
-    for i in 0..n {
+    for _ in 0..n {
         at = paste(
             &mut o,
             at,
@@ -78,13 +72,7 @@ fn each(out: &impl Print, name: &[u8], last: &[u8]) {
 
 // Every contributor of a table, alone and after others.
 fn each_of(out: &impl Print, table: &[u8]) {
-    let mut o = [0; 64];
-    let mut at = 0;
-    while at < table.len() {
-        let c = case_at(table, at, &mut o);
-        each(out, front(&table[at..], c.name), front(&o, c.length));
-        at = c.next;
-    }
+    each_case(table, &mut [0; 64], |name, o| each(out, name, o));
 }
 
 fn none(out: &impl Print) {

@@ -1,5 +1,5 @@
 // The line of an attribute.
-use popcount::{Attribute, AttributeRead};
+use popcount::Attribute;
 use printing::{flag, named, number, refused, text};
 
 fn attribute(out: &impl Print, a: Attribute) {
@@ -21,13 +21,12 @@ fn attribute(out: &impl Print, a: Attribute) {
 
 // The attribute at a place, and the place past it.
 pub(crate) fn read(out: &impl Print, o: &[u8], at: usize) {
-    let r = popcount::read_attribute(o, at);
-    match r {
-        AttributeRead::Is(a, next) => {
-            attribute(out, a);
-            named(out, b" next ", next as u64);
+    match popcount::read_attribute(o, at) {
+        Ok(read) => {
+            attribute(out, read.attribute);
+            named(out, b" next ", read.next as u64);
         }
-        AttributeRead::Refused(r) => {
+        Err(r) => {
             refused(out, r, b"\n");
         }
     }

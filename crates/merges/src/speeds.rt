@@ -1,6 +1,6 @@
 // Link speeds compared: a line for each, with how it stands to every one of them, < = or >.
-use popcount::Order;
 use printing::{number, text};
+use std::cmp::Ordering;
 
 // The six rows of RFC 6807, 3.1.1 (500 kbit/s twice, 155 Mbit/s, 40 Gbit/s, 100 Gbit/s twice), then 0 as two encodings, 1 kbit/s,
 // the largest significand with exponents 0, 3 and 63, and 1 with exponent 63.
@@ -9,27 +9,24 @@ const SPEEDS: [u16; 13] = [
 ];
 
 fn compared(out: &impl Print, a: u16, b: u16) -> bool {
-    let o = popcount::compare_speeds(a, b);
-    match o {
-        Order::Less => text(out, b" <"),
-        Order::Equal => text(out, b" ="),
-        Order::Greater => text(out, b" >"),
+    match popcount::compare_speeds(a, b) {
+        Ordering::Less => text(out, b" <"),
+        Ordering::Equal => text(out, b" ="),
+        Ordering::Greater => text(out, b" >"),
     }
 }
 
 fn line(out: &impl Print, a: u16) {
     number(out, b"speed ", a as u64);
     text(out, b":");
-    let all = SPEEDS;
-    for i in 0..13 {
-        compared(out, a, all[i]);
+    for b in SPEEDS {
+        compared(out, a, b);
     }
     text(out, b"\n");
 }
 
 pub(crate) fn run(out: &impl Print) {
-    let all = SPEEDS;
-    for i in 0..13 {
-        line(out, all[i]);
+    for a in SPEEDS {
+        line(out, a);
     }
 }

@@ -1,5 +1,5 @@
 -- What was seen of the rows, one after another, elects as the definition of the call says.
---     seen_next, seen_end     a loop over rows: what was seen so far and the rows that are left give what all of them give
+--     seen_push               one row more was seen, as a fold over rows asks it
 --     chosen_is, have_both    what was seen is chosen by the order of the rows
 --     answers                 the answer, where there was a row
 --     seen_elects             answering (seen first l) ≡ electing_among l
@@ -7,12 +7,10 @@
 -- Assumes nothing.
 use mathlib.Core.Path.{◌≡◌, refl, ap, ◌∙◌}
 use mathlib.Core.Bool.{Bool, true, false, cond, ◌&&◌, ◌||◌}
-use mathlib.Core.List.{List, [], ◌∷◌, map}
-use Prim.Native.Nat.{ℕ, suc, ◌+◌}
+use mathlib.Core.List.{List, [], ◌∷◌, ◌++◌, map}
 use native.Mathlib.Omega.{arith}
 use borrow.Author.Tests.{ltb-false, eqb-false, lt-ltb, eq-eqb}
 use lib.Dec.{eqb, ltb}
-use lib.ListN.{drop}
 use Rattle.format.specs.Outcome.{gives, refuses, refuse_if, ◌>>◌}
 use Rattle.neighbours.specs.declared.election.Candidate.{Candidate}
 use Rattle.neighbours.specs.declared.Neighbour.{Neighbour}
@@ -23,16 +21,10 @@ use Rattle.neighbours.specs.Highest.{candidates, Highest}
 use Rattle.neighbours.proofs.Highest.{best_highest}
 use Rattle.neighbours.specs.Among.{electing_among, first, looking, seen, chosen, answering}
 
-module _ (l : List Neighbour) (i : ℕ) (s : Scan) {w : Scan} (so : seen s (drop i l) ≡ w) where
-  pub seen_next : {n : Neighbour} → drop i l ≡ n ∷ drop (suc i) l → seen (looking s n) (drop (i + 1) l) ≡ w
-  unfolding seen
-  seen_next here =
-      let e : i + 1 ≡ suc i = omega arith in
-      rw e (rw here at so)
-
-  pub seen_end : drop i l ≡ [] → s ≡ w
-  unfolding seen
-  seen_end e = rw e at so
+pub seen_push : (s : Scan) (l : List Neighbour) (n : Neighbour) → seen s (l ++ n ∷ []) ≡ looking (seen s l) n
+unfolding seen
+seen_push s [] n = refl
+seen_push s (x ∷ l) n = seen_push (looking s x) l n
 
 none_after : (s : Scan) (l : List Neighbour) → s.none ≡ false → (seen s l).none ≡ false
 unfolding seen looking

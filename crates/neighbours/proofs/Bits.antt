@@ -55,21 +55,21 @@ more_none h l r n e =
     let z = or_none r (rest n) p.1 in
     (λ i. found (x.0 i) (y.0 i) (z.0 i), rest_none (address_of n) n.priority n.holdtime n.has_priority n.packs (omega (arith, x.1, y.1)) z.1)
 
--- the three numbers have the bits of the rows from number n up to number i
-pub record Gathered (rows : List Neighbour) (n i h l r : ℕ) : Type 0 where
-  pub none : found h l r ≡ 0 → all_zero (drop i rows) ≡ all_zero (drop n rows)
-  pub some : (found h l r ≡ 0 → ⊥) → false ≡ all_zero (drop n rows)
+-- the three numbers have the bits of the rows before number i
+pub record Gathered (rows : List Neighbour) (i h l r : ℕ) : Type 0 where
+  pub none : found h l r ≡ 0 → all_zero (drop i rows) ≡ all_zero rows
+  pub some : (found h l r ≡ 0 → ⊥) → false ≡ all_zero rows
 
-pub gathered_start : (rows : List Neighbour) (n : ℕ) → Gathered rows n n 0 0 0
-gathered_start rows n = record { none = λ e. refl; some = λ e. absurd (e refl) }
+pub gathered_start : (rows : List Neighbour) → Gathered rows 0 0 0 0
+gathered_start rows = record { none = λ e. refl; some = λ e. absurd (e refl) }
 
-module _ {rows : List Neighbour} {n i h l r : ℕ} (g : Gathered rows n i h l r) where
+module _ {rows : List Neighbour} {i h l r : ℕ} (g : Gathered rows i h l r) where
   pub gathered_next : {x : Neighbour} {y : ℕ} → drop i rows ≡ x ∷ drop (suc i) rows → y ≡ rest x
-      → Gathered rows n (i + 1) (bit_or h x.address.high) (bit_or l x.address.low) (bit_or r y)
+      → Gathered rows (i + 1) (bit_or h x.address.high) (bit_or l x.address.low) (bit_or r y)
   unfolding all_zero
   gathered_next {x} here e = rw e (go (is_zero x) refl (eqb (found h l r) 0) refl)
     where
-      go : (b : Bool) → is_zero x ≡ b → (z : Bool) → eqb (found h l r) 0 ≡ z → Gathered rows n (i + 1) (bit_or h x.address.high) (bit_or l x.address.low) (bit_or r (rest x))
+      go : (b : Bool) → is_zero x ≡ b → (z : Bool) → eqb (found h l r) 0 ≡ z → Gathered rows (i + 1) (bit_or h x.address.high) (bit_or l x.address.low) (bit_or r (rest x))
       go true f z k =
           let w = none_more h l r x f in
           record { none = λ q. scan_next all_zero rows i (g.none (sym w ∙ q)) here refl f; some = λ q. g.some (λ y. q (w ∙ y)) }
@@ -78,10 +78,10 @@ module _ {rows : List Neighbour} {n i h l r : ℕ} (g : Gathered rows n i h l r)
           record { none = λ q. absurd (never (sym (more_none h l r x q).1 ∙ f)); some = λ q. y }
       go false f false k = record { none = λ q. absurd (eqb-false (found h l r) 0 k (more_none h l r x q).0); some = λ q. g.some (eqb-false (found h l r) 0 k) }
 
-  pub gathered_end : {b : Bool} → drop i rows ≡ [] → b ≡ eqb (found h l r) 0 → b ≡ all_zero (drop n rows)
+  pub gathered_end : {b : Bool} → drop i rows ≡ [] → b ≡ eqb (found h l r) 0 → b ≡ all_zero rows
   unfolding all_zero
   gathered_end {b} e f = f ∙ go (eqb (found h l r) 0) refl
     where
-      go : (z : Bool) → eqb (found h l r) 0 ≡ z → z ≡ all_zero (drop n rows)
+      go : (z : Bool) → eqb (found h l r) 0 ≡ z → z ≡ all_zero rows
       go true k = scan_end all_zero rows i (g.none (eqb-true (found h l r) 0 k)) e refl
       go false k = g.some (eqb-false (found h l r) 0 k)

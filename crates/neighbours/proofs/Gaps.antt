@@ -1,23 +1,19 @@
--- Rows moved up one by one: an array with one row too many, which is overwritten by the row after it.
+-- Rows moved up: an array with one row too many, where another row is stored.
 --     Gap                           the rows before a place, the row that is too many, and the rows after it
---     gap_start, gap_next           before the first move; after one more
+--     gap_start, gap_copied         nothing has moved; the rows after the place are copied
 --     gap_end                       the row that is left over is overwritten
---     Moving                        a table whose rows move up, as far as a number: moving_start, moving_next
---     moving_in                     the row after the next is one of the array
---     moving_end, moving_none       the table then; one that stays as it was
+--     moved_within                  rows copied within the array, and the store
 -- Assumes nothing.
 use mathlib.Core.Path.{◌≡◌, refl, sym, ap, ◌∙◌}
-use mathlib.Core.List.{List, [], ◌∷◌, ◌++◌}
-use mathlib.Core.Bool.{Bool, true, false}
-use Prim.Native.Nat.{ℕ, suc, ◌+◌, ◌≤◌, ◌<◌}
+use mathlib.Core.List.{List, ◌∷◌, ◌++◌}
+use Prim.Native.Nat.{ℕ, suc, ◌+◌, ◌-◌, ◌≤◌, ◌<◌}
 use native.Mathlib.Omega.{arith}
-use borrow.Author.Tests.{ltb-true, ltb-false}
-use lib.Dec.{ltb}
-use lib.ListN.{length, get_or, take, drop, set, length-append, length-set}
-use lib.Seq.{split_at, set_at, take_at, drop_at, append_snoc, get_or-append-add, length-take-le}
+use lib.ListN.{length, get_or, take, drop, set, length-append, length-drop}
+use lib.Seq.{split_at, set_at, take_at, drop_at, length-take-le, drop-cons, drop-drop}
+use Rattle.std.specs.List.{copy_within}
+use Rattle.std.proofs.lemmas.List.{append_assoc, take-append-drop}
 use Rattle.neighbours.specs.declared.Neighbour.{Neighbour}
-use Rattle.neighbours.specs.declared.Table.{Table}
-use Rattle.neighbours.specs.Rows.{most, no_row, gone, moved_up}
+use Rattle.neighbours.specs.Rows.{no_row, moved_up}
 
 pub record Gap (whole : List Neighbour) (rows : List Neighbour) (i : ℕ) : Type 0 where
   pub front : List Neighbour
@@ -43,75 +39,29 @@ gap_end {i = i} n g =
     rw (g.is, ← g.gives, take_at g.front g.back i g.place, drop_at g.front g.back i g.place)
     (set_at g.front g.extra g.back n i g.place)
 
-next : (whole rows : List Neighbour) (i : ℕ) (d : Neighbour) (p : List Neighbour) (x : Neighbour) (q : List Neighbour) → rows ≡ p ++ x ∷ q → length p ≡ i → p ++ q ≡ whole → i + 1 < length rows → Gap whole (set rows i (get_or rows (i + 1) d)) (i + 1)
-next whole rows i d p x [] e f g h = absurd (let l : length rows ≡ i + 1 = ap length e ∙ (length-append p (x ∷ []) ∙ ap (λ m. m + 1) f) in omega arith)
-next whole rows i d p x (y ∷ q) e f g h =
-    let r : get_or rows (i + 1) d ≡ y = rw (e, ← f) (get_or-append-add p (x ∷ y ∷ q) 1 d) in
+-- the k rows after row i are copied over it: the last of them then stands twice
+gap_copied : (rows : List Neighbour) (i k : ℕ) (d : Neighbour) → i + k < length rows → Gap (take i rows ++ drop (suc i) rows) (take i rows ++ take k (drop (suc i) rows) ++ drop (i + k) rows) (i + k)
+gap_copied rows i k d h =
+    let a = take i rows in
+    let r = drop (suc i) rows in
+    let back = drop (suc (i + k)) rows in
+    let all : drop k r ≡ back = drop-drop k (suc i) rows ∙ ap (λ m. drop m rows) (let e : suc i + k ≡ suc (i + k) = omega arith in e) in
+    let n : k ≤ length r = omega (arith, length-drop (suc i) rows) in
     record {
-      front = p ++ (y ∷ []);
-      extra = y;
-      back = q;
-      is = rw (r, e) (set_at p x (y ∷ q) y i f ∙ sym (append_snoc p y (y ∷ q)));
-      place = length-append p (y ∷ []) ∙ ap (λ m. m + 1) f;
-      gives = append_snoc p y q ∙ g;
+      front = a ++ take k r;
+      extra = get_or rows (i + k) d;
+      back = back;
+      is = ap (λ x. a ++ take k r ++ x) (drop-cons rows (i + k) d h);
+      place = length-append a (take k r) ∙ (λ j. length-take-le i rows (omega arith) j + length-take-le k r n j);
+      gives = append_assoc a (take k r) back ∙ ap (λ x. a ++ x) (ap (λ x. take k r ++ x) (sym all) ∙ take-append-drop k r);
     }
 
-pub gap_next : {whole rows : List Neighbour} {i : ℕ} (d : Neighbour) → Gap whole rows i → i + 1 < length rows → Gap whole (set rows i (get_or rows (i + 1) d)) (i + 1)
-gap_next {whole} {rows} {i} d g h = next whole rows i d g.front g.extra g.back g.is g.place g.gives h
+-- of i, k and their sum, in any words
+moved : (rows : List Neighbour) (i j k m to : ℕ) (n : Neighbour) → j ≡ suc i → m ≡ k → i + k ≡ to → to < length rows
+    → set (take i rows ++ take m (drop j rows) ++ drop (i + m) rows) to n ≡ moved_up i to n rows
+moved rows i j k m to n e f g h = rw (e, f, ← g) (gap_end n (gap_copied rows i k no_row (omega arith)))
 
--- ---- a table whose rows move up, as far as a number
-
-pub record Moving (t u : Table) (from to i : ℕ) : Type 0 where
-  pub past : from ≤ i
-  pub upto : i ≤ to
-  pub inside : from < to → to < most
-  pub long : length u.rows ≡ most
-  pub gap : from < most → Gap (gone from t.rows) u.rows i
-  pub same : i ≡ from → u ≡ t
-
-pub moving_start : (t : Table) (from to : ℕ) → length t.rows ≡ most → from ≤ to → (from < to → to < most) → Moving t t from to from
-moving_start t from to f h g =
-    record { past = omega arith; upto = h; inside = g; long = f; gap = λ w. gap_start t.rows from no_row (omega (arith, f)); same = λ e. refl }
-
-module _ {t u : Table} {from to i : ℕ} (m : Moving t u from to i) where
-  -- the next row is one of the array
-  pub moving_in : i < to → i + 1 < most
-  moving_in h =
-      let w : to < most = m.inside (let p = m.past in omega arith) in
-      omega arith
-
-  pub moving_next : (d : Neighbour) → i < to → Moving t (record { rows = set u.rows i (get_or u.rows (i + 1) d); count = u.count }) from to (i + 1)
-  moving_next d h =
-      let p = m.past in
-      record {
-        past = omega arith;
-        upto = omega arith;
-        inside = m.inside;
-        long = length-set u.rows i (get_or u.rows (i + 1) d) ∙ m.long;
-        gap = λ w. gap_next d (m.gap w) (let q = moving_in h in omega (arith, q, m.long));
-        same = λ e. absurd (omega arith);
-      }
-
-  pub moving_end : to ≤ i → to < most → (n : Neighbour) (k : ℕ) → ◌≡◌ {A = Table} (record { rows = set u.rows to n; count = k }) (record { rows = moved_up from to n t.rows; count = k })
-  moving_end h w n k =
-      let p = m.past in
-      let q = m.upto in
-      let e : i ≡ to = omega arith in
-      let r : set u.rows to n ≡ moved_up from to n t.rows = rw (e) at (gap_end n (m.gap (omega arith))) in
-      λ j. record { rows = r j; count = k }
-
-  pub moving_none : to ≤ i → most ≤ to → u ≡ t
-  moving_none h w =
-      let p = m.past in
-      let q = m.upto in
-      m.same (go (ltb from to) refl)
-    where
-      go : (b : Bool) → ltb from to ≡ b → i ≡ from
-      go true e =
-          let g = m.inside (ltb-true from to e) in
-          absurd (omega arith)
-      go false e =
-          let g = ltb-false from to e in
-          let p = m.past in
-          let q = m.upto in
-          omega arith
+pub moved_within : (rows : List Neighbour) (from to : ℕ) (n : Neighbour) → from ≤ to → to < length rows
+    → set (copy_within rows (from + 1) (to + 1) from) to n ≡ moved_up from to n rows
+moved_within rows from to n h w =
+    moved rows from (from + 1) (to - from) (to + 1 - (from + 1)) to n (omega arith) (omega arith) (omega arith) w

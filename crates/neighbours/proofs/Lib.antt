@@ -1,4 +1,5 @@
 pub mod Rows
+pub mod Chains
 pub mod Tables
 pub mod Slots
 pub mod Ranks

@@ -1,8 +1,7 @@
 -- Laws of rows, over the definitions of specs/Rows.antt.
 --     all_rows                              how many rows an array of them has
---     used_long, next_row, no_row_left      the rows in use one by one
+--     used_long                             how many rows are in use
 --     scan_next, scan_stop, scan_end        a loop that tests rows: the rows that are left give what all of them give
---     place_here, place_next, place_none    where an address stands, row by row
 --     place_all                             a place is at most the number of rows
 --     has_before, none_before               an address stands before a row exactly if its place does
 --     has_place, has_none                   it stands somewhere exactly if its place is one of the rows
@@ -11,12 +10,10 @@ use mathlib.Core.Path.{◌≡◌, refl, sym, ap, ◌∙◌}
 use mathlib.Core.Bool.{Bool, true, false, cond, ◌&&◌, ◌||◌}
 use mathlib.Core.List.{List, [], ◌∷◌, map}
 use Prim.Native.Nat.{ℕ, zero, suc, ◌+◌, ◌≤◌, ◌<◌}
-use native.Mathlib.Nat.{add-zero}
 use native.Mathlib.Omega.{arith}
-use borrow.Author.Tests.{eq-eqb, ne_eqb}
 use lib.Dec.{eqb}
-use lib.ListN.{length, get_or, take, drop, length-map, drop_of_length-le}
-use lib.Seq.{drop-cons, get_or-take, length-take-le, take-length}
+use lib.ListN.{length, take, drop, length-map}
+use lib.Seq.{length-take-le, take-length}
 use Rattle.neighbours.specs.declared.Neighbour.{Neighbour}
 use Rattle.neighbours.specs.Rows.{address_of, place, has}
 use Rattle.neighbours.specs.contracts.Neighbour as neighbour
@@ -28,19 +25,8 @@ one_more i = omega arith
 pub all_rows : (rows : List Neighbour) {n : ℕ} → length (map (neighbour.the_field).into rows) ≡ n → length rows ≡ n
 all_rows rows e = sym (length-map rows (neighbour.the_field).into) ∙ e
 
--- ---- rows one by one
-
-module _ (rows : List Neighbour) (n : ℕ) (within : n ≤ length rows) where
-  pub used_long : length (take n rows) ≡ n
-  used_long = length-take-le n rows within
-
-  pub next_row : (i : ℕ) (d : Neighbour) → i < n → drop i (take n rows) ≡ get_or rows i d ∷ drop (suc i) (take n rows)
-  next_row i d h =
-      drop-cons (take n rows) i d (rw used_long h)
-      ∙ ap (λ x. x ∷ drop (suc i) (take n rows)) (get_or-take n rows i d h)
-
-  pub no_row_left : (i : ℕ) → n ≤ i → drop i (take n rows) ≡ []
-  no_row_left i h = drop_of_length-le (take n rows) {i = i} (rw used_long h)
+pub used_long : (rows : List Neighbour) (n : ℕ) → n ≤ length rows → length (take n rows) ≡ n
+used_long rows n within = length-take-le n rows within
 
 -- ---- a loop that tests rows
 
@@ -56,22 +42,6 @@ module _ (f : List Neighbour → Bool) (l : List Neighbour) (i : ℕ) {w : Bool}
   scan_end e t = sym t ∙ (sym (ap f e) ∙ so)
 
 -- ---- where an address stands
-
-module _ (a : ℕ) (l : List Neighbour) (i : ℕ) {w : ℕ} (so : i + place a (drop i l) ≡ w) where
-  module _ {x : Neighbour} (here : drop i l ≡ x ∷ drop (suc i) l) where
-    pub place_here : address_of x ≡ a → i ≡ w
-    unfolding place
-    place_here e = sym (add-zero i) ∙ (rw (here, eq-eqb (address_of x) a e) at so)
-
-    pub place_next : (address_of x ≡ a → ⊥) → i + 1 + place a (drop (i + 1) l) ≡ w
-    unfolding place
-    place_next e =
-        let s = rw (here, ne_eqb (address_of x) a e) at so in
-        rw (one_more i) (omega arith)
-
-  pub place_none : drop i l ≡ [] → i ≡ w
-  unfolding place
-  place_none e = sym (add-zero i) ∙ (rw e at so)
 
 pub place_all : (a : ℕ) (l : List Neighbour) → place a l ≤ length l
 unfolding place

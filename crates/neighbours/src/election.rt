@@ -8,10 +8,10 @@ ghost use Rattle.neighbours.specs.Election.{all_pack, may_pack, better, electing
 ghost use Rattle.neighbours.specs.Among.{looking, seen, chosen};
 ghost use Rattle.neighbours.specs.Answers.{packing_by, elected_by};
 
-use crate::validity::{Asked, ask, is_valid};
-use crate::{Allowance, Elected, Neighbour, Table};
+use crate::validity::{ask, is_valid};
+use crate::{Neighbour, Table};
 use addresses::{is_below, is_zero};
-use format::{Address, AddressFamily, Refusal, is_ipv6};
+use format::{Address, AddressFamily, Reason, Refusal, is_ipv6};
 
 // One that may be elected.
 #[derive(Clone, Copy)]
@@ -35,16 +35,7 @@ fn all_pack(table: Table) -> bool
     requires { table.count ≤ most }
     ensures { result ≡ all_pack (used table) }
 {
-    let count = table.count;
-    let mut i = 0;
-    while i < count {
-        if table.rows[i].packs {
-            i += 1;
-        } else {
-            return false;
-        }
-    }
-    true
+    table.rows[..table.count].iter().all(|row| row.packs)
 }
 
 // The higher of two candidates, by priority and then address or by address alone.
@@ -114,14 +105,9 @@ pub(crate) fn looked_over(table: Table, before: Scan) -> Scan
     requires { table.count ≤ most }
     ensures { result ≡ seen before (used table) }
 {
-    let count = table.count;
-    let mut s = before;
-    let mut i = 0;
-    while i < count {
-        s = looked(s, table.rows[i]);
-        i += 1;
-    }
-    s
+    table.rows[..table.count]
+        .iter()
+        .fold(before, |s, row| looked(s, *row))
 }
 
 // The address that the rows looked at elect.
@@ -136,37 +122,34 @@ pub(crate) fn chosen(s: Scan) -> Address
 
 impl Table {
     // Whether packing is allowed: exactly if every neighbour announced it.
-    pub fn packing_allowed(self, family: AddressFamily) -> Allowance
+    pub fn packing_allowed(self, family: AddressFamily) -> Result<bool, Refusal>
         ensures { packing_by result ≡ may_pack (family_named family) self }
     {
         if is_valid(is_ipv6(family), self) {
-            return Allowance::Allowed(all_pack(self));
+            return Ok(all_pack(self));
         }
-        Allowance::Refused(Refusal {
-            number: 14,
-            place: 0,
-        })
+        Err(Reason::BadSheet.at(0))
     }
 
     // The designated router over the rows and our own router.
-    pub fn elect(self, family: AddressFamily, address: Address, priority: u32) -> Elected
+    pub fn elect(
+        self,
+        family: AddressFamily,
+        address: Address,
+        priority: u32,
+    ) -> Result<Address, Refusal>
         ensures { elected_by result ≡ electing (family_named family) self address priority }
     {
         let ipv6 = is_ipv6(family);
-        let a = ask(is_valid(ipv6, self), ipv6, address);
-        match a {
-            Asked::Refused(r) => Elected::Refused(r),
-            Asked::Fine => {
-                let ours = Candidate { address, priority };
-                let before = Scan {
-                    none: false,
-                    zero: false,
-                    all_have: true,
-                    by_priority: ours,
-                    by_address: ours,
-                };
-                Elected::Is(chosen(looked_over(self, before)))
-            }
-        }
+        ask(is_valid(ipv6, self), ipv6, address)?;
+        let ours = Candidate { address, priority };
+        let before = Scan {
+            none: false,
+            zero: false,
+            all_have: true,
+            by_priority: ours,
+            by_address: ours,
+        };
+        Ok(chosen(looked_over(self, before)))
     }
 }

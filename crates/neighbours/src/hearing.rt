@@ -5,16 +5,15 @@ ghost use Rattle.format.specs.Family.{Family, family_of, family_named};
 ghost use Rattle.format.specs.Path.{number_of};
 ghost use Rattle.neighbours.specs.Rows.{used, valid, table_of};
 ghost use Rattle.neighbours.specs.Hearing.{entering, leaving, hearing, forgetting};
-ghost use Rattle.neighbours.specs.Answers.{done_by, done_of, table_after, Ordered, table_by};
+ghost use Rattle.neighbours.specs.Answers.{done_by, done_of, table_after, Ordered, table_by, Answered};
 
 use crate::row::{no_row, row_of};
-use crate::validity::{Asked, ask, find, is_valid};
+use crate::validity::{ask, find, is_valid};
 use crate::{Change, Changed, Neighbour, ROWS, Table};
-use format::{Address, AddressFamily, Refusal, is_ipv6};
+use format::{Address, AddressFamily, Reason, Refusal, is_ipv6};
 use hello::Hello;
 
 // What is done to a table: the rows after number `from` move up, as far as number `to`, where `row` is stored, and then `count` rows are in use.
-// Where `to` is no row the table stays as it was.
 #[derive(Clone, Copy)]
 pub(crate) struct Update {
     pub(crate) from: usize,
@@ -24,109 +23,72 @@ pub(crate) struct Update {
     pub(crate) change: Change,
 }
 
-// Nothing is done, with 01's number.
-fn refused(refusal: Refusal) -> Update
-    ensures table { (t : Table) → table_by t result ≡ t }
-    ensures order { Ordered result }
-    ensures done { result.change ≡ Change.Refused refusal }
-{
-    Update {
-        from: ROWS,
-        to: ROWS,
-        row: no_row(),
-        count: 0,
-        change: Change::Refused(refusal),
-    }
-}
-
 // A row stored in place of an earlier one or after the last.
-fn enter(table: Table, row: Neighbour) -> Update
+fn enter(table: Table, row: Neighbour) -> Result<Update, Refusal>
     requires { (f : Family) × (valid f table ≡ true) }
-    ensures table { table_by table result ≡ table_after table (entering row (used table)) }
-    ensures order { Ordered result }
-    ensures done { done_by result.change ≡ done_of (entering row (used table)) }
+    ensures { Answered table (entering row (used table)) result }
 {
     let address = row.address;
     let at = find(table, address);
     let count = table.count;
     if at < count {
-        return Update {
+        return Ok(Update {
             from: at,
             to: at,
             row,
             count,
             change: Change::Replaced,
-        };
-    }
-    if count == ROWS {
-        return refused(Refusal {
-            number: 11,
-            place: 0,
         });
     }
-    Update {
+    if count == ROWS {
+        return Err(Reason::TableFull.at(0));
+    }
+    Ok(Update {
         from: at,
         to: at,
         row,
         count: at + 1,
         change: Change::Appended,
-    }
+    })
 }
 
 // An address is forgotten: the rows after it move up, and the last row in use becomes 0.
-fn leave(table: Table, address: Address) -> Update
+fn leave(table: Table, address: Address) -> Result<Update, Refusal>
     requires { (f : Family) × (valid f table ≡ true) }
-    ensures table { table_by table result ≡ table_after table (leaving (number_of address) (used table)) }
-    ensures order { Ordered result }
-    ensures done { done_by result.change ≡ done_of (leaving (number_of address) (used table)) }
+    ensures { Answered table (leaving (number_of address) (used table)) result }
 {
     let at = find(table, address);
     let count = table.count;
     if at < count {
         let last = count - 1;
-        return Update {
+        return Ok(Update {
             from: at,
             to: last,
             row: no_row(),
             count: last,
             change: Change::Forgotten,
-        };
+        });
     }
-    refused(Refusal {
-        number: 12,
-        place: 0,
-    })
+    Err(Reason::Absent.at(0))
 }
 
 // What hearing does: a row is replaced or goes last; holdtime 0 forgets its address.
-fn heard(ipv6: bool, table: Table, address: Address, said: Hello) -> Update
-    ensures table { table_by table result ≡ table_after table (hearing (family_of ipv6) table address said) }
-    ensures order { Ordered result }
-    ensures done { done_by result.change ≡ done_of (hearing (family_of ipv6) table address said) }
+fn heard(ipv6: bool, table: Table, address: Address, said: Hello) -> Result<Update, Refusal>
+    ensures { Answered table (hearing (family_of ipv6) table address said) result }
 {
-    let a = ask(is_valid(ipv6, table), ipv6, address);
-    match a {
-        Asked::Refused(r) => refused(r),
-        Asked::Fine => {
-            if said.holdtime == 0 {
-                return leave(table, address);
-            }
-            enter(table, row_of(address, said))
-        }
+    ask(is_valid(ipv6, table), ipv6, address)?;
+    if said.holdtime == 0 {
+        return leave(table, address);
     }
+    enter(table, row_of(address, said))
 }
 
 // What forgetting does.
-fn forgotten(ipv6: bool, table: Table, address: Address) -> Update
-    ensures table { table_by table result ≡ table_after table (forgetting (family_of ipv6) table address) }
-    ensures order { Ordered result }
-    ensures done { done_by result.change ≡ done_of (forgetting (family_of ipv6) table address) }
+fn forgotten(ipv6: bool, table: Table, address: Address) -> Result<Update, Refusal>
+    ensures { Answered table (forgetting (family_of ipv6) table address) result }
 {
-    let a = ask(is_valid(ipv6, table), ipv6, address);
-    match a {
-        Asked::Refused(r) => refused(r),
-        Asked::Fine => leave(table, address),
-    }
+    ask(is_valid(ipv6, table), ipv6, address)?;
+    leave(table, address)
 }
 
 // The table after an update.
@@ -134,19 +96,10 @@ fn updated(table: Table, u: Update) -> Table
     requires { Ordered u }
     ensures { result ≡ table_by table u }
 {
-    let to = u.to;
     let mut after = table;
-    let mut i = u.from;
-    while i < to {
-        let next = after.rows[i + 1];
-        after.rows[i] = next;
-        i += 1;
-    }
-    if to < ROWS {
-        let row = u.row;
-        after.rows[to] = row;
-        after.count = u.count;
-    }
+    after.rows.copy_within(u.from + 1..u.to + 1, u.from);
+    after.rows[u.to] = u.row;
+    after.count = u.count;
     after
 }
 
@@ -165,11 +118,15 @@ impl Table {
         ensures table { result.table ≡ table_after self (hearing (family_named family) self address said) }
         ensures done { done_by result.change ≡ done_of (hearing (family_named family) self address said) }
     {
-        let u = heard(is_ipv6(family), self, address, said);
-        let change = u.change;
-        Changed {
-            table: updated(self, u),
-            change,
+        match heard(is_ipv6(family), self, address, said) {
+            Ok(u) => Changed {
+                table: updated(self, u),
+                change: Ok(u.change),
+            },
+            Err(r) => Changed {
+                table: self,
+                change: Err(r),
+            },
         }
     }
 
@@ -178,11 +135,15 @@ impl Table {
         ensures table { result.table ≡ table_after self (forgetting (family_named family) self address) }
         ensures done { done_by result.change ≡ done_of (forgetting (family_named family) self address) }
     {
-        let u = forgotten(is_ipv6(family), self, address);
-        let change = u.change;
-        Changed {
-            table: updated(self, u),
-            change,
+        match forgotten(is_ipv6(family), self, address) {
+            Ok(u) => Changed {
+                table: updated(self, u),
+                change: Ok(u.change),
+            },
+            Err(r) => Changed {
+                table: self,
+                change: Err(r),
+            },
         }
     }
 }

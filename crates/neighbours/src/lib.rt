@@ -47,26 +47,11 @@ pub enum Change {
     Replaced,
     Appended,
     Forgotten,
-    Refused(Refusal),
 }
 
-// The table, changed or as it was, with what was done.
+// The table, changed or as it was, with what was done. It is there in either case, so it stands beside the answer.
 #[derive(Clone, Copy)]
 pub struct Changed {
     pub table: Table,
-    pub change: Change,
-}
-
-// Whether packing is allowed.
-#[derive(Clone, Copy)]
-pub enum Allowance {
-    Allowed(bool),
-    Refused(Refusal),
-}
-
-// The address that is elected.
-#[derive(Clone, Copy)]
-pub enum Elected {
-    Is(Address),
-    Refused(Refusal),
+    pub change: Result<Change, Refusal>,
 }

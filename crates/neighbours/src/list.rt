@@ -5,8 +5,8 @@ ghost use Rattle.neighbours.specs.Answers.{elected_by};
 ghost use Rattle.neighbours.specs.Among.{first, answering, electing_among};
 
 use crate::election::{Candidate, Scan, chosen, looked, looked_over};
-use crate::{Elected, Neighbour, ROWS, Table};
-use format::{Address, Refusal};
+use crate::{Neighbour, ROWS, Table};
+use format::{Address, Reason, Refusal};
 
 // No row was looked at: both candidates are 0.
 fn start() -> Scan
@@ -27,35 +27,23 @@ fn start() -> Scan
 }
 
 // What the rows looked at elect.
-fn answer(s: Scan) -> Elected
+fn answer(s: Scan) -> Result<Address, Refusal>
     ensures { elected_by result ≡ answering s }
 {
     if s.none {
-        return Elected::Refused(Refusal {
-            number: 12,
-            place: 0,
-        });
+        return Err(Reason::Absent.at(0));
     }
     if s.zero {
-        return Elected::Refused(Refusal {
-            number: 7,
-            place: 0,
-        });
+        return Err(Reason::BadAddress.at(0));
     }
-    Elected::Is(chosen(s))
+    Ok(chosen(s))
 }
 
 // The designated router over a lent list of rows.
-pub fn elect_among(rows: &[Neighbour]) -> Elected
+pub fn elect_among(rows: &[Neighbour]) -> Result<Address, Refusal>
     ensures { elected_by result ≡ electing_among rows.now }
 {
-    let mut s = start();
-    let mut i = 0;
-    while i < rows.len() {
-        s = looked(s, rows[i]);
-        i += 1;
-    }
-    answer(s)
+    answer(rows.iter().fold(start(), |s, row| looked(s, *row)))
 }
 
 // The rows in use, at most all.
@@ -69,7 +57,7 @@ fn at_most(count: usize) -> usize
 }
 
 // The designated router over the first n rows of an array, by value, for callers who do not lend.
-pub fn elect_rows(rows: [Neighbour; ROWS], n: usize) -> Elected
+pub fn elect_rows(rows: [Neighbour; ROWS], n: usize) -> Result<Address, Refusal>
     ensures { elected_by result ≡ electing_among (take n rows) }
 {
     let table = Table {

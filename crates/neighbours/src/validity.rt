@@ -4,37 +4,23 @@ ghost use Rattle.format.specs.Family.{family_of};
 ghost use Rattle.format.specs.Path.{number_of};
 ghost use Rattle.neighbours.specs.Rows.{most, place, used, all_zero, valid};
 ghost use Rattle.neighbours.specs.Hearing.{asked};
-ghost use Rattle.format.specs.Outcome.{refuses};
 ghost use Rattle.neighbours.specs.Answers.{asked_by};
 
 use crate::row::{is_allowed, rest_of_row};
 use crate::{ROWS, Table};
 use addresses::{is_in_family, is_same, is_zero};
-use format::{Address, Refusal};
+use format::{Address, Reason, Refusal};
 
-// Whether a table and an address are ones that a call takes.
-#[derive(Clone, Copy)]
-pub(crate) enum Asked {
-    Fine,
-    Refused(Refusal),
-}
-
-// Where an address stands among the rows in use; their number if nowhere.
+// Where an address stands among the rows in use; their number if nowhere. Table is C's struct and may come with any count, so what looks at the rows in
+// use asks for one within them. `row.address == address` is no plainer: its proof wants the numbers, of which is_same speaks.
 pub(crate) fn find(table: Table, address: Address) -> usize
     requires { table.count ≤ most }
     ensures { result ≡ place (number_of address) (used table) }
 {
-    let count = table.count;
-    let mut i = 0;
-    while i < count {
-        let row = table.rows[i];
-        let other = row.address;
-        if is_same(other, address) {
-            return i;
-        }
-        i += 1;
-    }
-    count
+    table.rows[..table.count]
+        .iter()
+        .position(|row| is_same(row.address, address))
+        .unwrap_or(table.count)
 }
 
 // Whether the rows not in use are all 0. The bits of their numbers are only gathered, and tested once at the end: a test in each row takes longer. They
@@ -46,18 +32,10 @@ fn rest_is_zero(table: Table) -> bool
     let mut highs: u64 = 0;
     let mut lows: u64 = 0;
     let mut others: u64 = 0;
-    let mut i = table.count;
-    while i < ROWS {
-        highs = highs | table.rows[i].address.high;
-        lows = lows | table.rows[i].address.low;
-        others = others
-            | rest_of_row(
-                table.rows[i].priority,
-                table.rows[i].has_priority,
-                table.rows[i].packs,
-                table.rows[i].holdtime,
-            );
-        i += 1;
+    for row in &table.rows[table.count..] {
+        highs |= row.address.high;
+        lows |= row.address.low;
+        others |= rest_of_row(row.priority, row.has_priority, row.packs, row.holdtime);
     }
     let found = highs | lows | others;
     found == 0
@@ -76,10 +54,8 @@ pub fn is_valid(ipv6: bool, table: Table) -> bool
         return false;
     }
     let mut met = [false; 256];
-    let mut i = 0;
-    while i < count {
-        let row = table.rows[i];
-        if !is_allowed(ipv6, row) {
+    for (i, row) in table.rows[..count].iter().enumerate() {
+        if !is_allowed(ipv6, *row) {
             return false;
         }
         let address = row.address;
@@ -88,36 +64,22 @@ pub fn is_valid(ipv6: bool, table: Table) -> bool
             return false;
         }
         met[slot] = true;
-        i += 1;
     }
     true
 }
 
-// 14, at place 0.
-fn refused_14() -> Asked
-    ensures { asked_by result ≡ refuses 14 0 }
-{
-    Asked::Refused(Refusal {
-        number: 14,
-        place: 0,
-    })
-}
-
 // What every call asks first: the table, then the address. It is given whether the table is valid, since the table would be copied.
-pub(crate) fn ask(ok: bool, ipv6: bool, address: Address) -> Asked
+pub(crate) fn ask(ok: bool, ipv6: bool, address: Address) -> Result<(), Refusal>
     ensures { (t : Table) → ok ≡ valid (family_of ipv6) t → asked_by result ≡ asked (family_of ipv6) t address }
 {
     if !ok {
-        return refused_14();
+        return Err(Reason::BadSheet.at(0));
     }
     if !is_in_family(ipv6, address) {
-        return refused_14();
+        return Err(Reason::BadSheet.at(0));
     }
     if is_zero(address) {
-        return Asked::Refused(Refusal {
-            number: 7,
-            place: 0,
-        });
+        return Err(Reason::BadAddress.at(0));
     }
-    Asked::Fine
+    Ok(())
 }

@@ -9,18 +9,21 @@
 --     take_put, drop_put, take_put_end, drop_put_end        what stands up to the end of a write and past it: at the start, and at any place
 --     part_put, field_put                                   what was written is read back: octets, and a field
 --     stores_put, lows_be, taken_be, put_number             stores one by one are a write; the octets as code takes them are those of the number
---     number_is, number_short                               a number by its octets, and where fewer are there
+--     value_is, put_all, put_halves                         of octets that are all lent: their number, a number stored over them, in two halves too
+--     value_few, value_next                                 fewer octets spell a smaller number; one octet more
+--     number_is, number_short, number_left                  a number by its octets, and where fewer are there
+--     part_is, part_left                                    the part of a list that a number is read from, and that of the octets that are left
 --     whole_there, whole_none, whole_cut                    a number of which all octets are there, or not, and where the part is that number
 --     number_part, number_cut                               a number in a part, by its place in the whole; and where the part is that number
 --     number_split, be_two, value_first                     a number in two parts, as octets and back, and by its first octet
 --     part_octets, put_copied                               the octets of a number as they stand, and stored so
---     copied_stores, copied_few, copied_none                a copy of k octets, by the stores that make it, and where either has fewer
+--     copied_all, copied_front, copied_few, copied_none      a copy of k octets, over the front of a list, and where either has fewer
 --     copied_part, copied_number                            a copy from a part into a part that was lent, as a write into the whole
 --     octets_there, octets_short, octets_back_lem               a reader of octets, by whether they are there, and what it got
---     number_there, number_back, number_bad, number_lt      a reader of a number
+--     number_there, number_back, number_bad                 a reader of a number
 --     ignored_got, ignored_bad                              a reader of octets that are skipped
---     field_got, field_short, skip_got, skip_short          what the code of a reader answers, by the test that it made
---     write_next, write_full                                what the code of a writer answers
+--     field_got, field_read, field_short, skip_got, skip_short     what the code of a reader answers, by the test that it made
+--     write_part, write_full                                what the code of a writer answers
 --     read_got, read_cut                                    what a caller learns from a reader's answer
 --     write_back, number_fits, length_fitted                and from a writer's; where it knows that there is room
 -- Assumes nothing.
@@ -28,7 +31,7 @@ use mathlib.Core.Path.{◌≡◌, refl, sym, ap, ap₂, ◌∙◌}
 use mathlib.Core.Bool.{Bool, true, false, ◌&&◌, cond}
 use mathlib.Core.List.{List, [], ◌∷◌, ◌++◌, append_assoc, append-nil}
 use Prim.Native.Nat.{ℕ, zero, suc, ◌+◌, ◌-◌, ◌*◌, ◌/◌, ◌%◌, ◌^◌, ◌≤◌, ◌<◌}
-use native.Mathlib.Nat.{add-zero, add-suc, add_comm, div-div-eq-div-mul, zero-add, mul_assoc, add-mul, add_assoc, one-le-pow, zero-lt-suc, pow-succ', mod-one, mod-lt, mod-eq_of_lt, div-one, div-lt_iff_lt-mul, mul-add-div_right, mul-add-mod_self_right}
+use native.Mathlib.Nat.{add-sub_cancel_left, add-zero, add-suc, add_comm, div-div-eq-div-mul, zero-add, mul_assoc, add-mul, add_assoc, one-le-pow, zero-lt-suc, pow-succ', mod-one, mod-lt, mod-eq_of_lt, div-one, div-lt_iff_lt-mul, mul-add-div_right, mul-add-mod_self_right}
 use native.Mathlib.Decide.{dec_le}
 use native.Mathlib.Omega.{arith}
 use lib.Arith.{digits_lt, digits_div, mod-mul}
@@ -40,11 +43,8 @@ use borrow.Author.Tests.{le-leb, lt-leb, leb-true}
 use borrow.Rule.Slice.PartMut.{put_mid}
 use Rattle.octets.specs.Octets.{Octets, value, number_at, whole_at, be, put, copied}
 use Rattle.octets.specs.Reader.{Read, got, bad, continue, ◌>>=◌, ◌>>◌, give, octets, number}
-use Rattle.octets.specs.Field.{field_of, place_of, ignored, written_of, written, fitted}
-use Rattle.octets.specs.declared.Field.{Field}
-use Rattle.octets.specs.declared.Field.TheVariants.{Got, Short}
-use Rattle.octets.specs.declared.Written.{Written}
-use Rattle.octets.specs.declared.Written.TheVariants.{Next}
+use Rattle.std.specs.Prelude.{Option, None, Some}
+use Rattle.octets.specs.Field.{field_at, ignored, written_at, written, fitted}
 
 -- ---- octets
 
@@ -80,7 +80,7 @@ octets_be (suc k) n = octets_cons _ (be k n) (mod-lt _ (zero-lt-suc 255)) (octet
 
 -- ---- numbers and octets, both ways
 
-pow_pos : (k : ℕ) → 0 < 256 ^ k
+pub pow_pos : (k : ℕ) → 0 < 256 ^ k
 pow_pos k = one-le-pow k 256 (zero-lt-suc 255)
 
 value_nil : value [] ≡ 0
@@ -117,6 +117,17 @@ pub value_lt : (o : List ℕ) → Octets o → value o < 256 ^ length o
 unfolding value
 value_lt [] h = lit< tt
 value_lt (x ∷ o) h = rw pow-succ' (digits_lt (h 0) (value_lt o (octets_tail x o h)))
+
+pow_up : (i j : ℕ) → 256 ^ i ≤ 256 ^ (i + j)
+pow_up i zero = rw add-zero (omega arith)
+pow_up i (suc j) = rw (add-suc, pow-succ') (omega (arith, pow_up i j))
+
+-- fewer octets spell no more than more octets can
+pub value_few : (k : ℕ) (o : List ℕ) → Octets o → length o ≤ k → value o < 256 ^ k
+value_few k o h l =
+    let sum : k ≡ length o + (k - length o) = omega (arith, l) in
+    let up : 256 ^ length o ≤ 256 ^ k = rw sum (pow_up (length o) (k - length o)) in
+    omega (arith, value_lt o h, up)
 
 -- what stands above the k octets does not show in them
 pub be_above : (k x n : ℕ) → be k (x * 256 ^ k + n) ≡ be k n
@@ -282,7 +293,34 @@ pub number_is : (k : ℕ) (o : List ℕ) (at : ℕ) → at + k ≤ length o → 
 unfolding number_at
 number_is k o at h = ap value (sym (from_part o at 0 k (omega arith) ∙ ap (λ x. take k (drop x o)) (add-zero at)))
 
--- where fewer octets are there, it is the number in those
+-- a write over all of a list
+put_over : (d e : List ℕ) → length d ≡ length e → put d 0 e ≡ e
+put_over d e h = sym (take_all (length e) (put d 0 e) (omega (arith, length_put d 0 e (omega (arith, h)), h))) ∙ take_put d e
+
+-- octets that are all lent: the number that they spell, by each; and a number stored over all of them
+pub value_is : (k : ℕ) (o : List ℕ) → length o ≡ k → value o ≡ value (octets_from o 0 0 k)
+value_is k o e = ap value (sym (take_all k o (omega (arith, e))) ∙ sym (from_part o 0 0 k (omega (arith, e))))
+
+pub put_all : (k : ℕ) (d : List ℕ) (n : ℕ) → length d ≡ k → n < 256 ^ k → stores d 0 0 (taken k n) ≡ be k n
+put_all k d n e s = put_number k d 0 n (omega (arith, e)) s ∙ put_over d (be k n) (rw length_be e)
+
+-- the part from a place up to another holds the number there
+pub part_is : (k : ℕ) (o : List ℕ) (at end : ℕ) → end ≡ at + k → value (take (end - at) (drop at o)) ≡ number_at k o at
+unfolding number_at
+part_is k o at end e = rw (e, add-sub_cancel_left) refl
+
+-- where fewer octets are there, the part that has them; and it is the number in those
+pub part_left : (n : ℕ) (o : List ℕ) (at : ℕ) → n ≡ length o - at → take (length o - (length o - n)) (drop (length o - n) o) ≡ drop at o
+part_left n o at e = take_all (length o - (length o - n)) (drop (length o - n) o) (simp length-drop (omega arith)) ∙ go (dec_le at (length o))
+  where
+    go : Dec (at ≤ length o) → drop (length o - n) o ≡ drop at o
+    go (yes l) = ap (λ p. drop p o) (omega (arith, e, l))
+    go (no l) = drop_of_length-le o {i = length o - n} (omega (arith, e, l)) ∙ sym (drop_of_length-le o {i = at} (omega (arith, l)))
+
+pub number_left : (k : ℕ) (o : List ℕ) (at : ℕ) → length o - at < k → number_at k o at ≡ value (drop at o)
+unfolding number_at
+number_left k o at h = ap value (take_all k (drop at o) (simp length-drop (omega (arith, h))))
+
 pub number_short : (k n : ℕ) (o : List ℕ) (at : ℕ) → n ≡ length o - at → n ≤ k → number_at k o at ≡ number_at n o at
 unfolding number_at
 number_short k n o at e h = ap value (take_all k (drop at o) (simp length-drop (omega arith)) ∙ sym (take_all n (drop at o) (simp length-drop (omega arith))))
@@ -325,6 +363,14 @@ number_split j k o at h =
     let rest : length (take k (drop j (drop at o))) ≡ k = length-take-le k (drop j (drop at o)) (simp length-drop (omega arith)) in
     rw (take-add, value_append, rest, drop-drop)
 
+-- the octets up to a place, and one more
+pub value_next : (o : List ℕ) (i : ℕ) → i < length o → value (take i o) * 256 + get_or o i 0 ≡ value (take (i + 1) o)
+unfolding value number_at
+value_next o i h =
+    let split : value (take (i + 1) o) ≡ value (take i o) * 256 + number_at 1 o (0 + i) = number_split i 1 o 0 (omega (arith, h)) in
+    let one : number_at 1 o (0 + i) ≡ get_or o i 0 * 1 + 0 = rw zero-add (number_is 1 o i (omega (arith, h))) in
+    omega (arith, split, one)
+
 pub be_two : (j k h l : ℕ) → l < 256 ^ k → be (j + k) (h * 256 ^ k + l) ≡ be j h ++ be k l
 unfolding be
 be_two zero k h l s = rw zero-add (be_above k h l)
@@ -335,6 +381,16 @@ be_two (suc j) k h l s =
     rw (e, be_suc, first, be_two j k h l s)
 
 -- the first octet of a number
+-- stored one after the other over eight octets
+pub put_halves : (n : ℕ) (d : List ℕ) {high low : List ℕ} → length d ≡ 8 → high ≡ be 4 (n / 4294967296) → low ≡ be 4 (n % 4294967296) → put_mid 4 4 (high ++ drop 4 d) low ≡ be 8 n
+unfolding be
+put_halves n d l h e =
+    let whole : n / 4294967296 * 256 ^ 4 + n % 4294967296 ≡ n = omega arith in
+    let parts : be 4 (n / 4294967296) ++ be 4 (n % 4294967296) ≡ be 8 n =
+    sym (be_two 4 4 (n / 4294967296) (n % 4294967296) (mod-lt n (zero-lt-suc 4294967295))) ∙ ap (be 8) whole in
+    let none : drop 4 (drop 4 d) ≡ [] = rw drop-drop (drop_of_length-le d {i = 8} (omega (arith, l))) in
+    rw (h, e) (ap (λ t. be 4 (n / 4294967296) ++ (be 4 (n % 4294967296) ++ t)) none ∙ parts)
+
 pub value_first : (k : ℕ) (o : List ℕ) → Octets o → length o ≡ suc k → value o / 256 ^ k ≡ get_or o 0 0
 unfolding value
 value_first k [] h e = absurd (no_zero e)
@@ -368,8 +424,9 @@ pub copied_all : (k : ℕ) (s d : List ℕ) → k ≤ length s → k ≤ length 
 unfolding copied
 copied_all k s d there room = rw (le-leb _ _ there, le-leb _ _ room)
 
-pub copied_stores : (k : ℕ) (s d : List ℕ) → k ≤ length s → k ≤ length d → stores d 0 0 (octets_from s 0 0 k) ≡ copied k s d
-copied_stores k s d there room = stores_part k s d 0 0 (omega arith) (omega arith) ∙ sym (copied_all k s d there room)
+-- as code stores it: octets over the front of a list
+pub copied_front : (k : ℕ) (s d : List ℕ) {e : List ℕ} → e ≡ take k s → k ≤ length s → k ≤ length d → e ++ drop k d ≡ copied k s d
+copied_front k s d e a b = rw (e, copied_all k s d a b, put_eq d 0 (take k s), length-take-le k s a, zero-add) refl
 
 pub copied_few : (k : ℕ) (s d : List ℕ) → length s < k → d ≡ copied k s d
 unfolding copied
@@ -451,13 +508,6 @@ module _ (k : ℕ) (o : List ℕ) (at : ℕ) where
   unfolding number ◌>>=◌ give
   number_bad e = of_bad value (octets k o at) e
 
-  pub number_lt : {v n : ℕ} → number k o at ≡ got v n → Octets o → v < 256 ^ k
-  unfolding number_at
-  number_lt e h =
-      let b = number_back e in
-      let l : length (take k (drop at o)) ≡ k = length-take-le k (drop at o) (simp length-drop (omega arith)) in
-      rw b.0 (rw l at (value_lt (take k (drop at o)) (octets_take k (drop at o) (octets_drop at o h))))
-
   pub ignored_got : {v n : ℕ} → ignored k o at ≡ got v n → octets k o at ≡ got (take k (drop at o)) n
   unfolding ignored ◌>>◌ give
   ignored_got {n = n} e = of_got (λ x. 0) (octets k o at) e (λ x p q. p ∙ ap (λ x. got x n) (octets_back_lem k o at p).0)
@@ -472,6 +522,9 @@ module _ (k : ℕ) (o : List ℕ) (at : ℕ) where
   pub field_got : {v : ℕ} → at + k ≤ length o → v ≡ value (octets_from o at 0 k) → got v (at + k) ≡ number k o at
   field_got h e = sym (number_there k o at h ∙ ap (λ v. got v (at + k)) (number_is k o at h ∙ sym e))
 
+  pub field_read : {v n : ℕ} → n ≡ at + k → n ≤ length o → v ≡ value (take (n - at) (drop at o)) → got v n ≡ number k o at
+  field_read {n = n} e h w = rw (w ∙ part_is k o at n e, e) (sym (number_there k o at (omega (arith, e, h))))
+
   pub field_short : length o < at + k → bad 6 at ≡ number k o at
   unfolding number ◌>>=◌ continue
   field_short h = rw (octets_short k o at h)
@@ -484,12 +537,14 @@ module _ (k : ℕ) (o : List ℕ) (at : ℕ) where
   unfolding ignored ◌>>◌ continue
   skip_short h = rw (octets_short k o at h)
 
-pub write_next : (k : ℕ) (d : List ℕ) (at n : ℕ) → at + k ≤ length d → n < 256 ^ k
-    → (got tt (at + k) ≡ written k d at) × (stores d at 0 (taken k n) ≡ fitted d at (be k n))
-unfolding written fitted
-write_next k d at n h s =
-    let r : at + length (be k n) ≤ length d = rw length_be h in
-    (rw (le-leb _ _ h), rw (le-leb _ _ r, taken_be k n s, stores_put d at (be k n) r))
+-- into the part from a place up to another
+pub write_part : (k : ℕ) (d : List ℕ) (at n : ℕ) {end : ℕ} {e : List ℕ} → end ≡ at + k → end ≤ length d → e ≡ be k n
+    → (got tt end ≡ written k d at) × (put_mid at (end - at) d e ≡ fitted d at (be k n))
+unfolding written fitted put
+write_part k d at n {end = end} p h e =
+    let there : at + k ≤ length d = omega (arith, p, h) in
+    let m : end - at ≡ k = omega (arith, p) in
+    (rw (p, le-leb (at + k) (length d) there), rw (m, e, length_be, le-leb (at + k) (length d) there, drop-drop) refl)
 
 pub write_full : (k : ℕ) (d : List ℕ) (at n : ℕ) → length d < at + k → (bad 8 at ≡ written k d at) × (d ≡ fitted d at (be k n))
 unfolding written fitted
@@ -497,18 +552,17 @@ write_full k d at n h = (rw (lt-leb _ _ h), rw (length_be, lt-leb _ _ h))
 
 -- ---- and back: what a caller learns from an answer
 
--- of whatever was read: it was got, or it is cut and the caller hands up the place in the answer
-module _ {f : Field} {x : Read ℕ} where
-  pub read_got : {v n : ℕ} → field_of f ≡ x → f ≡ Got v n → x ≡ got v n
-  read_got e g = sym e ∙ ap field_of g
+-- of a field that was read: it was got, or it is cut at its own place
+pub read_got : {T : Type 0} (to : T → ℕ) (at : ℕ) {f : Option (T × ℕ)} {x : Read ℕ} {v : T} {n : ℕ} → field_at to at f ≡ x → f ≡ Some (v, n) → x ≡ got (to v) n
+read_got to at e g = sym e ∙ ap (field_at to at) g
 
-  pub read_cut : {p q : ℕ} → field_of f ≡ x → f ≡ Short p → q ≡ place_of (field_of f) → x ≡ bad 6 q
-  read_cut e g h = sym e ∙ ap field_of g ∙ ap (bad 6) (sym (h ∙ ap (λ f. place_of (field_of f)) g))
+pub read_cut : {T : Type 0} (to : T → ℕ) (at : ℕ) {f : Option (T × ℕ)} {x : Read ℕ} → field_at to at f ≡ x → f ≡ None → x ≡ bad 6 at
+read_cut to at e g = sym e ∙ ap (field_at to at) g
 
-pub write_back : (k : ℕ) (d : List ℕ) (at n : ℕ) {r : Written} {m : ℕ} → written_of r ≡ written k d at → r ≡ Next m
+pub write_back : (k : ℕ) (d : List ℕ) (at n : ℕ) {r : Option ℕ} {m : ℕ} → written_at at r ≡ written k d at → r ≡ Some m
     → (at + k ≤ length d) × (m ≡ at + k) × (fitted d at (be k n) ≡ put d at (be k n))
 unfolding written fitted
-write_back k d at n {m = m} e g = go (leb (at + k) (length d)) refl (ap written_of (sym g) ∙ e)
+write_back k d at n {m = m} e g = go (leb (at + k) (length d)) refl (ap (written_at at) (sym g) ∙ e)
   where
     go : (b : Bool) → leb (at + k) (length d) ≡ b → got (tt {0}) m ≡ cond b (got tt (at + k)) (bad 8 at)
         → (at + k ≤ length d) × (m ≡ at + k) × (cond (leb (at + length (be k n)) (length d)) (put d at (be k n)) d ≡ put d at (be k n))

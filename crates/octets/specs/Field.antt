@@ -1,25 +1,21 @@
 -- What the answers of field readers and writers mean: 01's number and values for each case.
---     field_of, place_of      a field that was read: its value and the next place, or 6 and its own place; which place that is
---     ignored               k octets whose value nobody asks for: it is answered as 0
---     written_of, written    a field that was written: the next place, or 8 and its own place; what k octets at a place come to
---     fitted                the buffer after a writer's call: the octets at their place, or as it was where they do not fit
+--     field_at, skipped_at    a field that was read or skipped at a place: its value and the next place, or 6 and its own place
+--     ignored                 k octets whose value nobody asks for: it is answered as 0
+--     written_at, written     a field that was written at a place: the next place, or 8 and its own place; what k octets come to
+--     fitted                  the buffer after a writer's call: the octets at their place, or as it was where they do not fit
 -- Assumes nothing: these are definitions.
-use Rattle.std.specs.Prelude.{ℕ, ◌+◌, cond, List, length, leb}
+use Rattle.std.specs.Prelude.{ℕ, ◌+◌, cond, List, length, leb, Option, None, Some}
 use Rattle.octets.specs.Octets.{put}
 use Rattle.octets.specs.Reader.{Read, got, bad, Reader, ◌>>◌, give, octets}
-use Rattle.octets.specs.declared.Field.{Field}
-use Rattle.octets.specs.declared.Field.TheVariants.{Got, Short}
-use Rattle.octets.specs.declared.Written.{Written}
-use Rattle.octets.specs.declared.Written.TheVariants.{Next, Full}
 
--- 6: "input ends in or before a due field"
-abbrev pub field_of : Field → Read ℕ
-field_of (Got value next) = got value next
-field_of (Short place) = bad 6 place
+-- 6: "input ends in or before a due field"; number says which number a value is
+abbrev pub field_at : {T : Type 0} → (T → ℕ) → ℕ → Option (T × ℕ) → Read ℕ
+field_at number at (Some field) = got (number field.0) field.1
+field_at number at None = bad 6 at
 
-abbrev pub place_of : {A : Type 0} → Read A → ℕ
-place_of (got a next) = next
-place_of (bad n place) = place
+abbrev pub skipped_at : ℕ → Option ℕ → Read ℕ
+skipped_at at (Some next) = got 0 next
+skipped_at at None = bad 6 at
 
 unfoldable pub ignored : ℕ → Reader ℕ
 ignored k = do
@@ -27,9 +23,9 @@ ignored k = do
   give 0
 
 -- 8: "lent buffer too small"
-abbrev pub written_of : Written → Read (Unit {0})
-written_of (Next next) = got tt next
-written_of (Full place) = bad 8 place
+abbrev pub written_at : ℕ → Option ℕ → Read (Unit {0})
+written_at at (Some next) = got tt next
+written_at at None = bad 8 at
 
 unfoldable pub written : ℕ → List ℕ → ℕ → Read (Unit {0})
 written k d at = cond (leb (at + k) (length d)) (got tt (at + k)) (bad 8 at)

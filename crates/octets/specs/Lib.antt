@@ -1,3 +1,4 @@
 pub mod Octets
 pub mod Reader
 pub mod Field
+pub mod Numbers

@@ -1,316 +1,229 @@
-// Field readers and writers at any place of a slice: numbers of 8, 16 and 32 bits, big-endian, and octets that
-// are skipped. Each is total: a place from which the field does not fit is answered, and never reached.
-// `number16`, `number32`, `whole32`, `whole64`, `copy4`, `copy8` and `copy16` are for callers who know that the octets are there.
+// Field readers and writers at any place of a slice: unsigned numbers, big-endian, and octets that are skipped or copied.
+// Each is total: a place from which the field does not fit is answered, and never reached. `read`, `write` and `skip` then
+// answer None; `number`, `whole` and `copy` are for callers who know that the octets are there.
 #![tactic(auto)]
 
-ghost use Rattle.std.specs.Prelude.{◌≡◌, ◌-◌, ◌<◌, length};
-ghost use Rattle.octets.specs.Octets.{number_at, whole_at, be, copied};
+ghost use Rattle.std.specs.Prelude.{◌≡◌, ◌-◌, ◌<◌, ◌≤◌, ◌^◌, ℕ, length};
+ghost use Rattle.octets.specs.Octets.{number_at, whole_at, value, be, copied};
 ghost use Rattle.octets.specs.Reader.{number};
-ghost use Rattle.octets.specs.Field.{field_of, place_of, ignored, written_of, written, fitted};
+ghost use Rattle.octets.specs.Field.{field_at, skipped_at, ignored, written_at, written, fitted};
+ghost use Rattle.octets.specs.Numbers.{few1, few2, few4, few8};
 
-// What reading a field finds.
-#[derive(Clone, Copy)]
-pub enum Field {
-    // The number, and the place past it.
-    Got { value: u32, next: usize },
-    // The octets end in or before the field that was due at this place.
-    Short { place: usize },
+// An unsigned number, as a message has it in so many octets.
+pub trait Unsigned: Copy {
+    ghost SIZE: { ℕ };
+
+    // Which number a value is.
+    ghost number: { Self → ℕ };
+
+    const SIZE: usize;
+
+    fn of_octets(o: &[u8]) -> Self
+        requires { length o.now ≡ SIZE }
+        ensures { number result ≡ value o.now };
+
+    fn of_wide(n: u64) -> Self
+        requires { n < 256 ^ SIZE }
+        ensures { number result ≡ n };
+
+    // Its octets, over so many others.
+    fn put(self, d: &mut [u8])
+        requires { length d.old ≡ SIZE }
+        ensures { d.new ≡ be SIZE (number self) };
+
+    // At least one octet, and no more than are widened.
+    ghost few: { (0 < SIZE) × (SIZE ≤ 8) };
 }
 
-// What writing a field did.
-#[derive(Clone, Copy)]
-pub enum Written {
-    // It stands there, and this is the place past it.
-    Next(usize),
-    // It does not fit at this place, and nothing was written.
-    Full(usize),
+impl Unsigned for u8 {
+    ghost SIZE = { 1 };
+
+    ghost number = { λ n. n };
+
+    const SIZE: usize = 1;
+
+    fn of_octets(o: &[u8]) -> u8 {
+        o[0]
+    }
+
+    fn of_wide(n: u64) -> u8 {
+        n as u8
+    }
+
+    fn put(self, d: &mut [u8]) {
+        d[0] = self;
+    }
+
+    ghost few = { few1 };
 }
 
-// An octet as a wider number.
-fn wide(x: u8) -> u32
-    ensures { (result ≡ x) × (result < 256) }
-{
-    x as u32
+impl Unsigned for u16 {
+    ghost SIZE = { 2 };
+
+    ghost number = { λ n. n };
+
+    const SIZE: usize = 2;
+
+    fn of_octets(o: &[u8]) -> u16 {
+        (o[0] as u16) * 256 + (o[1] as u16)
+    }
+
+    fn of_wide(n: u64) -> u16 {
+        n as u16
+    }
+
+    fn put(self, d: &mut [u8]) {
+        d[0] = (self / 256) as u8;
+        d[1] = (self % 256) as u8;
+    }
+
+    ghost few = { few2 };
+}
+
+impl Unsigned for u32 {
+    ghost SIZE = { 4 };
+
+    ghost number = { λ n. n };
+
+    const SIZE: usize = 4;
+
+    fn of_octets(o: &[u8]) -> u32 {
+        (((o[0] as u32) * 256 + (o[1] as u32)) * 256 + (o[2] as u32)) * 256 + (o[3] as u32)
+    }
+
+    fn of_wide(n: u64) -> u32 {
+        n as u32
+    }
+
+    fn put(self, d: &mut [u8]) {
+        d[0] = (self / 16777216) as u8;
+        d[1] = (self / 65536 % 256) as u8;
+        d[2] = (self / 256 % 256) as u8;
+        d[3] = (self % 256) as u8;
+    }
+
+    ghost few = { few4 };
+}
+
+impl Unsigned for u64 {
+    ghost SIZE = { 8 };
+
+    ghost number = { λ n. n };
+
+    const SIZE: usize = 8;
+
+    fn of_octets(o: &[u8]) -> u64 {
+        let high = u32::of_octets(&o[..4]);
+        let low = u32::of_octets(&o[4..8]);
+        (high as u64) * 4294967296 + (low as u64)
+    }
+
+    fn of_wide(n: u64) -> u64 {
+        n
+    }
+
+    fn put(self, d: &mut [u8]) {
+        ((self / 4294967296) as u32).put(&mut d[..4]);
+        ((self % 4294967296) as u32).put(&mut d[4..8]);
+    }
+
+    ghost few = { few8 };
 }
 
 // How many of n octets stand at a place and past it: none where the place is past the end.
 fn left(n: usize, at: usize) -> usize
     ensures { result ≡ n - at }
 {
-    if n < at {
-        return 0;
-    }
-    n - at
+    n.saturating_sub(at)
 }
 
-// A reader tests its place against the last one from which its field fits: of one slice that is the same for every place.
-pub fn read8(s: &[u8], at: usize) -> Field
-    ensures { field_of result ≡ number 1 s.now at }
+// The number at a place, and the place past it. The place is tested against the last one from which the number fits: of one
+// slice that is the same for every place.
+pub fn read<T: Unsigned>(s: &[u8], at: usize) -> Option<(T, usize)>
+    ensures { field_at T.number at result ≡ number T.SIZE s.now at }
 {
-    if s.len() < 1 {
-        return Field::Short { place: at };
+    if s.len() < T::SIZE {
+        return None;
     }
-    if s.len() - 1 < at {
-        return Field::Short { place: at };
+    if s.len() - T::SIZE < at {
+        return None;
     }
-    Field::Got {
-        value: wide(s[at]),
-        next: at + 1,
-    }
+    let next = at + T::SIZE;
+    Some((T::of_octets(&s[at..next]), next))
 }
 
-pub fn read16(s: &[u8], at: usize) -> Field
-    ensures { field_of result ≡ number 2 s.now at }
-{
-    if s.len() < 2 {
-        return Field::Short { place: at };
-    }
-    if s.len() - 2 < at {
-        return Field::Short { place: at };
-    }
-    let a = wide(s[at]);
-    let b = wide(s[at + 1]);
-    Field::Got {
-        value: a * 256 + b,
-        next: at + 2,
-    }
-}
-
-pub fn read32(s: &[u8], at: usize) -> Field
-    ensures { field_of result ≡ number 4 s.now at }
-{
-    if s.len() < 4 {
-        return Field::Short { place: at };
-    }
-    if s.len() - 4 < at {
-        return Field::Short { place: at };
-    }
-    let a = wide(s[at]);
-    let b = wide(s[at + 1]);
-    let c = wide(s[at + 2]);
-    let d = wide(s[at + 3]);
-    Field::Got {
-        value: ((a * 256 + b) * 256 + c) * 256 + d,
-        next: at + 4,
-    }
-}
-
-// So many octets, whatever they are: their value is answered as 0.
-pub fn skip(s: &[u8], at: usize, n: usize) -> Field
-    ensures { field_of result ≡ ignored n s.now at }
+// The place past so many octets, whatever they are.
+pub fn skip(s: &[u8], at: usize, n: usize) -> Option<usize>
+    ensures { skipped_at at result ≡ ignored n s.now at }
 {
     if s.len() < at {
-        return Field::Short { place: at };
+        return None;
     }
     if s.len() - at < n {
-        return Field::Short { place: at };
+        return None;
     }
-    Field::Got {
-        value: 0,
-        next: at + n,
-    }
+    Some(at + n)
 }
 
-// The place in an answer, so that a caller hands up the reader's own: past the field, or where a cut one was due.
-pub fn place(f: Field) -> usize
-    ensures { result ≡ place_of (field_of f) }
+// The number that fewer than eight octets spell.
+fn spelled(o: &[u8]) -> u64
+    requires { length o.now < 8 }
+    ensures { result ≡ value o.now }
 {
-    match f {
-        Field::Got { value: _, next } => next,
-        Field::Short { place } => place,
+    let mut n: u64 = 0;
+    for x in o {
+        n = n * 256 + (*x as u64);
     }
+    n
 }
 
-// The number in the octets at a place, of which there are fewer than four.
-fn short_number(s: &[u8], at: usize, n: usize) -> u32
-    requires { (n ≡ length s.now - at) × (n < 4) }
-    ensures { result ≡ number_at n s.now at }
-{
-    if n == 0 {
-        return 0;
-    }
-    if n == 1 {
-        return wide(s[at]);
-    }
-    if n == 2 {
-        return wide(s[at]) * 256 + wide(s[at + 1]);
-    }
-    (wide(s[at]) * 256 + wide(s[at + 1])) * 256 + wide(s[at + 2])
-}
-
-// The number in the two octets at a place, or in those that are there: for a count.
-pub fn number16(s: &[u8], at: usize) -> usize
-    ensures { result ≡ number_at 2 s.now at }
+// The number in the octets at a place, or in those that are there.
+pub fn number<T: Unsigned>(s: &[u8], at: usize) -> T
+    ensures { T.number result ≡ number_at T.SIZE s.now at }
 {
     let n = left(s.len(), at);
-    if n < 2 {
-        return short_number(s, at, n) as usize;
+    if n < T::SIZE {
+        return T::of_wide(spelled(&s[s.len() - n..]));
     }
-    (wide(s[at]) * 256 + wide(s[at + 1])) as usize
+    T::of_octets(&s[at..at + T::SIZE])
 }
 
-// The number in the four octets at a place, or in those that are there.
-pub fn number32(s: &[u8], at: usize) -> u32
-    ensures { result ≡ number_at 4 s.now at }
+// The number in the octets at a place, or 0 where they are not whole. It is small, so that the compiler puts it into the loops that read addresses;
+// `number` is not, since it reads what is there.
+pub fn whole<T: Unsigned>(s: &[u8], at: usize) -> T
+    ensures { T.number result ≡ whole_at T.SIZE s.now at }
 {
-    let n = left(s.len(), at);
-    if n < 4 {
-        return short_number(s, at, n);
+    if left(s.len(), at) < T::SIZE {
+        return T::of_wide(0);
     }
-    ((wide(s[at]) * 256 + wide(s[at + 1])) * 256 + wide(s[at + 2])) * 256 + wide(s[at + 3])
+    T::of_octets(&s[at..at + T::SIZE])
 }
 
-// The number in the four octets at a place, or 0 where they are not whole. It is small, so that the compiler puts it into the loops that read addresses;
-// `number32` is not, since it reads what is there.
-pub fn whole32(s: &[u8], at: usize) -> u32
-    ensures { result ≡ whole_at 4 s.now at }
+// The first N octets of one slice, stored over those of another. They are read into an array before the first is
+// stored: the compiler does not know that the two are apart. Lend parts of N: their lengths are then not tested.
+pub fn copy<const N: usize>(s: &[u8], d: &mut [u8])
+    ensures { d.new ≡ copied N s.now d.old }
 {
-    if left(s.len(), at) < 4 {
-        return 0;
-    }
-    ((wide(s[at]) * 256 + wide(s[at + 1])) * 256 + wide(s[at + 2])) * 256 + wide(s[at + 3])
-}
-
-// The same of eight octets.
-pub fn whole64(s: &[u8], at: usize) -> u64
-    ensures { result ≡ whole_at 8 s.now at }
-{
-    if left(s.len(), at) < 8 {
-        return 0;
-    }
-    let high = ((wide(s[at]) * 256 + wide(s[at + 1])) * 256 + wide(s[at + 2])) * 256
-        + wide(s[at + 3]);
-    let low = ((wide(s[at + 4]) * 256 + wide(s[at + 5])) * 256 + wide(s[at + 6])) * 256
-        + wide(s[at + 7]);
-    (high as u64) * 4294967296 + (low as u64)
-}
-
-// The first four octets of one slice, stored over those of another. They are read before the first is stored: the
-// compiler does not know that the two are apart. Lend parts of four: their lengths are then not tested.
-pub fn copy4(s: &[u8], d: &mut [u8])
-    ensures { d.new ≡ copied 4 s.now d.old }
-{
-    if s.len() < 4 {
+    if s.len() < N {
         return;
     }
-    if d.len() < 4 {
+    if d.len() < N {
         return;
     }
-    let a = s[0];
-    let b = s[1];
-    let c = s[2];
-    let e = s[3];
-    d[0] = a;
-    d[1] = b;
-    d[2] = c;
-    d[3] = e;
+    let mut octets = [0; N];
+    octets.copy_from_slice(&s[..N]);
+    d[..N].copy_from_slice(&octets);
 }
 
-// The same with eight octets: the compiler makes it one load and one store.
-pub fn copy8(s: &[u8], d: &mut [u8])
-    ensures { d.new ≡ copied 8 s.now d.old }
+// The octets of a number at a place: the place past them, or None where they do not fit and nothing was written.
+pub fn write<T: Unsigned>(d: &mut [u8], at: usize, n: T) -> Option<usize>
+    ensures answer { written_at at result ≡ written T.SIZE d.old at }
+    ensures buffer { d.new ≡ fitted d.old at (be T.SIZE (T.number n)) }
 {
-    if s.len() < 8 {
-        return;
+    if left(d.len(), at) < T::SIZE {
+        return None;
     }
-    if d.len() < 8 {
-        return;
-    }
-    let a = s[0];
-    let b = s[1];
-    let c = s[2];
-    let e = s[3];
-    let f = s[4];
-    let g = s[5];
-    let h = s[6];
-    let i = s[7];
-    d[0] = a;
-    d[1] = b;
-    d[2] = c;
-    d[3] = e;
-    d[4] = f;
-    d[5] = g;
-    d[6] = h;
-    d[7] = i;
-}
-
-// The same with sixteen octets: one load and one store too. As two copies of eight, or four of four, the compiler makes so many of each.
-pub fn copy16(s: &[u8], d: &mut [u8])
-    ensures { d.new ≡ copied 16 s.now d.old }
-{
-    if s.len() < 16 {
-        return;
-    }
-    if d.len() < 16 {
-        return;
-    }
-    let a = s[0];
-    let b = s[1];
-    let c = s[2];
-    let e = s[3];
-    let f = s[4];
-    let g = s[5];
-    let h = s[6];
-    let i = s[7];
-    let j = s[8];
-    let k = s[9];
-    let l = s[10];
-    let m = s[11];
-    let n = s[12];
-    let o = s[13];
-    let p = s[14];
-    let q = s[15];
-    d[0] = a;
-    d[1] = b;
-    d[2] = c;
-    d[3] = e;
-    d[4] = f;
-    d[5] = g;
-    d[6] = h;
-    d[7] = i;
-    d[8] = j;
-    d[9] = k;
-    d[10] = l;
-    d[11] = m;
-    d[12] = n;
-    d[13] = o;
-    d[14] = p;
-    d[15] = q;
-}
-
-pub fn write8(d: &mut [u8], at: usize, n: u8) -> Written
-    ensures answer { written_of result ≡ written 1 d.old at }
-    ensures buffer { d.new ≡ fitted d.old at (be 1 n) }
-{
-    if left(d.len(), at) < 1 {
-        return Written::Full(at);
-    }
-    d[at] = n;
-    Written::Next(at + 1)
-}
-
-pub fn write16(d: &mut [u8], at: usize, n: u16) -> Written
-    ensures answer { written_of result ≡ written 2 d.old at }
-    ensures buffer { d.new ≡ fitted d.old at (be 2 n) }
-{
-    if left(d.len(), at) < 2 {
-        return Written::Full(at);
-    }
-    d[at] = (n / 256) as u8;
-    d[at + 1] = (n % 256) as u8;
-    Written::Next(at + 2)
-}
-
-pub fn write32(d: &mut [u8], at: usize, n: u32) -> Written
-    ensures answer { written_of result ≡ written 4 d.old at }
-    ensures buffer { d.new ≡ fitted d.old at (be 4 n) }
-{
-    if left(d.len(), at) < 4 {
-        return Written::Full(at);
-    }
-    d[at] = (n / 16777216) as u8;
-    d[at + 1] = (n / 65536 % 256) as u8;
-    d[at + 2] = (n / 256 % 256) as u8;
-    d[at + 3] = (n % 256) as u8;
-    Written::Next(at + 4)
+    let next = at + T::SIZE;
+    n.put(&mut d[at..next]);
+    Some(next)
 }

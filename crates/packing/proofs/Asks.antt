@@ -18,20 +18,18 @@ use Rattle.format.proofs.Calls.{asked_short}
 use Rattle.format.specs.declared.Kind.{Kind}
 use Rattle.format.specs.declared.Refusal.{Refusal}
 use Rattle.entries.specs.Kinds.{entries_for, listed_by}
-use Rattle.entries.specs.declared.Listed.{Listed}
-use Rattle.entries.specs.declared.Listed.TheVariants.{Allowed, Bad}
 use Rattle.packing.specs.Answers.{limit_of, limited}
-use Rattle.packing.specs.declared.limit.Limit.{Limit}
-use Rattle.packing.specs.declared.limit.Limit.TheVariants.{Is, Refused}
 use Rattle.entries.proofs.ByKind.{family_is}
+use Rattle.std.specs.Prelude.{Result, Ok, Err, Option, None, Some}
+use Rattle.format.specs.Outcome.{reason_number}
 
 -- what the answer about the limit says
-module _ (ipv6 : Bool) (k : Kind) (limit : ℕ) {x : Limit} where
-  pub read_gives : {l : ℕ} → x ≡ Is l → limit_of x ≡ read_limit (family_of ipv6) limit → read_limit (entries_for ipv6 k).family limit ≡ gives l
+module _ (ipv6 : Bool) (k : Kind) (limit : ℕ) {x : Result ℕ Refusal} where
+  pub read_gives : {l : ℕ} → x ≡ Ok l → limit_of x ≡ read_limit (family_of ipv6) limit → read_limit (entries_for ipv6 k).family limit ≡ gives l
   unfolding limit_of
   read_gives p q = rw (family_is ipv6 k) (sym q ∙ ap limit_of p)
 
-  pub read_refuses : {r : Refusal} → x ≡ Refused r → limit_of x ≡ read_limit (family_of ipv6) limit → read_limit (entries_for ipv6 k).family limit ≡ refuses r.number r.place
+  pub read_refuses : {r : Refusal} → x ≡ Err r → limit_of x ≡ read_limit (family_of ipv6) limit → read_limit (entries_for ipv6 k).family limit ≡ refuses (reason_number r.reason) r.place
   unfolding limit_of
   read_refuses p q = rw (family_is ipv6 k) (sym q ∙ ap limit_of p)
 
@@ -72,13 +70,13 @@ module _ (E : Entries) (o : List ℕ) (start limit room : ℕ) where
         unfolding asked limited whole count refuse_if Outcome.◌>>=◌ Outcome.◌>>◌
         ask_start past = rw (read, le-ltb room l enough, eq-eqb (length o % E.size) 0 full, lt-leb start (length o / E.size) past)
 
-        module _ (inside : start ≤ length o / E.size) {x : Listed} (look : listed_by x ≡ first_bad E o start) where
-          pub ask_bad : {i : ℕ} → x ≡ Bad i → limited (asked E o start limit room) ≡ refuses 7 i
+        module _ (inside : start ≤ length o / E.size) {x : Option ℕ} (look : listed_by x ≡ first_bad E o start) where
+          pub ask_bad : {i : ℕ} → x ≡ Some i → limited (asked E o start limit room) ≡ refuses 7 i
           unfolding asked limited listed_by whole count refuse_if Outcome.◌>>=◌ Outcome.◌>>◌
           ask_bad bad =
               rw (read, le-ltb room l enough, eq-eqb (length o % E.size) 0 full, le-leb start (length o / E.size) inside, ← look, bad)
 
-          pub ask_fine : x ≡ Allowed → limited (asked E o start limit room) ≡ gives l
+          pub ask_fine : x ≡ None → limited (asked E o start limit room) ≡ gives l
           unfolding asked limited listed_by whole count refuse_if Outcome.◌>>=◌ Outcome.◌>>◌
           ask_fine fine =
               rw (read, le-ltb room l enough, eq-eqb (length o % E.size) 0 full, le-leb start (length o / E.size) inside, ← look, fine)

@@ -94,11 +94,11 @@ module _ {f : Family} {test : AssertRecord → Bool} {o : List ℕ} {n all k at 
     unfolding leading
     count_next at' q p = rw p (one_left _ (λ left e a s. let s' = rw q at s in record { left = left; count = omega arith; there = a; same = omega arith }))
 
-  pub count_end : n ≤ k → k ≡ all
+  pub count_end : n ≤ k → n ≡ all
   unfolding leading entries_at
   count_end h = go t.left t.count t.same
     where
-      go : (left : ℕ) → k + left ≡ n → k + leading test (asserts f o at left) ≡ all → k ≡ all
+      go : (left : ℕ) → k + left ≡ n → k + leading test (asserts f o at left) ≡ all → n ≡ all
       go zero e s = omega arith
       go (suc left) e s = absurd (omega arith)
 

@@ -8,3 +8,4 @@ pub mod Limits
 pub mod Asks
 pub mod Packs
 pub mod Choices
+pub mod Reasons

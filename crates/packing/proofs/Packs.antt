@@ -22,17 +22,17 @@ use Rattle.format.proofs.Outcomes.{no_refusal, gives_same}
 use Rattle.format.proofs.Calls.{limit_range, Asked, asked_gives, gives_asked}
 use Rattle.format.proofs.Families.{least_usual}
 use Rattle.packing.specs.Answers.{limit_of, limited}
-use Rattle.packing.specs.declared.limit.Limit.{Limit}
-use Rattle.packing.specs.declared.limit.Limit.TheVariants.{Is, Refused}
 use Rattle.entries.specs.Kinds.{entries_for}
 use Rattle.entries.proofs.ByKind.{family_is}
+use Rattle.std.specs.Prelude.{Result, Ok, Err}
+use Rattle.format.specs.Outcome.{reason_number}
 
-pub limit_refused : {A : Type 0} (x : Outcome (Due A)) {a : Limit} {r : Refusal} → a ≡ Refused r → limit_of a ≡ limited x → x ≡ refuses r.number r.place
+pub limit_refused : {A : Type 0} (x : Outcome (Due A)) {a : Result ℕ Refusal} {r : Refusal} → a ≡ Err r → limit_of a ≡ limited x → x ≡ refuses (reason_number r.reason) r.place
 unfolding limit_of limited
 limit_refused (gives (due l es)) p q = absurd (no_refusal (sym (ap limit_of p) ∙ q))
-limit_refused (refuses n p) {r = r} e q = let same : ◌≡◌ {A = Outcome ℕ} (refuses n p) (refuses r.number r.place) = sym q ∙ ap limit_of e in ap₂ refuses (cc) (cc)
+limit_refused (refuses n p) {r = r} e q = let same : ◌≡◌ {A = Outcome ℕ} (refuses n p) (refuses (reason_number r.reason) r.place) = sym q ∙ ap limit_of e in ap₂ refuses (cc) (cc)
 
-pub limit_asked : (E : Entries) (o : List ℕ) (start limit room : ℕ) {a : Limit} {l : ℕ} → a ≡ Is l → limit_of a ≡ limited (asked E o start limit room) → Asked E o start limit room l
+pub limit_asked : (E : Entries) (o : List ℕ) (start limit room : ℕ) {a : Result ℕ Refusal} {l : ℕ} → a ≡ Ok l → limit_of a ≡ limited (asked E o start limit room) → Asked E o start limit room l
 unfolding limit_of limited
 limit_asked E o start limit room {a} {l} p q = go (asked E o start limit room) refl (sym q ∙ ap limit_of p)
   where

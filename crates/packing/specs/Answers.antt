@@ -6,24 +6,23 @@
 use Rattle.std.specs.Prelude.{ℕ}
 use Rattle.format.specs.Outcome.{Outcome, gives, refuses}
 use Rattle.format.specs.Packing.{Due, due, Wrote, wrote, Chosen, chosen}
-use Rattle.packing.specs.declared.limit.Limit.{Limit}
-use Rattle.packing.specs.declared.limit.Limit.TheVariants.{Is, Refused as NoLimit}
 use Rattle.packing.specs.declared.calls.Packing.{Packing}
-use Rattle.packing.specs.declared.calls.Packing.TheVariants.{Wrote as Written, Refused}
 use Rattle.packing.specs.declared.choice.Choice.{Choice}
-use Rattle.packing.specs.declared.choice.Choice.TheVariants.{Wrote as Both, Refused as Neither}
+use Rattle.std.specs.Prelude.{Result, Ok, Err}
+use Rattle.format.specs.declared.Refusal.{Refusal}
+use Rattle.format.specs.Outcome.{reason_number}
 
-unfoldable pub packed : Packing → Outcome Wrote
-packed (Written length taken) = gives (wrote length taken)
-packed (Refused r) = refuses r.number r.place
+unfoldable pub packed : Result Packing Refusal → Outcome Wrote
+packed (Ok p) = gives (wrote p.length p.taken)
+packed (Err r) = refuses (reason_number r.reason) r.place
 
-unfoldable pub chosen_by : Choice → Outcome Chosen
-chosen_by (Both aggregated length taken) = gives (chosen aggregated length taken)
-chosen_by (Neither r) = refuses r.number r.place
+unfoldable pub chosen_by : Result Choice Refusal → Outcome Chosen
+chosen_by (Ok c) = gives (chosen c.aggregated c.length c.taken)
+chosen_by (Err r) = refuses (reason_number r.reason) r.place
 
-unfoldable pub limit_of : Limit → Outcome ℕ
-limit_of (Is l) = gives l
-limit_of (NoLimit r) = refuses r.number r.place
+unfoldable pub limit_of : Result ℕ Refusal → Outcome ℕ
+limit_of (Ok l) = gives l
+limit_of (Err r) = refuses (reason_number r.reason) r.place
 
 unfoldable pub limited : {A : Type 0} → Outcome (Due A) → Outcome ℕ
 limited (gives (due l es)) = gives l

@@ -44,8 +44,8 @@ fn put_address(ipv6: bool, source: bool, e: &[u8], at: usize, d: &mut [u8], out:
     put_group(ipv6, e, group, d, out);
 }
 
-fn put_addresses_of(
-    ipv6: bool,
+// The sources or the groups of n entries, one after another.
+fn put_addresses<const IPV6: bool>(
     source: bool,
     e: &[u8],
     from: usize,
@@ -53,43 +53,20 @@ fn put_addresses_of(
     d: &mut [u8],
     start: usize,
 ) -> usize
-    requires { (from + entry_size (family_of ipv6) * n ≤ length e.now) × (start + address_size (family_of ipv6) source * n ≤ length d.old) }
-    ensures next { result ≡ start + address_size (family_of ipv6) source * n }
-    ensures buffer { d.new ≡ put d.old start (each (address_octets (family_of ipv6) source) (asserts (family_of ipv6) e.now from n)) }
+    requires { (from + entry_size (family_of IPV6) * n ≤ length e.now) × (start + address_size (family_of IPV6) source * n ≤ length d.old) }
+    ensures next { result ≡ start + address_size (family_of IPV6) source * n }
+    ensures buffer { d.new ≡ put d.old start (each (address_octets (family_of IPV6) source) (asserts (family_of IPV6) e.now from n)) }
 {
-    let entry = assert_size(ipv6);
-    let size = address_size(ipv6, source);
-    let mut i = 0;
+    let entry = assert_size(IPV6);
+    let size = address_size(IPV6, source);
     let mut at = from;
     let mut out = start;
-    while i < n {
-        put_address(ipv6, source, e, at, d, out);
+    for _ in 0..n {
+        put_address(IPV6, source, e, at, d, out);
         at += entry;
         out += size;
-        i += 1;
     }
     out
-}
-
-// The sources or the groups of n entries, one after another. The family is a literal, so that the compiler makes a loop
-// for each.
-fn put_addresses(
-    ipv6: bool,
-    source: bool,
-    e: &[u8],
-    from: usize,
-    n: usize,
-    d: &mut [u8],
-    start: usize,
-) -> usize
-    requires { (from + entry_size (family_of ipv6) * n ≤ length e.now) × (start + address_size (family_of ipv6) source * n ≤ length d.old) }
-    ensures next { result ≡ start + address_size (family_of ipv6) source * n }
-    ensures buffer { d.new ≡ put d.old start (each (address_octets (family_of ipv6) source) (asserts (family_of ipv6) e.now from n)) }
-{
-    if ipv6 {
-        return put_addresses_of(true, source, e, from, n, d, start);
-    }
-    put_addresses_of(false, source, e, from, n, d, start)
 }
 
 // A 16-bit number and two reserved octets.
@@ -115,33 +92,31 @@ pub(crate) fn most_apart(ipv6: bool) -> usize
 }
 
 // How many at the front of n entries have source 0.
-pub(crate) fn zeros(ipv6: bool, e: &[u8], from: usize, n: usize) -> usize
-    requires { from + entry_size (family_of ipv6) * n ≤ length e.now }
-    ensures { result ≡ leading zero_source (asserts (family_of ipv6) e.now from n) }
+pub(crate) fn zeros<const IPV6: bool>(e: &[u8], from: usize, n: usize) -> usize
+    requires { from + entry_size (family_of IPV6) * n ≤ length e.now }
+    ensures { result ≡ leading zero_source (asserts (family_of IPV6) e.now from n) }
 {
-    let source = front_size(ipv6) + width(ipv6);
-    let size = assert_size(ipv6);
-    let mut k = 0;
+    let source = front_size(IPV6) + width(IPV6);
+    let size = assert_size(IPV6);
     let mut at = from;
-    while k < n {
-        if !is_none(ipv6, e, at + source) {
+    for k in 0..n {
+        if !is_none(IPV6, e, at + source) {
             return k;
         }
-        k += 1;
         at += size;
     }
-    k
+    n
 }
 
 // Whether k entries of one group are written apart.
-fn are_apart(ipv6: bool, e: &[u8], from: usize, k: usize) -> bool
-    requires { from + entry_size (family_of ipv6) * k ≤ length e.now }
-    ensures { result ≡ apart (family_of ipv6) (asserts (family_of ipv6) e.now from k) }
+fn are_apart<const IPV6: bool>(e: &[u8], from: usize, k: usize) -> bool
+    requires { from + entry_size (family_of IPV6) * k ≤ length e.now }
+    ensures { result ≡ apart (family_of IPV6) (asserts (family_of IPV6) e.now from k) }
 {
-    if most_apart(ipv6) < k {
+    if most_apart(IPV6) < k {
         return false;
     }
-    zeros(ipv6, e, from, k) == k
+    zeros::<IPV6>(e, from, k) == k
 }
 
 // What a record of the group at a place, with p sources, begins with.
@@ -157,64 +132,60 @@ fn put_group_head(ipv6: bool, e: &[u8], at: usize, p: usize, d: &mut [u8], out: 
 }
 
 // k group records of the group at a place, all without sources.
-fn put_apart(ipv6: bool, e: &[u8], at: usize, k: usize, d: &mut [u8], start: usize) -> usize
-    requires { (at + (family_of ipv6).width ≤ length e.now) × (start + ((family_of ipv6).width + 8) * k ≤ length d.old) }
-    ensures next { result ≡ start + ((family_of ipv6).width + 8) * k }
-    ensures buffer { d.new ≡ put d.old start (each (group_record_octets (family_of ipv6)) (replicate k (of_group (number_at (family_of ipv6).width e.now at) []))) }
+fn put_apart<const IPV6: bool>(e: &[u8], at: usize, k: usize, d: &mut [u8], start: usize) -> usize
+    requires { (at + (family_of IPV6).width ≤ length e.now) × (start + ((family_of IPV6).width + 8) * k ≤ length d.old) }
+    ensures next { result ≡ start + ((family_of IPV6).width + 8) * k }
+    ensures buffer { d.new ≡ put d.old start (each (group_record_octets (family_of IPV6)) (replicate k (of_group (number_at (family_of IPV6).width e.now at) []))) }
 {
-    let mut i = 0;
     let mut out = start;
-    while i < k {
-        out = put_group_head(ipv6, e, at, 0, d, out);
-        i += 1;
+    for _ in 0..k {
+        out = put_group_head(IPV6, e, at, 0, d, out);
     }
     out
 }
 
 // The group records of k entries of one group: one, or k without sources where that is shorter.
-pub(crate) fn put_group_records(
-    ipv6: bool,
+pub(crate) fn put_group_records<const IPV6: bool>(
     e: &[u8],
     from: usize,
     k: usize,
     d: &mut [u8],
     out: usize,
 ) -> Records
-    requires { (0 < k) × (from + entry_size (family_of ipv6) * k ≤ length e.now) × (out + length (one_of (family_of ipv6) Group (asserts (family_of ipv6) e.now from k)) ≤ length d.old) }
-    ensures next { result.next ≡ out + length (one_of (family_of ipv6) Group (asserts (family_of ipv6) e.now from k)) }
-    ensures number { result.number ≡ length (records_in (family_of ipv6) Group (asserts (family_of ipv6) e.now from k)) }
-    ensures buffer { d.new ≡ put d.old out (one_of (family_of ipv6) Group (asserts (family_of ipv6) e.now from k)) }
+    requires { (0 < k) × (from + entry_size (family_of IPV6) * k ≤ length e.now) × (out + length (one_of (family_of IPV6) Group (asserts (family_of IPV6) e.now from k)) ≤ length d.old) }
+    ensures next { result.next ≡ out + length (one_of (family_of IPV6) Group (asserts (family_of IPV6) e.now from k)) }
+    ensures number { result.number ≡ length (records_in (family_of IPV6) Group (asserts (family_of IPV6) e.now from k)) }
+    ensures buffer { d.new ≡ put d.old out (one_of (family_of IPV6) Group (asserts (family_of IPV6) e.now from k)) }
 {
-    let group = from + front_size(ipv6);
-    if are_apart(ipv6, e, from, k) {
-        let end = put_apart(ipv6, e, group, k, d, out);
+    let group = from + front_size(IPV6);
+    if are_apart::<IPV6>(e, from, k) {
+        let end = put_apart::<IPV6>(e, group, k, d, out);
         return Records {
             next: end,
             number: k,
         };
     }
-    let head = put_group_head(ipv6, e, group, k, d, out);
-    let next = put_addresses(ipv6, true, e, from, k, d, head);
+    let head = put_group_head(IPV6, e, group, k, d, out);
+    let next = put_addresses::<IPV6>(true, e, from, k, d, head);
     Records { next, number: 1 }
 }
 
 // The source aggregated record of k entries.
-pub(crate) fn put_source_aggregated(
-    ipv6: bool,
+pub(crate) fn put_source_aggregated<const IPV6: bool>(
     e: &[u8],
     from: usize,
     k: usize,
     d: &mut [u8],
     out: usize,
 ) -> usize
-    requires { (0 < k) × (from + entry_size (family_of ipv6) * k ≤ length e.now) × (r_bit (number_at 4 e.now (group_at (family_of ipv6) from + 2 * (family_of ipv6).width)) ≡ false) × (out + length (one_of (family_of ipv6) Aggregated (asserts (family_of ipv6) e.now from k)) ≤ length d.old) }
-    ensures next { result ≡ out + length (one_of (family_of ipv6) Aggregated (asserts (family_of ipv6) e.now from k)) }
-    ensures buffer { d.new ≡ put d.old out (one_of (family_of ipv6) Aggregated (asserts (family_of ipv6) e.now from k)) }
+    requires { (0 < k) × (from + entry_size (family_of IPV6) * k ≤ length e.now) × (r_bit (number_at 4 e.now (group_at (family_of IPV6) from + 2 * (family_of IPV6).width)) ≡ false) × (out + length (one_of (family_of IPV6) Aggregated (asserts (family_of IPV6) e.now from k)) ≤ length d.old) }
+    ensures next { result ≡ out + length (one_of (family_of IPV6) Aggregated (asserts (family_of IPV6) e.now from k)) }
+    ensures buffer { d.new ≡ put d.old out (one_of (family_of IPV6) Aggregated (asserts (family_of IPV6) e.now from k)) }
 {
-    let w = width(ipv6);
-    let group = from + front_size(ipv6);
+    let w = width(IPV6);
+    let group = from + front_size(IPV6);
     put_metric(e, group + 2 * w, d, out);
-    put_source(ipv6, e, group + w, d, out + 8);
+    put_source(IPV6, e, group + w, d, out + 8);
     put_number(d, out + (w + 10), k);
-    put_addresses(ipv6, false, e, from, k, d, out + (w + 14))
+    put_addresses::<IPV6>(false, e, from, k, d, out + (w + 14))
 }

@@ -5,16 +5,15 @@ ghost use Rattle.format.specs.Packing.{plain, simple, aggregated, null_register,
 ghost use Rattle.packing.specs.Kinds.{form_for, is_packed};
 ghost use Rattle.packing.specs.Answers.{packed};
 
-use crate::limit::{Limit, asked};
+use crate::limit::asked;
 use crate::most::write_most;
 use format::{AddressFamily, Kind, Path, Refusal, is_ipv6};
 
-// What a packing call did.
+// What a packing call wrote: one message of so many octets, of so many entries.
 #[derive(Clone, Copy)]
-pub enum Packing {
-    // One message of so many octets, of so many entries.
-    Wrote { length: usize, taken: usize },
-    Refused(Refusal),
+pub struct Packing {
+    pub length: usize,
+    pub taken: usize,
 }
 
 // Packs a message of a kind.
@@ -26,23 +25,18 @@ fn pack(
     start: usize,
     limit: usize,
     d: &mut [u8],
-) -> Packing
+) -> Result<Packing, Refusal>
     requires { is_packed kind ≡ true }
     ensures answer { packed result ≡ (packing (form_for (is_ipv6 family) kind) path e.now start limit d.old).answer }
     ensures buffer { d.new ≡ (packing (form_for (is_ipv6 family) kind) path e.now start limit d.old).buffer }
 {
     let ipv6 = is_ipv6(family);
-    let x = asked(ipv6, kind, e, start, limit, d.len());
-    match x {
-        Limit::Refused(r) => Packing::Refused(r),
-        Limit::Is(l) => {
-            let w = write_most(ipv6, path, kind, e, start, l, d);
-            Packing::Wrote {
-                length: w.next,
-                taken: w.taken,
-            }
-        }
-    }
+    let l = asked(ipv6, kind, e, start, limit, d.len())?;
+    let w = write_most(ipv6, path, kind, e, start, l, d);
+    Ok(Packing {
+        length: w.next,
+        taken: w.taken,
+    })
 }
 
 // A plain assert: one entry.
@@ -53,7 +47,7 @@ pub fn pack_assert(
     start: usize,
     limit: usize,
     d: &mut [u8],
-) -> Packing
+) -> Result<Packing, Refusal>
     ensures answer { packed result ≡ (packing (plain (family_named family)) path e.now start limit d.old).answer }
     ensures buffer { d.new ≡ (packing (plain (family_named family)) path e.now start limit d.old).buffer }
 {
@@ -68,7 +62,7 @@ pub fn pack_simple(
     start: usize,
     limit: usize,
     d: &mut [u8],
-) -> Packing
+) -> Result<Packing, Refusal>
     ensures answer { packed result ≡ (packing (simple (family_named family)) path e.now start limit d.old).answer }
     ensures buffer { d.new ≡ (packing (simple (family_named family)) path e.now start limit d.old).buffer }
 {
@@ -83,7 +77,7 @@ pub fn pack_aggregated(
     start: usize,
     limit: usize,
     d: &mut [u8],
-) -> Packing
+) -> Result<Packing, Refusal>
     ensures answer { packed result ≡ (packing (aggregated (family_named family)) path e.now start limit d.old).answer }
     ensures buffer { d.new ≡ (packing (aggregated (family_named family)) path e.now start limit d.old).buffer }
 {
@@ -98,7 +92,7 @@ pub fn pack_null_register(
     start: usize,
     limit: usize,
     d: &mut [u8],
-) -> Packing
+) -> Result<Packing, Refusal>
     ensures answer { packed result ≡ (packing (null_register (family_named family)) path e.now start limit d.old).answer }
     ensures buffer { d.new ≡ (packing (null_register (family_named family)) path e.now start limit d.old).buffer }
 {
@@ -113,7 +107,7 @@ pub fn pack_register_stop(
     start: usize,
     limit: usize,
     d: &mut [u8],
-) -> Packing
+) -> Result<Packing, Refusal>
     ensures answer { packed result ≡ (packing (register_stop (family_named family)) path e.now start limit d.old).answer }
     ensures buffer { d.new ≡ (packing (register_stop (family_named family)) path e.now start limit d.old).buffer }
 {

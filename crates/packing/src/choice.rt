@@ -4,21 +4,17 @@ ghost use Rattle.format.specs.Family.{family_named};
 ghost use Rattle.format.specs.Packing.{choice};
 ghost use Rattle.packing.specs.Answers.{chosen_by};
 
-use crate::limit::{Limit, asked};
+use crate::limit::asked;
 use crate::most::write_most;
-use crate::within::{Fitted, smaller};
+use crate::within::Fitted;
 use format::{AddressFamily, Kind, Path, Refusal, is_ipv6};
 
-// Which form was chosen, and its message.
+// Which form was chosen, the aggregated or the simple one, and its message: so many octets, of so many entries.
 #[derive(Clone, Copy)]
-pub enum Choice {
-    // Whether the aggregated one; so many octets, of so many entries.
-    Wrote {
-        aggregated: bool,
-        length: usize,
-        taken: usize,
-    },
-    Refused(Refusal),
+pub struct Choice {
+    pub aggregated: bool,
+    pub length: usize,
+    pub taken: usize,
 }
 
 // The one that took more entries, then the shorter, then the simple.
@@ -43,33 +39,28 @@ fn both(
     limit: usize,
     simple: &mut [u8],
     aggregated: &mut [u8],
-) -> Choice
+) -> Result<Choice, Refusal>
     ensures answer { chosen_by result ≡ (choice (family_named family) path e.now start limit simple.old aggregated.old).answer }
     ensures simple { simple.new ≡ (choice (family_named family) path e.now start limit simple.old aggregated.old).simple_buffer }
     ensures aggregated { aggregated.new ≡ (choice (family_named family) path e.now start limit simple.old aggregated.old).aggregated_buffer }
 {
     let ipv6 = is_ipv6(family);
-    let room = smaller(simple.len(), aggregated.len());
-    let x = asked(ipv6, Kind::Simple, e, start, limit, room);
-    match x {
-        Limit::Refused(r) => Choice::Refused(r),
-        Limit::Is(l) => {
-            let s = write_most(ipv6, path, Kind::Simple, e, start, l, simple);
-            let a = write_most(ipv6, path, Kind::Aggregated, e, start, l, aggregated);
-            if prefers_aggregated(s, a) {
-                return Choice::Wrote {
-                    aggregated: true,
-                    length: a.next,
-                    taken: a.taken,
-                };
-            }
-            Choice::Wrote {
-                aggregated: false,
-                length: s.next,
-                taken: s.taken,
-            }
-        }
+    let room = simple.len().min(aggregated.len());
+    let l = asked(ipv6, Kind::Simple, e, start, limit, room)?;
+    let s = write_most(ipv6, path, Kind::Simple, e, start, l, simple);
+    let a = write_most(ipv6, path, Kind::Aggregated, e, start, l, aggregated);
+    if prefers_aggregated(s, a) {
+        return Ok(Choice {
+            aggregated: true,
+            length: a.next,
+            taken: a.taken,
+        });
     }
+    Ok(Choice {
+        aggregated: false,
+        length: s.next,
+        taken: s.taken,
+    })
 }
 
 // Both forms, and which is chosen.
@@ -81,7 +72,7 @@ pub fn pack_both(
     limit: usize,
     simple: &mut [u8],
     aggregated: &mut [u8],
-) -> Choice
+) -> Result<Choice, Refusal>
     ensures answer { chosen_by result ≡ (choice (family_named family) path e.now start limit simple.old aggregated.old).answer }
     ensures simple { simple.new ≡ (choice (family_named family) path e.now start limit simple.old aggregated.old).simple_buffer }
     ensures aggregated { aggregated.new ≡ (choice (family_named family) path e.now start limit simple.old aggregated.old).aggregated_buffer }
@@ -103,16 +94,12 @@ pub fn pack_chosen<'a>(
     ensures { result.now ≡ (choice (family_named family) path e.now start limit simple.old aggregated.old).part }
 {
     match both(family, path, e, start, limit, simple, aggregated) {
-        Choice::Refused(_) => &mut simple[..0],
-        Choice::Wrote {
-            aggregated: better,
-            length,
-            taken: _,
-        } => {
-            if better {
-                return &mut aggregated[..length];
+        Err(_) => &mut simple[..0],
+        Ok(choice) => {
+            if choice.aggregated {
+                return &mut aggregated[..choice.length];
             }
-            &mut simple[..length]
+            &mut simple[..choice.length]
         }
     }
 }

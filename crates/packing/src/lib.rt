@@ -1,6 +1,7 @@
 // The packing calls: plain asserts, packed simple and aggregated asserts, null-registers and register-stops, and the
 // choice between the two packed assert forms. Every public call is total; what it answers and what it writes is a
-// definition of the crate format. The functions inside go by the family, a bool, and by the path.
+// definition of the crate format. The functions inside go by the path and by the family: a bool, and a const parameter
+// where they write in a loop.
 //
 // run.rt         where a run of entries ends
 // record.rt      records of one length

@@ -6,35 +6,22 @@ ghost use Rattle.entries.specs.Kinds.{entries_for};
 ghost use Rattle.packing.specs.Answers.{limit_of, limited};
 
 use addresses::least_limit;
-use entries::{Listed, entry_size, first_bad};
-use format::{GREATEST_LIMIT, Kind, Refusal, usual_limit};
+use entries::{entry_size, first_bad};
+use format::{GREATEST_LIMIT, Kind, Reason, Refusal, usual_limit};
 
-// The limit as read, or a refusal.
-#[derive(Clone, Copy)]
-pub enum Limit {
-    Is(usize),
-    Refused(Refusal),
-}
-
-fn refused(number: u8, place: usize) -> Limit
-    ensures { result ≡ Limit.Refused (record { number = number; place = place }) }
-{
-    Limit::Refused(Refusal { number, place })
-}
-
-fn read_limit(ipv6: bool, limit: usize) -> Limit
+fn read_limit(ipv6: bool, limit: usize) -> Result<usize, Refusal>
     ensures { limit_of result ≡ read_limit (family_of ipv6) limit }
 {
     if limit == 0 {
-        return Limit::Is(usual_limit());
+        return Ok(usual_limit());
     }
     if limit < least_limit(ipv6) {
-        return refused(9, 0);
+        return Err(Reason::BadLimit.at(0));
     }
     if GREATEST_LIMIT < limit {
-        return refused(9, 0);
+        return Err(Reason::BadLimit.at(0));
     }
-    Limit::Is(limit)
+    Ok(limit)
 }
 
 // The limit as read, where nothing is to be refused.
@@ -45,27 +32,23 @@ pub(crate) fn asked(
     start: usize,
     limit: usize,
     room: usize,
-) -> Limit
+) -> Result<usize, Refusal>
     ensures { limit_of result ≡ limited (asked_of (entries_for ipv6 kind) e.now start limit room) }
 {
-    let x = read_limit(ipv6, limit);
-    let Limit::Is(l) = x else {
-        return x;
-    };
+    let l = read_limit(ipv6, limit)?;
     let size = entry_size(ipv6, true, kind);
     let count = e.len() / size;
     if room < l {
-        return refused(8, 0);
+        return Err(Reason::NoRoom.at(0));
     }
     if e.len() % size != 0 {
-        return refused(10, 0);
+        return Err(Reason::BadList.at(0));
     }
     if count < start {
-        return refused(10, 0);
+        return Err(Reason::BadList.at(0));
     }
-    let bad = first_bad(ipv6, true, kind, e, start);
-    match bad {
-        Listed::Allowed => x,
-        Listed::Bad(i) => refused(7, i),
+    match first_bad(ipv6, true, kind, e, start) {
+        None => Ok(l),
+        Some(i) => Err(Reason::BadAddress.at(i)),
     }
 }

@@ -4,7 +4,7 @@ ghost use Rattle.octets.specs.Octets.{put};
 ghost use Rattle.packing.specs.Kinds.{is_aggregated, takes_one, front_of, head_size};
 
 use format::Kind;
-use octets::write32;
+use octets::write;
 
 // How the messages of a kind are laid out, and how many entries they take.
 #[derive(Clone, Copy)]
@@ -49,7 +49,7 @@ pub(crate) fn put_front(kind: Kind, d: &mut [u8]) -> usize
 {
     let l = layout_of(kind);
     if l.head == 8 {
-        write32(d, 4, 0);
+        write::<u32>(d, 4, 0);
     }
     l.head
 }

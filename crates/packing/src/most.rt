@@ -10,7 +10,7 @@ ghost use Rattle.packing.specs.Kinds.{form_for, records_for, head_size, fitting,
 
 use crate::message::{layout_of, put_front};
 use crate::record::{put_records, record_size};
-use crate::within::{Fitted, put_within, smaller};
+use crate::within::{Fitted, put_within};
 use entries::{entry_size, is_assert};
 use format::{Kind, Path};
 
@@ -22,12 +22,36 @@ fn how_many_fixed(ipv6: bool, kind: Kind, limit: usize, n: usize) -> usize
     let l = layout_of(kind);
     let fit = (limit - l.head) / record_size(ipv6, is_assert(kind));
     if l.one {
-        return smaller(fit, 1);
+        return fit.min(1);
     }
-    smaller(fit, n)
+    fit.min(n)
 }
 
 // The records of the most of n entries that fit, past the head of their message.
+fn put_fitting<const IPV6: bool>(
+    kind: Kind,
+    e: &[u8],
+    from: usize,
+    n: usize,
+    limit: usize,
+    d: &mut [u8],
+    out: usize,
+) -> Fitted
+    requires { Packs IPV6 kind × (0 < n) × (from + (entries_for IPV6 kind).size * n ≤ length e.now) × (least_limit (family_of IPV6) ≤ limit) × (limit ≤ length d.old) × (out ≡ head_size kind) }
+    ensures taken { result.taken ≡ taken (form_for IPV6 kind) limit (entries_at (entries_for IPV6 kind) e.now from n) }
+    ensures next { result.next ≡ out + length (records_for IPV6 kind (entries_at (entries_for IPV6 kind) e.now from result.taken)) }
+    ensures buffer { d.new ≡ put d.old out (records_for IPV6 kind (entries_at (entries_for IPV6 kind) e.now from result.taken)) }
+{
+    let l = layout_of(kind);
+    if l.aggregated {
+        return put_within::<IPV6>(e, from, n, d, out, limit);
+    }
+    let taken = how_many_fixed(IPV6, kind, limit, n);
+    let next = put_records::<IPV6>(kind, e, from, taken, d, out);
+    Fitted { taken, next }
+}
+
+// The same by a family that is known at run time: the one place where it becomes a const parameter, so that the compiler makes each loop for each.
 fn put_most(
     ipv6: bool,
     kind: Kind,
@@ -43,13 +67,10 @@ fn put_most(
     ensures next { result.next ≡ out + length (records_for ipv6 kind (entries_at (entries_for ipv6 kind) e.now from result.taken)) }
     ensures buffer { d.new ≡ put d.old out (records_for ipv6 kind (entries_at (entries_for ipv6 kind) e.now from result.taken)) }
 {
-    let l = layout_of(kind);
-    if l.aggregated {
-        return put_within(ipv6, e, from, n, d, out, limit);
+    if ipv6 {
+        return put_fitting::<true>(kind, e, from, n, limit, d, out);
     }
-    let taken = how_many_fixed(ipv6, kind, limit, n);
-    let next = put_records(ipv6, kind, e, from, taken, d, out);
-    Fitted { taken, next }
+    put_fitting::<false>(kind, e, from, n, limit, d, out)
 }
 
 // The message of the most of n entries that fit: how many it takes, and its length.

@@ -13,7 +13,7 @@ ghost use Rattle.packing.specs.Kinds.{record_at, record_octets, record_size};
 use addresses::{copy_address, family_number, front_size, mask_length, width};
 use entries::{entry_size, is_assert};
 use format::Kind;
-use octets::copy8;
+use octets::copy;
 
 // The octets of an address, from a place to a place.
 fn put_octets(ipv6: bool, e: &[u8], at: usize, d: &mut [u8], out: usize)
@@ -61,7 +61,7 @@ pub(crate) fn put_metric(e: &[u8], at: usize, d: &mut [u8], out: usize)
     requires { (at + 8 ≤ length e.now) × (out + 8 ≤ length d.old) }
     ensures { d.new ≡ put d.old out (be 4 (number_at 4 e.now at) & be 4 (number_at 4 e.now (at + 4))) }
 {
-    copy8(&e[at..at + 8], &mut d[out..out + 8]);
+    copy::<8>(&e[at..at + 8], &mut d[out..out + 8]);
 }
 
 // The octets of a record: an entry without its front, with what goes before the group and the source.
@@ -89,8 +89,7 @@ fn put_record(ipv6: bool, asserts: bool, e: &[u8], at: usize, d: &mut [u8], out:
 }
 
 // The records of n entries, one after another. It answers the place past them.
-fn put_records_of(
-    ipv6: bool,
+pub(crate) fn put_records<const IPV6: bool>(
     kind: Kind,
     e: &[u8],
     from: usize,
@@ -98,41 +97,19 @@ fn put_records_of(
     d: &mut [u8],
     start: usize,
 ) -> usize
-    requires { (from + (entries_for ipv6 kind).size * n ≤ length e.now) × (start + record_size ipv6 kind * n ≤ length d.old) }
-    ensures next { result ≡ start + record_size ipv6 kind * n }
-    ensures buffer { d.new ≡ put d.old start (each (record_octets ipv6 kind) (entries_at (entries_for ipv6 kind) e.now from n)) }
+    requires { (from + (entries_for IPV6 kind).size * n ≤ length e.now) × (start + record_size IPV6 kind * n ≤ length d.old) }
+    ensures next { result ≡ start + record_size IPV6 kind * n }
+    ensures buffer { d.new ≡ put d.old start (each (record_octets IPV6 kind) (entries_at (entries_for IPV6 kind) e.now from n)) }
 {
     let asserts = is_assert(kind);
-    let size = entry_size(ipv6, true, kind);
-    let record = record_size(ipv6, asserts);
-    let mut i = 0;
+    let size = entry_size(IPV6, true, kind);
+    let record = record_size(IPV6, asserts);
     let mut at = from;
     let mut out = start;
-    while i < n {
-        put_record(ipv6, asserts, e, at, d, out);
+    for _ in 0..n {
+        put_record(IPV6, asserts, e, at, d, out);
         at += size;
         out += record;
-        i += 1;
     }
     out
-}
-
-// The same with the family as a literal, so that the compiler makes a loop for each.
-pub(crate) fn put_records(
-    ipv6: bool,
-    kind: Kind,
-    e: &[u8],
-    from: usize,
-    n: usize,
-    d: &mut [u8],
-    start: usize,
-) -> usize
-    requires { (from + (entries_for ipv6 kind).size * n ≤ length e.now) × (start + record_size ipv6 kind * n ≤ length d.old) }
-    ensures next { result ≡ start + record_size ipv6 kind * n }
-    ensures buffer { d.new ≡ put d.old start (each (record_octets ipv6 kind) (entries_at (entries_for ipv6 kind) e.now from n)) }
-{
-    if ipv6 {
-        return put_records_of(true, kind, e, from, n, d, start);
-    }
-    put_records_of(false, kind, e, from, n, d, start)
 }

@@ -1,6 +1,7 @@
 // Where a run of entries ends: neighbouring asserts that are joined into one aggregated record, and inside one with R=1
-// those of one group. What the entries of a run share is read once, and the others are compared with it. Each run is
-// looked for by a loop in which the family is a literal, so that the compiler makes one for each.
+// those of one group. What the entries of a run share is read once, and the others are compared with it.
+// The family is no const parameter here: tried and slower, as the compiler then turns both halves of an IPv6 address round before it compares
+// one, by shuffles.
 ghost use Rattle.std.specs.Prelude.{◌≡◌, true, false, ◌&&◌, ◌+◌, ◌*◌, ◌≤◌, ◌<◌, length, eqb};
 ghost use Rattle.octets.specs.Octets.{number_at};
 ghost use Rattle.records.specs.Records.{r_bit};
@@ -10,7 +11,7 @@ ghost use Rattle.packing.specs.Joins.{group_at, entry_size, run_length, Aggregat
 
 use addresses::{front_size, is_same, width};
 use format::Address;
-use octets::{number32, whole32, whole64};
+use octets::{number, whole};
 
 // The octets of an assert entry.
 pub(crate) fn assert_size(ipv6: bool) -> usize
@@ -24,7 +25,7 @@ pub(crate) fn word(e: &[u8], at: usize) -> u32
     requires { at + 4 ≤ length e.now }
     ensures { result ≡ number_at 4 e.now at }
 {
-    number32(&e[at..at + 4], 0)
+    number::<u32>(&e[at..at + 4], 0)
 }
 
 // The address at a place.
@@ -34,13 +35,13 @@ pub(crate) fn address(ipv6: bool, e: &[u8], at: usize) -> Address
 {
     if ipv6 {
         return Address {
-            high: whole64(&e[at..at + 8], 0),
-            low: whole64(&e[at + 8..at + 16], 0),
+            high: whole::<u64>(&e[at..at + 8], 0),
+            low: whole::<u64>(&e[at + 8..at + 16], 0),
         };
     }
     Address {
         high: 0,
-        low: whole32(&e[at..at + 4], 0) as u64,
+        low: whole::<u32>(&e[at..at + 4], 0) as u64,
     }
 }
 
@@ -50,12 +51,12 @@ pub(crate) fn is_none(ipv6: bool, e: &[u8], at: usize) -> bool
     ensures { result ≡ eqb (number_at (family_of ipv6).width e.now at) 0 }
 {
     if ipv6 {
-        if whole64(&e[at + 8..at + 16], 0) != 0 {
+        if whole::<u64>(&e[at + 8..at + 16], 0) != 0 {
             return false;
         }
-        return whole64(&e[at..at + 8], 0) == 0;
+        return whole::<u64>(&e[at..at + 8], 0) == 0;
     }
-    whole32(&e[at..at + 4], 0) == 0
+    whole::<u32>(&e[at..at + 4], 0) == 0
 }
 
 // Whether this preference, with R, and this metric stand at a place.
@@ -69,7 +70,8 @@ fn has_metric(e: &[u8], at: usize, preference: u32, metric: u32) -> bool
     metric == word(e, at + 4)
 }
 
-fn source_run_of(ipv6: bool, e: &[u8], from: usize, n: usize) -> usize
+// How many of n entries are in the first run with R=0: by equal preference, metric and source.
+pub(crate) fn source_run(ipv6: bool, e: &[u8], from: usize, n: usize) -> usize
     requires { (0 < n) × (from + entry_size (family_of ipv6) * n ≤ length e.now) × (r_bit (number_at 4 e.now (group_at (family_of ipv6) from + 2 * (family_of ipv6).width)) ≡ false) }
     ensures { result ≡ run_length (family_of ipv6) Aggregated e.now from n }
 {
@@ -79,33 +81,21 @@ fn source_run_of(ipv6: bool, e: &[u8], from: usize, n: usize) -> usize
     let source = address(ipv6, e, from + front + w);
     let preference = word(e, from + front + 2 * w);
     let metric = word(e, from + front + 2 * w + 4);
-    let mut k = 1;
     let mut at = from + size;
-    while k < n {
+    for k in 1..n {
         if !has_metric(e, at + front + 2 * w, preference, metric) {
             return k;
         }
         if !is_same(source, address(ipv6, e, at + front + w)) {
             return k;
         }
-        k += 1;
         at += size;
     }
-    k
+    n
 }
 
-// How many of n entries are in the first run with R=0: by equal preference, metric and source.
-pub(crate) fn source_run(ipv6: bool, e: &[u8], from: usize, n: usize) -> usize
-    requires { (0 < n) × (from + entry_size (family_of ipv6) * n ≤ length e.now) × (r_bit (number_at 4 e.now (group_at (family_of ipv6) from + 2 * (family_of ipv6).width)) ≡ false) }
-    ensures { result ≡ run_length (family_of ipv6) Aggregated e.now from n }
-{
-    if ipv6 {
-        return source_run_of(true, e, from, n);
-    }
-    source_run_of(false, e, from, n)
-}
-
-fn rp_run_of(ipv6: bool, e: &[u8], from: usize, n: usize) -> usize
+// How many of n entries are in the first run with R=1: by equal preference and metric.
+pub(crate) fn rp_run(ipv6: bool, e: &[u8], from: usize, n: usize) -> usize
     requires { (0 < n) × (from + entry_size (family_of ipv6) * n ≤ length e.now) × (r_bit (number_at 4 e.now (group_at (family_of ipv6) from + 2 * (family_of ipv6).width)) ≡ true) }
     ensures { result ≡ run_length (family_of ipv6) Aggregated e.now from n }
 {
@@ -114,46 +104,14 @@ fn rp_run_of(ipv6: bool, e: &[u8], from: usize, n: usize) -> usize
     let size = assert_size(ipv6);
     let preference = word(e, from + front + 2 * w);
     let metric = word(e, from + front + 2 * w + 4);
-    let mut k = 1;
     let mut at = from + size;
-    while k < n {
+    for k in 1..n {
         if !has_metric(e, at + front + 2 * w, preference, metric) {
             return k;
         }
-        k += 1;
         at += size;
     }
-    k
-}
-
-// How many of n entries are in the first run with R=1: by equal preference and metric.
-pub(crate) fn rp_run(ipv6: bool, e: &[u8], from: usize, n: usize) -> usize
-    requires { (0 < n) × (from + entry_size (family_of ipv6) * n ≤ length e.now) × (r_bit (number_at 4 e.now (group_at (family_of ipv6) from + 2 * (family_of ipv6).width)) ≡ true) }
-    ensures { result ≡ run_length (family_of ipv6) Aggregated e.now from n }
-{
-    if ipv6 {
-        return rp_run_of(true, e, from, n);
-    }
-    rp_run_of(false, e, from, n)
-}
-
-fn group_run_of(ipv6: bool, e: &[u8], from: usize, n: usize) -> usize
-    requires { (0 < n) × (from + entry_size (family_of ipv6) * n ≤ length e.now) }
-    ensures { result ≡ run_length (family_of ipv6) Group e.now from n }
-{
-    let front = front_size(ipv6);
-    let size = assert_size(ipv6);
-    let group = address(ipv6, e, from + front);
-    let mut k = 1;
-    let mut at = from + size;
-    while k < n {
-        if !is_same(group, address(ipv6, e, at + front)) {
-            return k;
-        }
-        k += 1;
-        at += size;
-    }
-    k
+    n
 }
 
 // How many of n entries are of the first group.
@@ -161,8 +119,15 @@ pub(crate) fn group_run(ipv6: bool, e: &[u8], from: usize, n: usize) -> usize
     requires { (0 < n) × (from + entry_size (family_of ipv6) * n ≤ length e.now) }
     ensures { result ≡ run_length (family_of ipv6) Group e.now from n }
 {
-    if ipv6 {
-        return group_run_of(true, e, from, n);
+    let front = front_size(ipv6);
+    let size = assert_size(ipv6);
+    let group = address(ipv6, e, from + front);
+    let mut at = from + size;
+    for k in 1..n {
+        if !is_same(group, address(ipv6, e, at + front)) {
+            return k;
+        }
+        at += size;
     }
-    group_run_of(false, e, from, n)
+    n
 }

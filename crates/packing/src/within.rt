@@ -29,46 +29,31 @@ pub struct FittedGroups {
     number: usize,
 }
 
-// The smaller of two numbers.
-pub(crate) fn smaller(a: usize, b: usize) -> usize
-    ensures { result ≡ min a b }
-{
-    if b < a {
-        return b;
-    }
-    a
-}
-
-// How many fields of an address and some octets more have room past a beginning of so many octets. Both quotients are made, since both divisors are
-// literals where the call is inlined: of two divisions in two arms the compiler makes one by a number that it does not know.
-fn in_room(ipv6: bool, room: usize, first: usize, more: usize) -> usize
+// How many fields of an address and some octets more have room past a beginning of so many octets. The divisor is a literal where the call is
+// inlined, as the family is a const parameter.
+fn in_room<const IPV6: bool>(room: usize, first: usize, more: usize) -> usize
     requires { more ≤ 8 }
-    ensures { result ≡ (room - first) / ((family_of ipv6).width + more) }
+    ensures { result ≡ (room - first) / ((family_of IPV6).width + more) }
 {
     if room < first {
         return 0;
     }
-    let six = (room - first) / (16 + more);
-    let four = (room - first) / (4 + more);
-    if ipv6 {
-        return six;
-    }
-    four
+    (room - first) / (width(IPV6) + more)
 }
 
 // How many of n entries of one group fit into so many octets: as one group record, or where their sources are 0 as
 // group records without sources.
-fn sources_within(ipv6: bool, e: &[u8], from: usize, n: usize, room: usize) -> usize
-    requires { from + entry_size (family_of ipv6) * n ≤ length e.now }
-    ensures { MostWithin (family_of ipv6) (one_of (family_of ipv6) Group) e.now from n room result }
+fn sources_within<const IPV6: bool>(e: &[u8], from: usize, n: usize, room: usize) -> usize
+    requires { from + entry_size (family_of IPV6) * n ≤ length e.now }
+    ensures { MostWithin (family_of IPV6) (one_of (family_of IPV6) Group) e.now from n room result }
 {
-    let joined = smaller(n, in_room(ipv6, room, width(ipv6) + 8, 2));
-    let few = most_apart(ipv6);
+    let joined = n.min(in_room::<IPV6>(room, width(IPV6) + 8, 2));
+    let few = most_apart(IPV6);
     if few <= joined {
         return joined;
     }
-    let heads = in_room(ipv6, room, 0, 8);
-    let apart = zeros(ipv6, e, from, smaller(smaller(n, few), heads));
+    let heads = in_room::<IPV6>(room, 0, 8);
+    let apart = zeros::<IPV6>(e, from, n.min(few).min(heads));
     if joined < apart {
         return apart;
     }
@@ -76,8 +61,7 @@ fn sources_within(ipv6: bool, e: &[u8], from: usize, n: usize, room: usize) -> u
 }
 
 // The first source aggregated record, of as many entries of the first run as fit.
-fn put_source_within(
-    ipv6: bool,
+fn put_source_within<const IPV6: bool>(
     e: &[u8],
     from: usize,
     n: usize,
@@ -85,26 +69,25 @@ fn put_source_within(
     out: usize,
     limit: usize,
 ) -> Fitted
-    requires { (0 < n) × (from + entry_size (family_of ipv6) * n ≤ length e.now) × (out ≤ limit) × (limit ≤ length d.old) × (r_bit (number_at 4 e.now (group_at (family_of ipv6) from + 2 * (family_of ipv6).width)) ≡ false) }
-    ensures taken { MostWithin (family_of ipv6) (all_of (family_of ipv6) Aggregated) e.now from (run_length (family_of ipv6) Aggregated e.now from n) (limit - out) result.taken }
-    ensures next { result.next ≡ out + length (all_of (family_of ipv6) Aggregated (asserts (family_of ipv6) e.now from result.taken)) }
-    ensures buffer { d.new ≡ put d.old out (all_of (family_of ipv6) Aggregated (asserts (family_of ipv6) e.now from result.taken)) }
+    requires { (0 < n) × (from + entry_size (family_of IPV6) * n ≤ length e.now) × (out ≤ limit) × (limit ≤ length d.old) × (r_bit (number_at 4 e.now (group_at (family_of IPV6) from + 2 * (family_of IPV6).width)) ≡ false) }
+    ensures taken { MostWithin (family_of IPV6) (all_of (family_of IPV6) Aggregated) e.now from (run_length (family_of IPV6) Aggregated e.now from n) (limit - out) result.taken }
+    ensures next { result.next ≡ out + length (all_of (family_of IPV6) Aggregated (asserts (family_of IPV6) e.now from result.taken)) }
+    ensures buffer { d.new ≡ put d.old out (all_of (family_of IPV6) Aggregated (asserts (family_of IPV6) e.now from result.taken)) }
 {
-    let most = smaller(n, in_room(ipv6, limit - out, 14 + width(ipv6), 4));
+    let most = n.min(in_room::<IPV6>(limit - out, 14 + width(IPV6), 4));
     if most == 0 {
         return Fitted {
             taken: 0,
             next: out,
         };
     }
-    let taken = source_run(ipv6, e, from, most);
-    let next = put_source_aggregated(ipv6, e, from, taken, d, out);
+    let taken = source_run(IPV6, e, from, most);
+    let next = put_source_aggregated::<IPV6>(e, from, taken, d, out);
     Fitted { taken, next }
 }
 
 // The first group records, of as many entries of the first group as fit.
-fn put_group_within(
-    ipv6: bool,
+fn put_group_within<const IPV6: bool>(
     e: &[u8],
     from: usize,
     n: usize,
@@ -112,13 +95,13 @@ fn put_group_within(
     out: usize,
     limit: usize,
 ) -> FittedGroups
-    requires { (0 < n) × (from + entry_size (family_of ipv6) * n ≤ length e.now) × (out ≤ limit) × (limit ≤ length d.old) }
-    ensures taken { MostWithin (family_of ipv6) (all_of (family_of ipv6) Group) e.now from (run_length (family_of ipv6) Group e.now from n) (limit - out) result.taken }
-    ensures next { result.next ≡ out + length (all_of (family_of ipv6) Group (asserts (family_of ipv6) e.now from result.taken)) }
-    ensures number { result.number ≡ number_of (family_of ipv6) Group (asserts (family_of ipv6) e.now from result.taken) }
-    ensures buffer { d.new ≡ put d.old out (all_of (family_of ipv6) Group (asserts (family_of ipv6) e.now from result.taken)) }
+    requires { (0 < n) × (from + entry_size (family_of IPV6) * n ≤ length e.now) × (out ≤ limit) × (limit ≤ length d.old) }
+    ensures taken { MostWithin (family_of IPV6) (all_of (family_of IPV6) Group) e.now from (run_length (family_of IPV6) Group e.now from n) (limit - out) result.taken }
+    ensures next { result.next ≡ out + length (all_of (family_of IPV6) Group (asserts (family_of IPV6) e.now from result.taken)) }
+    ensures number { result.number ≡ number_of (family_of IPV6) Group (asserts (family_of IPV6) e.now from result.taken) }
+    ensures buffer { d.new ≡ put d.old out (all_of (family_of IPV6) Group (asserts (family_of IPV6) e.now from result.taken)) }
 {
-    let most = sources_within(ipv6, e, from, n, limit - out);
+    let most = sources_within::<IPV6>(e, from, n, limit - out);
     if most == 0 {
         return FittedGroups {
             taken: 0,
@@ -126,8 +109,8 @@ fn put_group_within(
             number: 0,
         };
     }
-    let taken = group_run(ipv6, e, from, most);
-    let records = put_group_records(ipv6, e, from, taken, d, out);
+    let taken = group_run(IPV6, e, from, most);
+    let records = put_group_records::<IPV6>(e, from, taken, d, out);
     FittedGroups {
         taken,
         next: records.next,
@@ -136,8 +119,7 @@ fn put_group_within(
 }
 
 // The group records of as many of n entries as fit.
-fn put_groups_within(
-    ipv6: bool,
+fn put_groups_within<const IPV6: bool>(
     e: &[u8],
     from: usize,
     n: usize,
@@ -145,18 +127,19 @@ fn put_groups_within(
     start: usize,
     limit: usize,
 ) -> FittedGroups
-    requires { (from + entry_size (family_of ipv6) * n ≤ length e.now) × (start ≤ limit) × (limit ≤ length d.old) }
-    ensures taken { MostWithin (family_of ipv6) (all_of (family_of ipv6) Group) e.now from n (limit - start) result.taken }
-    ensures next { result.next ≡ start + length (all_of (family_of ipv6) Group (asserts (family_of ipv6) e.now from result.taken)) }
-    ensures number { result.number ≡ number_of (family_of ipv6) Group (asserts (family_of ipv6) e.now from result.taken) }
-    ensures buffer { d.new ≡ put d.old start (all_of (family_of ipv6) Group (asserts (family_of ipv6) e.now from result.taken)) }
+    requires { (from + entry_size (family_of IPV6) * n ≤ length e.now) × (start ≤ limit) × (limit ≤ length d.old) }
+    ensures taken { MostWithin (family_of IPV6) (all_of (family_of IPV6) Group) e.now from n (limit - start) result.taken }
+    ensures next { result.next ≡ start + length (all_of (family_of IPV6) Group (asserts (family_of IPV6) e.now from result.taken)) }
+    ensures number { result.number ≡ number_of (family_of IPV6) Group (asserts (family_of IPV6) e.now from result.taken) }
+    ensures buffer { d.new ≡ put d.old start (all_of (family_of IPV6) Group (asserts (family_of IPV6) e.now from result.taken)) }
 {
     let mut taken = 0;
     let mut at = from;
     let mut out = start;
     let mut number = 0;
+    // Each turn says how many entries it took, so no range has the places.
     while taken < n {
-        let group = put_group_within(ipv6, e, at, n - taken, d, out, limit);
+        let group = put_group_within::<IPV6>(e, at, n - taken, d, out, limit);
         if group.taken == 0 {
             return FittedGroups {
                 taken,
@@ -165,7 +148,7 @@ fn put_groups_within(
             };
         }
         taken += group.taken;
-        at += assert_size(ipv6) * group.taken;
+        at += assert_size(IPV6) * group.taken;
         out = group.next;
         number += group.number;
     }
@@ -178,8 +161,7 @@ fn put_groups_within(
 
 // The first RP aggregated record, of as many entries of the first run as fit: the group records, then what stands
 // before them, with their number.
-fn put_rp_within(
-    ipv6: bool,
+fn put_rp_within<const IPV6: bool>(
     e: &[u8],
     from: usize,
     n: usize,
@@ -187,12 +169,12 @@ fn put_rp_within(
     out: usize,
     limit: usize,
 ) -> Fitted
-    requires { (0 < n) × (from + entry_size (family_of ipv6) * n ≤ length e.now) × (out ≤ limit) × (limit ≤ length d.old) × (r_bit (number_at 4 e.now (group_at (family_of ipv6) from + 2 * (family_of ipv6).width)) ≡ true) }
-    ensures taken { MostWithin (family_of ipv6) (all_of (family_of ipv6) Aggregated) e.now from (run_length (family_of ipv6) Aggregated e.now from n) (limit - out) result.taken }
-    ensures next { result.next ≡ out + length (all_of (family_of ipv6) Aggregated (asserts (family_of ipv6) e.now from result.taken)) }
-    ensures buffer { d.new ≡ put d.old out (all_of (family_of ipv6) Aggregated (asserts (family_of ipv6) e.now from result.taken)) }
+    requires { (0 < n) × (from + entry_size (family_of IPV6) * n ≤ length e.now) × (out ≤ limit) × (limit ≤ length d.old) × (r_bit (number_at 4 e.now (group_at (family_of IPV6) from + 2 * (family_of IPV6).width)) ≡ true) }
+    ensures taken { MostWithin (family_of IPV6) (all_of (family_of IPV6) Aggregated) e.now from (run_length (family_of IPV6) Aggregated e.now from n) (limit - out) result.taken }
+    ensures next { result.next ≡ out + length (all_of (family_of IPV6) Aggregated (asserts (family_of IPV6) e.now from result.taken)) }
+    ensures buffer { d.new ≡ put d.old out (all_of (family_of IPV6) Aggregated (asserts (family_of IPV6) e.now from result.taken)) }
 {
-    let w = width(ipv6);
+    let w = width(IPV6);
     let none = Fitted {
         taken: 0,
         next: out,
@@ -201,13 +183,13 @@ fn put_rp_within(
         return none;
     }
     // Each entry takes a source's octets or more, so no run is looked at past what could fit.
-    let most = smaller(n, in_room(ipv6, limit - out, 0, 2));
-    let k = rp_run(ipv6, e, from, most);
-    let groups = put_groups_within(ipv6, e, from, k, d, out + 12, limit);
+    let most = n.min(in_room::<IPV6>(limit - out, 0, 2));
+    let k = rp_run(IPV6, e, from, most);
+    let groups = put_groups_within::<IPV6>(e, from, k, d, out + 12, limit);
     if groups.taken == 0 {
         return none;
     }
-    put_metric(e, from + front_size(ipv6) + 2 * w, d, out);
+    put_metric(e, from + front_size(IPV6) + 2 * w, d, out);
     put_number(d, out + 8, groups.number);
     Fitted {
         taken: groups.taken,
@@ -216,8 +198,7 @@ fn put_rp_within(
 }
 
 // The first aggregated record, by the R bit of the first entry.
-fn put_aggregated_within(
-    ipv6: bool,
+fn put_aggregated_within<const IPV6: bool>(
     e: &[u8],
     from: usize,
     n: usize,
@@ -225,20 +206,19 @@ fn put_aggregated_within(
     out: usize,
     limit: usize,
 ) -> Fitted
-    requires { (0 < n) × (from + entry_size (family_of ipv6) * n ≤ length e.now) × (out ≤ limit) × (limit ≤ length d.old) }
-    ensures taken { MostWithin (family_of ipv6) (all_of (family_of ipv6) Aggregated) e.now from (run_length (family_of ipv6) Aggregated e.now from n) (limit - out) result.taken }
-    ensures next { result.next ≡ out + length (all_of (family_of ipv6) Aggregated (asserts (family_of ipv6) e.now from result.taken)) }
-    ensures buffer { d.new ≡ put d.old out (all_of (family_of ipv6) Aggregated (asserts (family_of ipv6) e.now from result.taken)) }
+    requires { (0 < n) × (from + entry_size (family_of IPV6) * n ≤ length e.now) × (out ≤ limit) × (limit ≤ length d.old) }
+    ensures taken { MostWithin (family_of IPV6) (all_of (family_of IPV6) Aggregated) e.now from (run_length (family_of IPV6) Aggregated e.now from n) (limit - out) result.taken }
+    ensures next { result.next ≡ out + length (all_of (family_of IPV6) Aggregated (asserts (family_of IPV6) e.now from result.taken)) }
+    ensures buffer { d.new ≡ put d.old out (all_of (family_of IPV6) Aggregated (asserts (family_of IPV6) e.now from result.taken)) }
 {
-    if r_bit(word(e, from + front_size(ipv6) + 2 * width(ipv6))) {
-        return put_rp_within(ipv6, e, from, n, d, out, limit);
+    if r_bit(word(e, from + front_size(IPV6) + 2 * width(IPV6))) {
+        return put_rp_within::<IPV6>(e, from, n, d, out, limit);
     }
-    put_source_within(ipv6, e, from, n, d, out, limit)
+    put_source_within::<IPV6>(e, from, n, d, out, limit)
 }
 
 // The aggregated records of as many of n entries as fit.
-pub(crate) fn put_within(
-    ipv6: bool,
+pub(crate) fn put_within<const IPV6: bool>(
     e: &[u8],
     from: usize,
     n: usize,
@@ -246,21 +226,22 @@ pub(crate) fn put_within(
     start: usize,
     limit: usize,
 ) -> Fitted
-    requires { (from + entry_size (family_of ipv6) * n ≤ length e.now) × (start ≤ limit) × (limit ≤ length d.old) }
-    ensures taken { MostWithin (family_of ipv6) (all_of (family_of ipv6) Aggregated) e.now from n (limit - start) result.taken }
-    ensures next { result.next ≡ start + length (all_of (family_of ipv6) Aggregated (asserts (family_of ipv6) e.now from result.taken)) }
-    ensures buffer { d.new ≡ put d.old start (all_of (family_of ipv6) Aggregated (asserts (family_of ipv6) e.now from result.taken)) }
+    requires { (from + entry_size (family_of IPV6) * n ≤ length e.now) × (start ≤ limit) × (limit ≤ length d.old) }
+    ensures taken { MostWithin (family_of IPV6) (all_of (family_of IPV6) Aggregated) e.now from n (limit - start) result.taken }
+    ensures next { result.next ≡ start + length (all_of (family_of IPV6) Aggregated (asserts (family_of IPV6) e.now from result.taken)) }
+    ensures buffer { d.new ≡ put d.old start (all_of (family_of IPV6) Aggregated (asserts (family_of IPV6) e.now from result.taken)) }
 {
     let mut taken = 0;
     let mut at = from;
     let mut out = start;
+    // As above, a turn says how many entries it took.
     while taken < n {
-        let record = put_aggregated_within(ipv6, e, at, n - taken, d, out, limit);
+        let record = put_aggregated_within::<IPV6>(e, at, n - taken, d, out, limit);
         if record.taken == 0 {
             return Fitted { taken, next: out };
         }
         taken += record.taken;
-        at += assert_size(ipv6) * record.taken;
+        at += assert_size(IPV6) * record.taken;
         out = record.next;
     }
     Fitted { taken, next: out }

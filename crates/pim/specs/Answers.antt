@@ -18,7 +18,7 @@ use Rattle.format.specs.Reading.{Found, found}
 use Rattle.format.specs.Packing.{Wrote, wrote, Chosen, chosen}
 use Rattle.format.specs.declared.Address.{Address}
 use Rattle.format.specs.declared.Kind.{Kind}
-use Rattle.format.specs.declared.Refusal.{Refusal}
+use Rattle.pim.specs.declared.answers.Refusal.{Refusal}
 use Rattle.hello.specs.Hello.{Hello as HelloSaid, hello}
 use Rattle.hello.specs.declared.Hello.{Hello}
 use Rattle.neighbours.specs.Rows.{no_address}

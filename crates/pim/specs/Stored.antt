@@ -7,8 +7,8 @@ use Rattle.std.specs.Prelude.{ℕ, false}
 use Rattle.format.specs.Outcome.{Outcome, gives, refuses}
 use Rattle.format.specs.Reader.{Read, got, bad}
 use Rattle.attributes.specs.declared.read.Attribute.{Attribute}
-use Rattle.attributes.specs.declared.speed.Order.{Order}
-use Rattle.attributes.specs.declared.speed.Order.TheVariants.{Less, Equal, Greater}
+use Rattle.std.specs.declared.cmp.Ordering.{Ordering}
+use Rattle.std.specs.declared.cmp.Ordering.TheVariants.{Less, Equal, Greater}
 use Rattle.neighbours.specs.declared.Table.{Table}
 use Rattle.sections.specs.declared.Counts.{Counts}
 use Rattle.pim.specs.Answers.{accepted, refusal}
@@ -29,7 +29,7 @@ unfoldable pub attribute_answer : Read Attribute → AttributeAnswer
 attribute_answer (got a next) = record { refusal = accepted; next = next; attribute = a }
 attribute_answer (bad n p) = record { refusal = refusal n p; next = 0; attribute = no_attribute }
 
-unfoldable pub order_number : Order → ℕ
+unfoldable pub order_number : Ordering → ℕ
 order_number Less = 0
 order_number Equal = 1
 order_number Greater = 2

@@ -1,9 +1,27 @@
 // What several calls answer with: that nothing is refused, or what is; and how many octets were written.
 ghost use Rattle.std.specs.Prelude.{◌≡◌};
 ghost use Rattle.format.specs.Writing.{length_by};
-ghost use Rattle.pim.specs.Answers.{accepted, length_answer};
+ghost use Rattle.format.specs.Outcome.{reason_number};
+ghost use Rattle.pim.specs.Answers.{accepted, refusal, length_answer};
 
-use format::{Refusal, Writing};
+// What is refused: 01's number, or 0 where nothing is, and the place.
+#[repr(C)]
+#[derive(Clone, Copy)]
+pub struct Refusal {
+    pub number: u8,
+    pub place: usize,
+}
+
+impl From<format::Refusal> for Refusal {
+    ghost from_gives = { λ r result. result ≡ refusal (reason_number r.reason) r.place };
+
+    fn from(r: format::Refusal) -> Refusal {
+        Refusal {
+            number: u8::from(r.reason),
+            place: r.place,
+        }
+    }
+}
 
 #[repr(C)]
 #[derive(Clone, Copy)]
@@ -22,25 +40,17 @@ pub(crate) fn accepted() -> Refusal
     }
 }
 
-// A refusal as it is, put together from its two fields. Copied whole, what lies between them in memory is copied with them, by loads
-// that wait for the narrower stores before. Where the octets that are refused are few, that is much of a call.
-pub(crate) fn refused(refusal: Refusal) -> Refusal
-    ensures { result ≡ refusal }
-{
-    Refusal {
-        number: refusal.number,
-        place: refusal.place,
-    }
-}
-
-pub(crate) fn length_answer(w: Writing) -> LengthAnswer
+pub(crate) fn length_answer(w: Result<usize, format::Refusal>) -> LengthAnswer
     ensures { result ≡ length_answer (length_by w) }
 {
     match w {
-        Writing::Wrote(length) => LengthAnswer {
+        Ok(length) => LengthAnswer {
             refusal: accepted(),
             length,
         },
-        Writing::Refused(refusal) => LengthAnswer { refusal, length: 0 },
+        Err(r) => LengthAnswer {
+            refusal: Refusal::from(r),
+            length: 0,
+        },
     }
 }

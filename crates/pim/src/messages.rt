@@ -14,13 +14,11 @@ ghost use Rattle.hello.specs.Answers.{hello_by, told, Unannounced};
 ghost use Rattle.pim.specs.Answers.{header_answer, kind_of, record_answer, read_answer, hello_answer, length_answer};
 ghost use Rattle.pim.specs.Families.{family_numbered, of_family, no_family};
 
-use crate::answers::{LengthAnswer, accepted, length_answer, refused};
-use crate::families::{Numbered, family_numbered, no_family};
-use format::{
-    Address, AddressFamily, Named, Path, Record, Refusal, Writing, kind_named, kind_number,
-};
-use hello::{Hello, HelloRead};
-use reading::{Headed, Reading, Single};
+use crate::answers::{LengthAnswer, Refusal, accepted, length_answer};
+use crate::families::{family_numbered, no_family};
+use format::{Address, AddressFamily, Kind, NoKind, Path, Reason, Record};
+use hello::Hello;
+use reading::{Reading, Single};
 
 #[repr(C)]
 #[derive(Clone, Copy)]
@@ -56,15 +54,18 @@ pub struct HelloAnswer {
     pub hello: Hello,
 }
 
-fn header_answer(h: Headed) -> HeaderAnswer
+fn header_answer(h: Result<Kind, format::Refusal>) -> HeaderAnswer
     ensures { result ≡ header_answer (headed h) }
 {
     match h {
-        Headed::Is(kind) => HeaderAnswer {
+        Ok(kind) => HeaderAnswer {
             refusal: accepted(),
-            kind: kind_number(kind),
+            kind: u8::from(kind),
         },
-        Headed::Refused(refusal) => HeaderAnswer { refusal, kind: 0 },
+        Err(r) => HeaderAnswer {
+            refusal: Refusal::from(r),
+            kind: 0,
+        },
     }
 }
 
@@ -73,10 +74,9 @@ fn header_answer(h: Headed) -> HeaderAnswer
 pub extern "C" fn pim_header(family: u8, path: Path, m: &[u8]) -> HeaderAnswer
     ensures { result ≡ header_answer (of_family (family_numbered family) (λ a. header (family_named a) path m.now) no_family) }
 {
-    let f = family_numbered(family);
-    match f {
-        Numbered::Is(family) => header_answer(reading::header(family, path, m)),
-        Numbered::Neither => header_answer(Headed::Refused(no_family())),
+    match family_numbered(family) {
+        Some(family) => header_answer(reading::header(family, path, m)),
+        None => header_answer(Err(no_family())),
     }
 }
 
@@ -85,57 +85,48 @@ pub extern "C" fn pim_header(family: u8, path: Path, m: &[u8]) -> HeaderAnswer
 pub extern "C" fn pim_body(family: u8, path: Path, m: &[u8]) -> usize
     ensures { result ≡ length (of_family (family_numbered family) (λ a. body (family_named a) path m.now) []) }
 {
-    let f = family_numbered(family);
-    match f {
-        Numbered::Is(family) => reading::body(family, path, m).len(),
-        Numbered::Neither => 0,
+    match family_numbered(family) {
+        Some(family) => reading::body(family, path, m).len(),
+        None => 0,
     }
 }
 
-fn got(read: Record, next: usize) -> RecordAnswer
-    ensures { result ≡ record_answer (single (Single.Got read next)) }
+fn got(s: Single) -> RecordAnswer
+    ensures { result ≡ record_answer (single (Ok s)) }
 {
-    match read {
-        Record::Assert(e) => {
-            let group = e.group;
-            let source = e.source;
-            RecordAnswer {
-                refusal: accepted(),
-                next,
-                group,
-                source,
-                r_preference: e.r_preference,
-                metric: e.metric,
-                is_pair: false,
-            }
-        }
-        Record::Pair(e) => {
-            let group = e.group;
-            let source = e.source;
-            RecordAnswer {
-                refusal: accepted(),
-                next,
-                group,
-                source,
-                r_preference: 0,
-                metric: 0,
-                is_pair: true,
-            }
-        }
+    match s.record {
+        Record::Assert(e) => RecordAnswer {
+            refusal: accepted(),
+            next: s.next,
+            group: e.group,
+            source: e.source,
+            r_preference: e.r_preference,
+            metric: e.metric,
+            is_pair: false,
+        },
+        Record::Pair(e) => RecordAnswer {
+            refusal: accepted(),
+            next: s.next,
+            group: e.group,
+            source: e.source,
+            r_preference: 0,
+            metric: 0,
+            is_pair: true,
+        },
     }
 }
 
-fn read_answer(r: Reading) -> ReadAnswer
+fn read_answer(r: Result<Reading, format::Refusal>) -> ReadAnswer
     ensures { result ≡ read_answer (answered r) }
 {
     match r {
-        Reading::Entries { kind, count } => ReadAnswer {
+        Ok(read) => ReadAnswer {
             refusal: accepted(),
-            count,
-            kind: kind_number(kind),
+            count: read.count,
+            kind: u8::from(read.kind),
         },
-        Reading::Refused(refusal) => ReadAnswer {
-            refusal,
+        Err(r) => ReadAnswer {
+            refusal: Refusal::from(r),
             count: 0,
             kind: 0,
         },
@@ -153,10 +144,9 @@ pub extern "C" fn pim_read_asserts(
     ensures answer { result ≡ read_answer (of_family (family_numbered family) (λ a. (read_asserts (family_named a) path m.now entries.old).answer) no_family) }
     ensures entries { entries.new ≡ of_family (family_numbered family) (λ a. (read_asserts (family_named a) path m.now entries.old).lent) entries.old }
 {
-    let f = family_numbered(family);
-    match f {
-        Numbered::Is(family) => read_answer(reading::read_asserts(family, path, m, entries)),
-        Numbered::Neither => read_answer(Reading::Refused(no_family())),
+    match family_numbered(family) {
+        Some(family) => read_answer(reading::read_asserts(family, path, m, entries)),
+        None => read_answer(Err(no_family())),
     }
 }
 
@@ -166,25 +156,24 @@ pub extern "C" fn pim_read_pairs(family: u8, path: Path, m: &[u8], entries: &mut
     ensures answer { result ≡ read_answer (of_family (family_numbered family) (λ a. (read_pairs (family_named a) path m.now entries.old).answer) no_family) }
     ensures entries { entries.new ≡ of_family (family_numbered family) (λ a. (read_pairs (family_named a) path m.now entries.old).lent) entries.old }
 {
-    let f = family_numbered(family);
-    match f {
-        Numbered::Is(family) => read_answer(reading::read_pairs(family, path, m, entries)),
-        Numbered::Neither => read_answer(Reading::Refused(no_family())),
+    match family_numbered(family) {
+        Some(family) => read_answer(reading::read_pairs(family, path, m, entries)),
+        None => read_answer(Err(no_family())),
     }
 }
 
 // A Hello as it is handed over: nothing is said where reading refuses.
-fn hello_answer(h: HelloRead) -> HelloAnswer
+fn hello_answer(h: Result<Hello, format::Refusal>) -> HelloAnswer
     requires { Unannounced h }
     ensures { result ≡ hello_answer (told h) }
 {
     match h {
-        HelloRead::Is(hello) => HelloAnswer {
+        Ok(hello) => HelloAnswer {
             refusal: accepted(),
             hello,
         },
-        HelloRead::Refused(refusal) => HelloAnswer {
-            refusal: refused(refusal),
+        Err(r) => HelloAnswer {
+            refusal: Refusal::from(r),
             hello: Hello {
                 holdtime: 0,
                 has_priority: false,
@@ -200,10 +189,9 @@ fn hello_answer(h: HelloRead) -> HelloAnswer
 pub extern "C" fn pim_read_hello(family: u8, path: Path, m: &[u8]) -> HelloAnswer
     ensures { result ≡ hello_answer (of_family (family_numbered family) (λ a. read_hello (family_named a) path m.now) no_family) }
 {
-    let f = family_numbered(family);
-    match f {
-        Numbered::Is(family) => hello_answer(hello::read_hello(family, path, m)),
-        Numbered::Neither => hello_answer(HelloRead::Refused(no_family())),
+    match family_numbered(family) {
+        Some(family) => hello_answer(hello::read_hello(family, path, m)),
+        None => hello_answer(Err(no_family())),
     }
 }
 
@@ -213,18 +201,17 @@ pub extern "C" fn pim_write_hello(family: u8, path: Path, said: Hello, d: &mut [
     ensures answer { result ≡ length_answer (of_family (family_numbered family) (λ a. (write_hello (family_named a) path (hello_by said) d.old).answer) no_family) }
     ensures buffer { d.new ≡ of_family (family_numbered family) (λ a. (write_hello (family_named a) path (hello_by said) d.old).buffer) d.old }
 {
-    let f = family_numbered(family);
-    match f {
-        Numbered::Is(family) => length_answer(hello::write_hello(family, path, said, d)),
-        Numbered::Neither => length_answer(Writing::Refused(no_family())),
+    match family_numbered(family) {
+        Some(family) => length_answer(hello::write_hello(family, path, said, d)),
+        None => length_answer(Err(no_family())),
     }
 }
 
-fn no_record(refusal: Refusal) -> RecordAnswer
-    ensures { result ≡ record_answer (single (Single.Refused refusal)) }
+fn no_record(r: format::Refusal) -> RecordAnswer
+    ensures { result ≡ record_answer (single (Err r)) }
 {
     RecordAnswer {
-        refusal,
+        refusal: Refusal::from(r),
         next: 0,
         group: Address { high: 0, low: 0 },
         source: Address { high: 0, low: 0 },
@@ -234,12 +221,12 @@ fn no_record(refusal: Refusal) -> RecordAnswer
     }
 }
 
-fn record_answer(s: Single) -> RecordAnswer
+fn record_answer(s: Result<Single, format::Refusal>) -> RecordAnswer
     ensures { result ≡ record_answer (single s) }
 {
     match s {
-        Single::Got { record, next } => got(record, next),
-        Single::Refused(refusal) => no_record(refusal),
+        Ok(s) => got(s),
+        Err(r) => no_record(r),
     }
 }
 
@@ -247,13 +234,9 @@ fn record_answer(s: Single) -> RecordAnswer
 fn of_kind(family: AddressFamily, kind: u8, o: &[u8], at: usize) -> RecordAnswer
     ensures { result ≡ record_answer (kind_of (kind_named kind) (λ k. record_at (family_named family) k o.now at)) }
 {
-    let k = kind_named(kind);
-    match k {
-        Named::Is(kind) => record_answer(reading::read_record(family, kind, o, at)),
-        Named::Nothing => no_record(Refusal {
-            number: 4,
-            place: 0,
-        }),
+    match Kind::try_from(kind) {
+        Ok(kind) => record_answer(reading::read_record(family, kind, o, at)),
+        Err(NoKind) => no_record(Reason::BadKind.at(0)),
     }
 }
 
@@ -262,9 +245,8 @@ fn of_kind(family: AddressFamily, kind: u8, o: &[u8], at: usize) -> RecordAnswer
 pub extern "C" fn pim_read_record(family: u8, kind: u8, o: &[u8], at: usize) -> RecordAnswer
     ensures { result ≡ record_answer (of_family (family_numbered family) (λ a. kind_of (kind_named kind) (λ k. record_at (family_named a) k o.now at)) (bad 4 0)) }
 {
-    let f = family_numbered(family);
-    match f {
-        Numbered::Is(family) => of_kind(family, kind, o, at),
-        Numbered::Neither => no_record(no_family()),
+    match family_numbered(family) {
+        Some(family) => of_kind(family, kind, o, at),
+        None => no_record(no_family()),
     }
 }

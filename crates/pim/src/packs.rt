@@ -6,9 +6,9 @@ ghost use Rattle.packing.specs.Answers.{packed, chosen_by};
 ghost use Rattle.pim.specs.Answers.{pack_answer, choice_answer};
 ghost use Rattle.pim.specs.Families.{family_numbered, of_family, no_family};
 
-use crate::answers::accepted;
-use crate::families::{Numbered, family_numbered, no_family};
-use format::{Path, Refusal};
+use crate::answers::{Refusal, accepted};
+use crate::families::{family_numbered, no_family};
+use format::Path;
 use packing::{Choice, Packing};
 
 #[repr(C)]
@@ -28,17 +28,17 @@ pub struct ChoiceAnswer {
     pub aggregated: bool,
 }
 
-fn pack_answer(p: Packing) -> PackAnswer
+fn pack_answer(p: Result<Packing, format::Refusal>) -> PackAnswer
     ensures { result ≡ pack_answer (packed p) }
 {
     match p {
-        Packing::Wrote { length, taken } => PackAnswer {
+        Ok(p) => PackAnswer {
             refusal: accepted(),
-            length,
-            taken,
+            length: p.length,
+            taken: p.taken,
         },
-        Packing::Refused(refusal) => PackAnswer {
-            refusal,
+        Err(r) => PackAnswer {
+            refusal: Refusal::from(r),
             length: 0,
             taken: 0,
         },
@@ -58,10 +58,9 @@ pub extern "C" fn pim_pack_assert(
     ensures answer { result ≡ pack_answer (of_family (family_numbered family) (λ a. (packing (plain (family_named a)) path e.now start limit d.old).answer) no_family) }
     ensures buffer { d.new ≡ of_family (family_numbered family) (λ a. (packing (plain (family_named a)) path e.now start limit d.old).buffer) d.old }
 {
-    let f = family_numbered(family);
-    match f {
-        Numbered::Is(family) => pack_answer(packing::pack_assert(family, path, e, start, limit, d)),
-        Numbered::Neither => pack_answer(Packing::Refused(no_family())),
+    match family_numbered(family) {
+        Some(family) => pack_answer(packing::pack_assert(family, path, e, start, limit, d)),
+        None => pack_answer(Err(no_family())),
     }
 }
 
@@ -78,10 +77,9 @@ pub extern "C" fn pim_pack_simple(
     ensures answer { result ≡ pack_answer (of_family (family_numbered family) (λ a. (packing (simple (family_named a)) path e.now start limit d.old).answer) no_family) }
     ensures buffer { d.new ≡ of_family (family_numbered family) (λ a. (packing (simple (family_named a)) path e.now start limit d.old).buffer) d.old }
 {
-    let f = family_numbered(family);
-    match f {
-        Numbered::Is(family) => pack_answer(packing::pack_simple(family, path, e, start, limit, d)),
-        Numbered::Neither => pack_answer(Packing::Refused(no_family())),
+    match family_numbered(family) {
+        Some(family) => pack_answer(packing::pack_simple(family, path, e, start, limit, d)),
+        None => pack_answer(Err(no_family())),
     }
 }
 
@@ -98,12 +96,9 @@ pub extern "C" fn pim_pack_aggregated(
     ensures answer { result ≡ pack_answer (of_family (family_numbered family) (λ a. (packing (aggregated (family_named a)) path e.now start limit d.old).answer) no_family) }
     ensures buffer { d.new ≡ of_family (family_numbered family) (λ a. (packing (aggregated (family_named a)) path e.now start limit d.old).buffer) d.old }
 {
-    let f = family_numbered(family);
-    match f {
-        Numbered::Is(family) => pack_answer(packing::pack_aggregated(
-            family, path, e, start, limit, d,
-        )),
-        Numbered::Neither => pack_answer(Packing::Refused(no_family())),
+    match family_numbered(family) {
+        Some(family) => pack_answer(packing::pack_aggregated(family, path, e, start, limit, d)),
+        None => pack_answer(Err(no_family())),
     }
 }
 
@@ -120,12 +115,9 @@ pub extern "C" fn pim_pack_null_register(
     ensures answer { result ≡ pack_answer (of_family (family_numbered family) (λ a. (packing (null_register (family_named a)) path e.now start limit d.old).answer) no_family) }
     ensures buffer { d.new ≡ of_family (family_numbered family) (λ a. (packing (null_register (family_named a)) path e.now start limit d.old).buffer) d.old }
 {
-    let f = family_numbered(family);
-    match f {
-        Numbered::Is(family) => pack_answer(packing::pack_null_register(
-            family, path, e, start, limit, d,
-        )),
-        Numbered::Neither => pack_answer(Packing::Refused(no_family())),
+    match family_numbered(family) {
+        Some(family) => pack_answer(packing::pack_null_register(family, path, e, start, limit, d)),
+        None => pack_answer(Err(no_family())),
     }
 }
 
@@ -142,31 +134,24 @@ pub extern "C" fn pim_pack_register_stop(
     ensures answer { result ≡ pack_answer (of_family (family_numbered family) (λ a. (packing (register_stop (family_named a)) path e.now start limit d.old).answer) no_family) }
     ensures buffer { d.new ≡ of_family (family_numbered family) (λ a. (packing (register_stop (family_named a)) path e.now start limit d.old).buffer) d.old }
 {
-    let f = family_numbered(family);
-    match f {
-        Numbered::Is(family) => pack_answer(packing::pack_register_stop(
-            family, path, e, start, limit, d,
-        )),
-        Numbered::Neither => pack_answer(Packing::Refused(no_family())),
+    match family_numbered(family) {
+        Some(family) => pack_answer(packing::pack_register_stop(family, path, e, start, limit, d)),
+        None => pack_answer(Err(no_family())),
     }
 }
 
-fn choice_answer(c: Choice) -> ChoiceAnswer
+fn choice_answer(c: Result<Choice, format::Refusal>) -> ChoiceAnswer
     ensures { result ≡ choice_answer (chosen_by c) }
 {
     match c {
-        Choice::Wrote {
-            aggregated,
-            length,
-            taken,
-        } => ChoiceAnswer {
+        Ok(c) => ChoiceAnswer {
             refusal: accepted(),
-            length,
-            taken,
-            aggregated,
+            length: c.length,
+            taken: c.taken,
+            aggregated: c.aggregated,
         },
-        Choice::Refused(refusal) => ChoiceAnswer {
-            refusal,
+        Err(r) => ChoiceAnswer {
+            refusal: Refusal::from(r),
             length: 0,
             taken: 0,
             aggregated: false,
@@ -189,11 +174,10 @@ pub extern "C" fn pim_pack_both(
     ensures simple { simple.new ≡ of_family (family_numbered family) (λ a. (choice (family_named a) path e.now start limit simple.old aggregated.old).simple_buffer) simple.old }
     ensures aggregated { aggregated.new ≡ of_family (family_numbered family) (λ a. (choice (family_named a) path e.now start limit simple.old aggregated.old).aggregated_buffer) aggregated.old }
 {
-    let f = family_numbered(family);
-    match f {
-        Numbered::Is(family) => choice_answer(packing::pack_both(
+    match family_numbered(family) {
+        Some(family) => choice_answer(packing::pack_both(
             family, path, e, start, limit, simple, aggregated,
         )),
-        Numbered::Neither => choice_answer(Choice::Refused(no_family())),
+        None => choice_answer(Err(no_family())),
     }
 }

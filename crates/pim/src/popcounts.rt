@@ -7,9 +7,9 @@ ghost use Rattle.popcount.specs.Merging.{merging};
 ghost use Rattle.pim.specs.Answers.{length_answer};
 ghost use Rattle.pim.specs.Stored.{no_attribute, attribute_answer, order_number};
 
-use crate::answers::{LengthAnswer, accepted, length_answer, refused};
-use format::Refusal;
-use popcount::{Attribute, AttributeRead, Order, Own, Values};
+use crate::answers::{LengthAnswer, Refusal, accepted, length_answer};
+use popcount::{Attribute, AttributeRead, Own, Values};
+use std::cmp::Ordering;
 
 #[repr(C)]
 #[derive(Clone, Copy)]
@@ -41,17 +41,17 @@ fn no_attribute() -> Attribute
     }
 }
 
-fn attribute_answer(a: AttributeRead) -> AttributeAnswer
+fn attribute_answer(a: Result<AttributeRead, format::Refusal>) -> AttributeAnswer
     ensures { result ≡ attribute_answer (read_by a) }
 {
     match a {
-        AttributeRead::Is(attribute, next) => AttributeAnswer {
+        Ok(read) => AttributeAnswer {
             refusal: accepted(),
-            next,
-            attribute,
+            next: read.next,
+            attribute: read.attribute,
         },
-        AttributeRead::Refused(refusal) => AttributeAnswer {
-            refusal: refused(refusal),
+        Err(r) => AttributeAnswer {
+            refusal: Refusal::from(r),
             next: 0,
             attribute: no_attribute(),
         },
@@ -66,13 +66,13 @@ pub extern "C" fn pim_popcount_read(o: &[u8], at: usize) -> AttributeAnswer
     attribute_answer(popcount::read_attribute(o, at))
 }
 
-fn order_number(o: Order) -> u8
+fn order_number(o: Ordering) -> u8
     ensures { result ≡ order_number o }
 {
     match o {
-        Order::Less => 0,
-        Order::Equal => 1,
-        Order::Greater => 2,
+        Ordering::Less => 0,
+        Ordering::Equal => 1,
+        Ordering::Greater => 2,
     }
 }
 

@@ -7,11 +7,10 @@ ghost use Rattle.pim.specs.Answers.{length_answer};
 ghost use Rattle.pim.specs.Stored.{no_counts, check_answer, sheet_answer};
 ghost use Rattle.pim.specs.Families.{family_numbered, of_family, no_family};
 
-use crate::answers::{LengthAnswer, accepted, length_answer};
-use crate::families::{Numbered, family_numbered, no_family};
-use format::{Refusal, Writing};
+use crate::answers::{LengthAnswer, Refusal, accepted, length_answer};
+use crate::families::{family_numbered, no_family};
 use neighbours::Table;
-use sheet::{Counts, Found, SheetRead, Verdict};
+use sheet::{Counts, SheetRead};
 
 #[repr(C)]
 #[derive(Clone, Copy)]
@@ -38,16 +37,16 @@ fn no_counts() -> Counts
     }
 }
 
-fn check_answer(c: Verdict) -> CheckAnswer
+fn check_answer(c: Result<Counts, format::Refusal>) -> CheckAnswer
     ensures { result ≡ check_answer (checked_by c) }
 {
     match c {
-        Verdict::Valid(counts) => CheckAnswer {
+        Ok(counts) => CheckAnswer {
             refusal: accepted(),
             counts,
         },
-        Verdict::Refused(refusal) => CheckAnswer {
-            refusal,
+        Err(r) => CheckAnswer {
+            refusal: Refusal::from(r),
             counts: no_counts(),
         },
     }
@@ -58,10 +57,9 @@ fn check_answer(c: Verdict) -> CheckAnswer
 pub extern "C" fn pim_check_sheet(family: u8, o: &[u8]) -> CheckAnswer
     ensures { result ≡ check_answer (of_family (family_numbered family) (λ a. check_sheet a o.now) no_family) }
 {
-    let f = family_numbered(family);
-    match f {
-        Numbered::Is(family) => check_answer(sheet::check_sheet(family, o)),
-        Numbered::Neither => check_answer(Verdict::Refused(no_family())),
+    match family_numbered(family) {
+        Some(family) => check_answer(sheet::check_sheet(family, o)),
+        None => check_answer(Err(no_family())),
     }
 }
 
@@ -71,13 +69,13 @@ fn sheet_answer(s: SheetRead) -> SheetAnswer
     let table = s.table;
     let found = s.found;
     match found {
-        Found::Entries(counts) => SheetAnswer {
+        Ok(counts) => SheetAnswer {
             refusal: accepted(),
             counts,
             table,
         },
-        Found::Refused(refusal) => SheetAnswer {
-            refusal,
+        Err(r) => SheetAnswer {
+            refusal: Refusal::from(r),
             counts: no_counts(),
             table,
         },
@@ -89,7 +87,7 @@ fn no_sheet() -> SheetAnswer
     ensures { result ≡ sheet_answer (table_of []) no_family }
 {
     SheetAnswer {
-        refusal: no_family(),
+        refusal: Refusal::from(no_family()),
         counts: no_counts(),
         table: Table::empty(),
     }
@@ -107,10 +105,9 @@ pub extern "C" fn pim_read_sheet(
     ensures asserts { asserts.new ≡ of_family (family_numbered family) (λ a. (read_sheet a o.now asserts.old pairs.old).asserts) asserts.old }
     ensures pairs { pairs.new ≡ of_family (family_numbered family) (λ a. (read_sheet a o.now asserts.old pairs.old).pairs) pairs.old }
 {
-    let f = family_numbered(family);
-    match f {
-        Numbered::Is(family) => sheet_answer(sheet::read_sheet(family, o, asserts, pairs)),
-        Numbered::Neither => no_sheet(),
+    match family_numbered(family) {
+        Some(family) => sheet_answer(sheet::read_sheet(family, o, asserts, pairs)),
+        None => no_sheet(),
     }
 }
 
@@ -126,9 +123,8 @@ pub extern "C" fn pim_write_sheet(
     ensures answer { result ≡ length_answer (of_family (family_numbered family) (λ a. (write_sheet a asserts.now pairs.now table d.old).answer) no_family) }
     ensures buffer { d.new ≡ of_family (family_numbered family) (λ a. (write_sheet a asserts.now pairs.now table d.old).buffer) d.old }
 {
-    let f = family_numbered(family);
-    match f {
-        Numbered::Is(family) => length_answer(sheet::write_sheet(family, asserts, pairs, table, d)),
-        Numbered::Neither => length_answer(Writing::Refused(no_family())),
+    match family_numbered(family) {
+        Some(family) => length_answer(sheet::write_sheet(family, asserts, pairs, table, d)),
+        None => length_answer(Err(no_family())),
     }
 }

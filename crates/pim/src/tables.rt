@@ -6,14 +6,14 @@ ghost use Rattle.neighbours.specs.Election.{may_pack, electing};
 ghost use Rattle.neighbours.specs.Among.{electing_among};
 ghost use Rattle.neighbours.specs.Answers.{done_by, packing_by, elected_by};
 ghost use Rattle.format.specs.Family.{family_named};
-ghost use Rattle.pim.specs.Answers.{table_answer, changed_by, allowed_answer, elect_answer};
+ghost use Rattle.pim.specs.Answers.{accepted, table_answer, changed_by, allowed_answer, elect_answer};
 ghost use Rattle.pim.specs.Families.{family_numbered, of_family, no_family};
 
-use crate::answers::accepted;
-use crate::families::{Numbered, family_numbered, no_family};
-use format::{Address, Refusal};
+use crate::answers::{Refusal, accepted};
+use crate::families::{family_numbered, no_family};
+use format::Address;
 use hello::Hello;
-use neighbours::{Allowance, Change, Changed, Elected, Neighbour, Table};
+use neighbours::{Change, Changed, Neighbour, Table};
 
 #[repr(C)]
 #[derive(Clone, Copy)]
@@ -55,18 +55,25 @@ fn changed(table: Table, done: u8) -> TableAnswer
     }
 }
 
+// The number of what was done, where nothing is refused.
+fn done_number(done: Change) -> u8
+    ensures { (t : Table) → table_answer t (done_by (Ok done)) ≡ record { refusal = accepted; table = t; done = result } }
+{
+    match done {
+        Change::Replaced => 1,
+        Change::Appended => 2,
+        Change::Forgotten => 3,
+    }
+}
+
 fn table_answer(c: Changed) -> TableAnswer
     ensures { result ≡ table_answer c.table (done_by c.change) }
 {
-    let table = c.table;
-    let change = c.change;
-    match change {
-        Change::Replaced => changed(table, 1),
-        Change::Appended => changed(table, 2),
-        Change::Forgotten => changed(table, 3),
-        Change::Refused(refusal) => TableAnswer {
-            refusal,
-            table,
+    match c.change {
+        Ok(done) => changed(c.table, done_number(done)),
+        Err(r) => TableAnswer {
+            refusal: Refusal::from(r),
+            table: c.table,
             done: 0,
         },
     }
@@ -77,7 +84,7 @@ fn not_changed(table: Table) -> TableAnswer
     ensures { result ≡ table_answer table no_family }
 {
     TableAnswer {
-        refusal: no_family(),
+        refusal: Refusal::from(no_family()),
         table,
         done: 0,
     }
@@ -88,10 +95,9 @@ fn not_changed(table: Table) -> TableAnswer
 pub extern "C" fn pim_hear(family: u8, table: Table, address: Address, said: Hello) -> TableAnswer
     ensures { result ≡ changed_by table (of_family (family_numbered family) (λ a. hearing (family_named a) table address said) no_family) }
 {
-    let f = family_numbered(family);
-    match f {
-        Numbered::Is(family) => table_answer(table.hear(family, address, said)),
-        Numbered::Neither => not_changed(table),
+    match family_numbered(family) {
+        Some(family) => table_answer(table.hear(family, address, said)),
+        None => not_changed(table),
     }
 }
 
@@ -100,23 +106,22 @@ pub extern "C" fn pim_hear(family: u8, table: Table, address: Address, said: Hel
 pub extern "C" fn pim_forget(family: u8, table: Table, address: Address) -> TableAnswer
     ensures { result ≡ changed_by table (of_family (family_numbered family) (λ a. forgetting (family_named a) table address) no_family) }
 {
-    let f = family_numbered(family);
-    match f {
-        Numbered::Is(family) => table_answer(table.forget(family, address)),
-        Numbered::Neither => not_changed(table),
+    match family_numbered(family) {
+        Some(family) => table_answer(table.forget(family, address)),
+        None => not_changed(table),
     }
 }
 
-fn allowed_answer(p: Allowance) -> AllowedAnswer
+fn allowed_answer(p: Result<bool, format::Refusal>) -> AllowedAnswer
     ensures { result ≡ allowed_answer (packing_by p) }
 {
     match p {
-        Allowance::Allowed(allowed) => AllowedAnswer {
+        Ok(allowed) => AllowedAnswer {
             refusal: accepted(),
             allowed,
         },
-        Allowance::Refused(refusal) => AllowedAnswer {
-            refusal,
+        Err(r) => AllowedAnswer {
+            refusal: Refusal::from(r),
             allowed: false,
         },
     }
@@ -127,23 +132,22 @@ fn allowed_answer(p: Allowance) -> AllowedAnswer
 pub extern "C" fn pim_packing_allowed(family: u8, table: Table) -> AllowedAnswer
     ensures { result ≡ allowed_answer (of_family (family_numbered family) (λ a. may_pack (family_named a) table) no_family) }
 {
-    let f = family_numbered(family);
-    match f {
-        Numbered::Is(family) => allowed_answer(table.packing_allowed(family)),
-        Numbered::Neither => allowed_answer(Allowance::Refused(no_family())),
+    match family_numbered(family) {
+        Some(family) => allowed_answer(table.packing_allowed(family)),
+        None => allowed_answer(Err(no_family())),
     }
 }
 
-fn elect_answer(e: Elected) -> ElectAnswer
+fn elect_answer(e: Result<Address, format::Refusal>) -> ElectAnswer
     ensures { result ≡ elect_answer (elected_by e) }
 {
     match e {
-        Elected::Is(address) => ElectAnswer {
+        Ok(address) => ElectAnswer {
             refusal: accepted(),
             address,
         },
-        Elected::Refused(refusal) => ElectAnswer {
-            refusal,
+        Err(r) => ElectAnswer {
+            refusal: Refusal::from(r),
             address: Address { high: 0, low: 0 },
         },
     }
@@ -159,10 +163,9 @@ pub extern "C" fn pim_elect(
 ) -> ElectAnswer
     ensures { result ≡ elect_answer (of_family (family_numbered family) (λ a. electing (family_named a) table address priority) no_family) }
 {
-    let f = family_numbered(family);
-    match f {
-        Numbered::Is(family) => elect_answer(table.elect(family, address, priority)),
-        Numbered::Neither => elect_answer(Elected::Refused(no_family())),
+    match family_numbered(family) {
+        Some(family) => elect_answer(table.elect(family, address, priority)),
+        None => elect_answer(Err(no_family())),
     }
 }
 

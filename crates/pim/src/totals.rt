@@ -3,9 +3,8 @@ ghost use Rattle.std.specs.Prelude.{◌≡◌};
 ghost use Rattle.counters.specs.Counting.{none_counted, counting, answer_of};
 ghost use Rattle.pim.specs.Answers.{direction_of, refusal_of};
 
-use crate::answers::accepted;
-use counters::{Answer, Counters, Direction};
-use format::Refusal;
+use crate::answers::{Refusal, accepted};
+use counters::{Counters, Direction};
 
 // Counters that have counted nothing.
 #[unsafe(no_mangle)]
@@ -24,12 +23,12 @@ fn direction(received: bool) -> Direction
     Direction::Sent
 }
 
-fn count_refusal(a: Answer) -> Refusal
+fn count_refusal(a: Result<(), format::Refusal>) -> Refusal
     ensures { result ≡ refusal_of (answer_of a) }
 {
     match a {
-        Answer::Added => accepted(),
-        Answer::Refused(refusal) => refusal,
+        Ok(()) => accepted(),
+        Err(r) => Refusal::from(r),
     }
 }
 

@@ -12,14 +12,15 @@ use mathlib.Core.List.{List, [], ◌∷◌, ◌++◌, map, foldl}
 use Prim.Native.Nat.{ℕ, ◌+◌, ◌≤◌, min, max}
 use native.Mathlib.Omega.{arith}
 use lib.Bits.{bit_and, bit_or}
-use lib.Dec.{ltb, lit<, lit≤}
+use lib.Dec.{eqb, ltb, lit<, lit≤}
 use Rattle.octets.specs.Octets.{be}
-use Rattle.attributes.specs.Speed.{size, order, compared}
+use Rattle.attributes.specs.Speed.{size, compared}
 use Rattle.attributes.specs.Options.{Option, transit, stub, minimum_speed, maximum_speed, domain, node, diameter, time_zone, bit_of, size_of, has_bit, present}
 use Rattle.attributes.specs.Attribute.{option_octets, values_octets, attribute_octets}
 use Rattle.attributes.specs.declared.read.Attribute.{Attribute}
-use Rattle.attributes.specs.declared.speed.Order.{Order}
-use Rattle.attributes.specs.declared.speed.Order.TheVariants.{Less, Equal, Greater}
+use Rattle.std.specs.Ordering.{is_lt}
+use Rattle.std.specs.declared.cmp.Ordering.{Ordering}
+use Rattle.std.specs.declared.cmp.Ordering.TheVariants.{Less, Equal, Greater}
 use Rattle.popcount.specs.Rules.{merged_mtu, merged_flags, p_flag, other_flags, at_most, total, merged_transit, merged_stub, merged_node, merged_diameter, slower, faster, merged_minimum, merged_maximum, every_has, if_given, merged_options}
 use Rattle.popcount.specs.Merging.{merged_values, merged}
 use Rattle.popcount.specs.Tally.{begun, counted, attribute_of}
@@ -29,18 +30,12 @@ use Rattle.popcount.proofs.Bits.{present_and, Mergeable, mergeable_and, spelt, s
 
 -- ---- speeds
 
--- whether an order says less
-abbrev pub is_less : Order → Bool
-is_less Less = true
-is_less Equal = false
-is_less Greater = false
-
 -- by what comparing two speeds answered
-pub is_less_lem : (s t : ℕ) {o v : Order} → o ≡ compared s t → o ≡ v → is_less v ≡ ltb (size s) (size t)
-unfolding compared order
-is_less_lem s t e h = ap is_less (sym h ∙ e) ∙ go (ltb (size s) (size t)) (ltb (size t) (size s))
+pub is_less_lem : (s t : ℕ) {o : Ordering} → o ≡ compared s t → is_lt o ≡ ltb (size s) (size t)
+unfolding compared
+is_less_lem s t e = ap is_lt e ∙ go (ltb (size s) (size t)) (eqb (size s) (size t))
   where
-    go : (b d : Bool) → is_less (cond b Less (cond d Greater Equal)) ≡ b
+    go : (b d : Bool) → is_lt (cond b Less (cond d Equal Greater)) ≡ b
     go true d = refl
     go false true = refl
     go false false = refl

@@ -15,8 +15,9 @@ use Rattle.popcount.specs.Rules.{p_flag, other_flags, at_most, slower, faster}
 use Rattle.popcount.specs.Merging.{contributors}
 use Rattle.popcount.specs.declared.tally.Own.{Own}
 use Rattle.popcount.specs.declared.tally.Tally.{Tally}
-use Rattle.popcount.specs.declared.tally.Tallied.{Tallied}
-use Rattle.popcount.specs.declared.tally.Tallied.TheVariants.{All, Refused}
+use Rattle.std.specs.Prelude.{Result, Ok, Err}
+use Rattle.format.specs.declared.Refusal.{Refusal}
+use Rattle.format.specs.Outcome.{reason_number}
 
 -- the six options that are merged, all given as yet
 unfoldable pub begun : Own → Tally
@@ -66,9 +67,9 @@ attribute_of sayE t = record {
   };
 }
 
-unfoldable pub tallied : Tallied → Outcome Tally
-tallied (All t) = gives t
-tallied (Refused r) = refuses r.number r.place
+unfoldable pub tallied : Result Tally Refusal → Outcome Tally
+tallied (Ok t) = gives t
+tallied (Err r) = refuses (reason_number r.reason) r.place
 
 unfoldable pub tally_of : Own → List ℕ → Outcome Tally
 tally_of own o = do

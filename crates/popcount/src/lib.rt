@@ -13,7 +13,7 @@ mod tally;
 mod write;
 
 pub use attributes::{
-    Attribute, AttributeRead, DIAMETER, DOMAIN, MAXIMUM_SPEED, MINIMUM_SPEED, NODE, Order, STUB,
+    Attribute, AttributeRead, DIAMETER, DOMAIN, MAXIMUM_SPEED, MINIMUM_SPEED, NODE, STUB,
     TIME_ZONE, TRANSIT, Values, compare_speeds, read_attribute,
 };
 pub use merging::merge;

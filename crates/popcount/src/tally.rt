@@ -2,8 +2,8 @@
 ghost use Rattle.std.specs.Prelude.{◌≡◌};
 ghost use Rattle.popcount.specs.Tally.{begun, counted, attribute_of, tallied, tally_of};
 
-use crate::rules::{greatest, is_slower, least, second_if, sum};
-use attributes::{Attribute, AttributeRead, Values, read_attribute};
+use crate::rules::{faster, slower, sum};
+use attributes::{Attribute, Values, read_attribute};
 use format::Refusal;
 
 // What our own router says of itself.
@@ -34,13 +34,6 @@ pub(crate) struct Tally {
     diameter: u8,
 }
 
-// What one pass over the contributors finds.
-#[derive(Clone, Copy)]
-pub(crate) enum Tallied {
-    All(Tally),
-    Refused(Refusal),
-}
-
 // The tally before the first contributor: the six options that are merged are given where none lacks them.
 fn begin(own: Own) -> Tally
     ensures { result ≡ begun own }
@@ -65,44 +58,32 @@ fn count(t: Tally, a: Attribute) -> Tally
 {
     let v = a.values;
     Tally {
-        mtu: least(t.mtu, a.mtu),
+        mtu: t.mtu.min(a.mtu),
         any: t.any | a.flags,
         all: t.all & a.flags,
         options: t.options & a.options,
         transit: sum(t.transit, v.transit, 0xffff_ffff),
         stub: sum(t.stub, v.stub, 0xffff_ffff),
-        minimum_speed: second_if(
-            is_slower(v.minimum_speed, t.minimum_speed),
-            t.minimum_speed,
-            v.minimum_speed,
-        ),
-        maximum_speed: second_if(
-            is_slower(t.maximum_speed, v.maximum_speed),
-            t.maximum_speed,
-            v.maximum_speed,
-        ),
+        minimum_speed: slower(t.minimum_speed, v.minimum_speed),
+        maximum_speed: faster(t.maximum_speed, v.maximum_speed),
         node: sum(t.node as u32, v.node as u32, 255) as u8,
-        diameter: greatest(t.diameter, v.diameter),
+        diameter: t.diameter.max(v.diameter),
     }
 }
 
 // The contributors one after another, to the end of the octets.
-pub(crate) fn count_all(own: Own, o: &[u8]) -> Tallied
+pub(crate) fn count_all(own: Own, o: &[u8]) -> Result<Tally, Refusal>
     ensures { tallied result ≡ tally_of own o.now }
 {
     let mut t = begin(own);
     let mut at = 0;
+    // The step is an attribute's own length, so this is no `for`.
     while at < o.len() {
-        let f = read_attribute(o, at);
-        match f {
-            AttributeRead::Is(a, next) => {
-                t = count(t, a);
-                at = next;
-            }
-            AttributeRead::Refused(r) => return Tallied::Refused(r),
-        }
+        let read = read_attribute(o, at)?;
+        t = count(t, read.attribute);
+        at = read.next;
     }
-    Tallied::All(t)
+    Ok(t)
 }
 
 // The attribute that a tally comes to.

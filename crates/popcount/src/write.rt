@@ -23,9 +23,7 @@ fn put_number(d: &mut [u8], at: usize, k: usize, n: u32)
     ensures { d.new ≡ put d.old at (be k n) }
 {
     let mut rest = n;
-    let mut i = at + k;
-    while at < i {
-        i -= 1;
+    for i in (at..at + k).rev() {
         d[i] = (rest % 256) as u8;
         rest /= 256;
     }

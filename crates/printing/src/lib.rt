@@ -11,4 +11,4 @@ mod table;
 
 pub use line::{address, decimal, flag, named, number, packed, refused, text, title, told};
 pub use part::{front, in_common, put_address, put_assert};
-pub use table::{Case, case_at, hexadecimal};
+pub use table::{Case, case_at, each_case, hexadecimal};

@@ -26,33 +26,25 @@ pub fn title(out: &impl Print, name: &[u8]) -> bool {
 }
 
 pub fn flag(out: &impl Print, b: bool) -> bool {
-    if b {
-        return text(out, b"1");
-    }
-    text(out, b"0")
+    decimal(out, u64::from(b))
 }
 
 // An IPv4 address, octet by octet.
 fn four(out: &impl Print, a: u64) -> bool {
-    decimal(out, a / 0x1_000000 % 256)
-        && number(out, b".", a / 0x1_0000 % 256)
-        && number(out, b".", a / 0x1_00 % 256)
-        && number(out, b".", a % 256)
-}
-
-fn hexadecimal(out: &impl Print, n: u64) -> bool {
-    print!(out; "{n:x}").is_ok()
+    let first = a / 0x1_000000 % 256;
+    let second = a / 0x1_0000 % 256;
+    let third = a / 0x1_00 % 256;
+    let last = a % 256;
+    print!(out; "{first}.{second}.{third}.{last}").is_ok()
 }
 
 // Four groups of 16 bits.
 fn groups(out: &impl Print, n: u64) -> bool {
-    hexadecimal(out, n / 0x1_0000_0000_0000)
-        && text(out, b":")
-        && hexadecimal(out, n / 0x1_0000_0000 % 0x1_0000)
-        && text(out, b":")
-        && hexadecimal(out, n / 0x1_0000 % 0x1_0000)
-        && text(out, b":")
-        && hexadecimal(out, n % 0x1_0000)
+    let first = n / 0x1_0000_0000_0000;
+    let second = n / 0x1_0000_0000 % 0x1_0000;
+    let third = n / 0x1_0000 % 0x1_0000;
+    let last = n % 0x1_0000;
+    print!(out; "{first:x}:{second:x}:{third:x}:{last:x}").is_ok()
 }
 
 // An IPv6 address: fe80::1 where all groups but the first and the last are 0, and else all eight groups.
@@ -61,9 +53,7 @@ fn sixteen(out: &impl Print, a: Address) -> bool {
         return text(out, b"::");
     }
     if a.high % 0x1_0000_0000_0000 == 0 && a.low < 0x1_0000 {
-        return hexadecimal(out, a.high / 0x1_0000_0000_0000)
-            && text(out, b"::")
-            && hexadecimal(out, a.low);
+        return print!(out; "{:x}::{:x}", a.high / 0x1_0000_0000_0000, a.low).is_ok();
     }
     groups(out, a.high) && text(out, b":") && groups(out, a.low)
 }
@@ -78,16 +68,12 @@ pub fn address(out: &impl Print, ipv6: bool, a: Address) -> bool {
 
 // A refusal, and what follows it.
 pub fn refused(out: &impl Print, r: Refusal, after: &[u8]) -> bool {
-    number(out, b"refused ", r.number as u64)
-        && number(out, b" at ", r.place as u64)
-        && text(out, after)
+    print!(out; "{r}").is_ok() && text(out, after)
 }
 
 // What a packing call wrote.
 pub fn packed(out: &impl Print, length: usize, taken: usize) -> bool {
-    number(out, b"octets ", length as u64)
-        && number(out, b", taken ", taken as u64)
-        && text(out, b"\n")
+    println!(out; "octets {length}, taken {taken}").is_ok()
 }
 
 // Where standard output takes no more, `err`, standard error, says what was cut.

@@ -18,17 +18,10 @@ pub fn in_common(e: &[u8], f: &[u8]) -> usize
     ensures same { (result ≤ length e.now) × (result ≤ length f.now) × ((k : ℕ) → k < result → get_or e.now k 0 ≡ get_or f.now k 0) }
     ensures most { result < length e.now → result < length f.now → get_or e.now result 0 ≡ get_or f.now result 0 → ⊥ }
 {
-    let mut i = 0;
-    while i < e.len() {
-        if f.len() <= i {
-            return i;
-        }
-        if e[i] != f[i] {
-            return i;
-        }
-        i += 1;
-    }
-    i
+    e.iter()
+        .zip(f)
+        .position(|(x, y)| x != y)
+        .unwrap_or(e.len().min(f.len()))
 }
 
 // The octets of an IPv6 address, where they fit.
@@ -39,10 +32,10 @@ fn put_sixteen(e: &mut [u8], at: usize, a: Address) {
     if e.len() - 16 < at {
         return;
     }
-    octets::write32(e, at, (a.high / 0x1_0000_0000) as u32);
-    octets::write32(e, at + 4, (a.high % 0x1_0000_0000) as u32);
-    octets::write32(e, at + 8, (a.low / 0x1_0000_0000) as u32);
-    octets::write32(e, at + 12, (a.low % 0x1_0000_0000) as u32);
+    octets::write::<u32>(e, at, (a.high / 0x1_0000_0000) as u32);
+    octets::write::<u32>(e, at + 4, (a.high % 0x1_0000_0000) as u32);
+    octets::write::<u32>(e, at + 8, (a.low / 0x1_0000_0000) as u32);
+    octets::write::<u32>(e, at + 12, (a.low % 0x1_0000_0000) as u32);
 }
 
 // The octets of an address of a family, where they fit.
@@ -51,7 +44,7 @@ pub fn put_address(ipv6: bool, e: &mut [u8], at: usize, a: Address) {
         put_sixteen(e, at, a);
         return;
     }
-    octets::write32(e, at, (a.low % 0x1_0000_0000) as u32);
+    octets::write::<u32>(e, at, (a.low % 0x1_0000_0000) as u32);
 }
 
 // The entry of an assert, where it fits: 20 octets in IPv4, 44 in IPv6.
@@ -63,9 +56,9 @@ pub fn put_assert(ipv6: bool, e: &mut [u8], at: usize, x: AssertFields) {
     if e.len() - at < 2 * w + 12 {
         return;
     }
-    octets::write32(e, at, 0x1_000000 * addresses::family_number(ipv6) as u32);
+    octets::write::<u32>(e, at, 0x1_000000 * addresses::family_number(ipv6) as u32);
     put_address(ipv6, e, at + 4, x.group);
     put_address(ipv6, e, at + 4 + w, x.source);
-    octets::write32(e, at + 4 + 2 * w, x.r_preference);
-    octets::write32(e, at + 8 + 2 * w, x.metric);
+    octets::write::<u32>(e, at + 4 + 2 * w, x.r_preference);
+    octets::write::<u32>(e, at + 8 + 2 * w, x.metric);
 }

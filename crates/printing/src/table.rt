@@ -1,5 +1,7 @@
 // Tables of cases. A case is two lines of text: its name, and its octets in hexadecimal.
-ghost use Rattle.std.specs.Prelude.{◌≤◌, ◌<◌, length};
+ghost use Rattle.std.specs.Prelude.{◌≡◌, ◌≤◌, ◌<◌, length};
+
+use crate::part::front;
 
 // How many octets a case's name has, how many octets the case has, and where the next case starts.
 #[derive(Clone, Copy)]
@@ -25,30 +27,24 @@ fn first(s: &[u8], at: usize, x: u8, stands: bool) -> usize
     requires { at ≤ length s.now }
     ensures { (at ≤ result) × (result ≤ length s.now) }
 {
-    let mut i = at;
-    while i < s.len() {
-        if (s[i] == x) == stands {
-            return i;
-        }
-        i += 1;
-    }
-    i
+    s[at..]
+        .iter()
+        .position(|c| (*c == x) == stands)
+        .map_or(s.len(), |i| at + i)
 }
 
 // The octets of hexadecimal digits, two for each, put at the front of a buffer as far as they fit: how many. Spaces may stand between
 // octets.
 pub fn hexadecimal(s: &[u8], d: &mut [u8]) -> usize {
-    let mut n = 0;
     let mut i = first(s, 0, b' ', false);
-    while 2 <= s.len() - i {
-        if d.len() <= n {
+    for n in 0..d.len() {
+        if s.len() - i < 2 {
             return n;
         }
         d[n] = 16 * digit(s[i]) + digit(s[i + 1]);
-        n += 1;
         i = first(s, i + 2, b' ', false);
     }
-    n
+    d.len()
 }
 
 // The case at a place, with its octets put at the front of a buffer. The next case starts past it.
@@ -76,5 +72,18 @@ pub fn case_at(s: &[u8], at: usize, d: &mut [u8]) -> Case
         name: name - at,
         length: hexadecimal(&s[start..end], d),
         next: end + 1,
+    }
+}
+
+// Each case of a table in turn: its name, and its octets, put at the front of a buffer. What is called writes to a stream, so no contract says what it did.
+pub fn each_case<F: FnMut(&[u8], &[u8])>(table: &[u8], d: &mut [u8], mut each: F)
+    requires { F.IsAlwaysCallable each }
+{
+    let mut at = 0;
+    // No `for` is plainer: the step is a case's own.
+    while at < table.len() {
+        let c = case_at(table, at, d);
+        each(front(&table[at..], c.name), front(d, c.length));
+        at = c.next;
     }
 }

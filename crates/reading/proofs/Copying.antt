@@ -4,8 +4,8 @@
 --     put_one                           one entry, as a list of entries
 --     Left                              what is still to be written gives the whole: left_room, left_step, left_end
 --     Series, series_length             things from a place on, by the first of them: their entries and octets; of one entry each
---     Walk                              where a loop over things stands: walk_start, walk_there, walk_step; over a series with one left, the octets are
---                                       there and the entries fit (turn_there), and the next stands (turn_next); walk_end
+--     Walk                              where a loop over things stands: walk_start, walk_there, walk_step; over a series before the last one is done, the
+--                                       octets are there and the entries fit (turn_there), and the next stands (turn_next); walk_end
 --     records_series, addresses_series, groups_series     the things of a message
 --     length_entry, length_addresses    the length of an entry; the number of addresses
 --     entry_at, either_there, either_entry     the entry of a record by its numbers; of two addresses the one that is the group, and the one that is the source
@@ -118,50 +118,60 @@ series_length s one at zero = ap length (s.none at)
 series_length {entries = entries} {size} {all} s one at (suc n) =
     ap length (s.more at n) ∙ (length-append (entries at) (all (at + size at) n) ∙ omega (arith, one at, series_length s one (at + size at) n))
 
--- where a loop over a series stands: so many things are left
-pub record Walk {A : Type 0} (all : ℕ → ℕ → List A) (span : ℕ → ℕ → ℕ) (enc : A → List ℕ) (k len from n : ℕ) (d₀ : List ℕ) (start : ℕ) (d : List ℕ) (at out left : ℕ) : Type 0 where
+-- where a loop over a series stands: so many things are done
+pub record Walk {A : Type 0} (all : ℕ → ℕ → List A) (span : ℕ → ℕ → ℕ) (enc : A → List ℕ) (k len from n : ℕ) (d₀ : List ℕ) (start : ℕ) (d : List ℕ) (at out done : ℕ) : Type 0 where
+  pub left : ℕ
+  pub count : done + left ≡ n
   pub there : from + span from n ≤ len
   pub ends : at + span at left ≡ from + span from n
   pub written : Left enc k d₀ start (all from n) d out (all at left)
 
 pub walk_start : {A : Type 0} {all : ℕ → ℕ → List A} {span : ℕ → ℕ → ℕ} {enc : A → List ℕ} {k len from n : ℕ} {d : List ℕ} {start : ℕ}
     → ((a : A) → length (enc a) ≡ k) → from + span from n ≤ len → start + k * length (all from n) ≤ length d
-    → Walk all span enc k len from n d start d from start n
-walk_start sized there room =
-    record { there = there; ends = refl; written = record { sized = sized; room = room; same = refl; place = refl; gives = refl } }
+    → Walk all span enc k len from n d start d from start 0
+walk_start {n = n} sized there room =
+    record { left = n; count = zero-add n; there = there; ends = refl; written = record { sized = sized; room = room; same = refl; place = refl; gives = refl } }
 
-module _ {A : Type 0} {all : ℕ → ℕ → List A} {span : ℕ → ℕ → ℕ} {enc : A → List ℕ} {k len from n : ℕ} {d₀ : List ℕ} {start : ℕ} {d : List ℕ} {at out left : ℕ} (w : Walk all span enc k len from n d₀ start d at out left) (es : List A) (s next : ℕ) (more : all at left ≡ es ++ all (at + s) next) (further : span at left ≡ s + span (at + s) next) where
+module _ {A : Type 0} {all : ℕ → ℕ → List A} {span : ℕ → ℕ → ℕ} {enc : A → List ℕ} {k len from n : ℕ} {d₀ : List ℕ} {start : ℕ} {d : List ℕ} {at out done : ℕ} (w : Walk all span enc k len from n d₀ start d at out done) (es : List A) (s next : ℕ) (one : w.left ≡ suc next) (more : all at (suc next) ≡ es ++ all (at + s) next) (further : span at (suc next) ≡ s + span (at + s) next) where
   walk_there : (at + s ≤ len) × (out + k * length es ≤ length d)
-  walk_there = (omega arith, omega (arith, left_room w.written es (all (at + s) next) more))
+  walk_there =
+      (omega (arith, w.ends, w.there, ap (span at) one, further), omega (arith, left_room w.written es (all (at + s) next) (ap (all at) one ∙ more)))
 
   walk_step : {d' : List ℕ} {at' out' : ℕ} → d' ≡ put d out (each enc es) → at' ≡ at + s → out' ≡ out + k * length es
-      → Walk all span enc k len from n d₀ start d' at' out' next
+      → Walk all span enc k len from n d₀ start d' at' out' (done + 1)
   walk_step {d'} {at'} {out'} p q r =
       rw q
       (record {
+        left = next;
+        count = omega (arith, w.count, one);
         there = w.there;
-        ends = omega arith;
-        written = left_step w.written es more p r;
+        ends = omega (arith, w.ends, ap (span at) one, further);
+        written = left_step w.written es (ap (all at) one ∙ more) p r;
       })
 
 -- the same over a series
-module _ {A : Type 0} {entries : ℕ → List A} {size : ℕ → ℕ} {all : ℕ → ℕ → List A} {span : ℕ → ℕ → ℕ} (s : Series entries size all span) {enc : A → List ℕ} {k len from n : ℕ} {d₀ : List ℕ} {start : ℕ} {d : List ℕ} {at out : ℕ} where
-  pub turn_there : {left : ℕ} → Walk all span enc k len from n d₀ start d at out left → 0 < left → (at + size at ≤ len) × (out + k * length (entries at) ≤ length d)
-  turn_there {left = zero} w h = absurd (omega arith)
-  turn_there {left = suc left} w h = walk_there w (entries at) (size at) left (s.more at left) (s.further at left)
+module _ {A : Type 0} {entries : ℕ → List A} {size : ℕ → ℕ} {all : ℕ → ℕ → List A} {span : ℕ → ℕ → ℕ} (s : Series entries size all span) {enc : A → List ℕ} {k len from n : ℕ} {d₀ : List ℕ} {start : ℕ} {d : List ℕ} {at out done : ℕ} (w : Walk all span enc k len from n d₀ start d at out done) where
+  -- before the last one is done there is one left
+  turn : {C : Type 0} → done < n → ((next : ℕ) → w.left ≡ suc next → C) → C
+  turn {C} h next = go w.left refl
+    where
+      go : (k : ℕ) → w.left ≡ k → C
+      go zero e = absurd (omega (arith, h, w.count, e))
+      go (suc k) e = next k e
 
-  pub turn_next : {left left' : ℕ} {d' : List ℕ} {at' out' : ℕ} → Walk all span enc k len from n d₀ start d at out left → left ≡ suc left'
-      → d' ≡ put d out (each enc (entries at)) → at' ≡ at + size at → out' ≡ out + k * length (entries at)
-      → Walk all span enc k len from n d₀ start d' at' out' left'
-  turn_next {left' = left} w h p q r = walk_step (rw h at w) (entries at) (size at) left (s.more at left) (s.further at left) p q r
+  pub turn_there : done < n → (at + size at ≤ len) × (out + k * length (entries at) ≤ length d)
+  turn_there h = turn h (λ next e. walk_there w (entries at) (size at) next e (s.more at next) (s.further at next))
 
-  pub walk_end : {left : ℕ} → Walk all span enc k len from n d₀ start d at out left → left ≤ 0
-      → (at ≡ from + span from n) × (out ≡ start + k * length (all from n)) × (d ≡ put d₀ start (each enc (all from n)))
-  walk_end {left = zero} w h =
-      let nil : all at 0 ≡ [] = s.none at in
-      let zeros : k * length (all at 0) ≡ 0 = rw (nil, mul-zero) in
-      (omega (arith, s.nothing at), omega arith, left_end w.written nil)
-  walk_end {left = suc left} w h = absurd (omega arith)
+  pub turn_next : {d' : List ℕ} {at' out' : ℕ} → done < n → d' ≡ put d out (each enc (entries at)) → at' ≡ at + size at → out' ≡ out + k * length (entries at)
+      → Walk all span enc k len from n d₀ start d' at' out' (done + 1)
+  turn_next h p q r = turn h (λ next e. walk_step w (entries at) (size at) next e (s.more at next) (s.further at next) p q r)
+
+  pub walk_end : n ≤ done → (at ≡ from + span from n) × (out ≡ start + k * length (all from n)) × (d ≡ put d₀ start (each enc (all from n)))
+  walk_end h =
+      let none : w.left ≡ 0 = omega (arith, h, w.count) in
+      let nil : all at w.left ≡ [] = ap (all at) none ∙ s.none at in
+      let zeros : k * length (all at w.left) ≡ 0 = rw (nil, mul-zero) in
+      (omega (arith, w.ends, ap (span at) none, s.nothing at), omega (arith, w.written.place, zeros), left_end w.written nil)
 
 -- ---- the entries, and the things of a message
 
@@ -285,20 +295,20 @@ abbrev records_entries : ℕ → List ℕ → ℕ → ℕ → List AssertRecord
 records_entries w o at n = all_entries (plain_records w n o at)
 
 abbrev RecordsWalk : Family → List ℕ → ℕ → List ℕ → List ℕ → ℕ → ℕ → ℕ → Type 0
-RecordsWalk f o from d₀ d at out left =
-    Walk (records_entries f.width o) (records_size f.width o) (assert_entry_octets f) (entry_size true f) (length o) from (length o) d₀ 0 d at out left
+RecordsWalk f o from d₀ d at out done =
+    Walk (records_entries f.width o) (records_size f.width o) (assert_entry_octets f) (entry_size true f) (length o) from (length o) d₀ 0 d at out done
 
--- where a loop over the records up to the end stands: at most so many are left
+-- where a loop over the records up to the end stands: at most so many are done
 pub record ToEnd (f : Family) (o : List ℕ) (from : ℕ) (d₀ d : List ℕ) (at out : ℕ) : Type 0 where
-  pub left : ℕ
+  pub done : ℕ
   pub whole : from + records_size f.width o from (length o) ≡ length o
-  pub walk : RecordsWalk f o from d₀ d at out left
+  pub walk : RecordsWalk f o from d₀ d at out done
 
 pub to_end_start : {f : Family} {o : List ℕ} {from : ℕ} {d : List ℕ} → from + records_size f.width o from (length o) ≡ length o
     → entry_size true f * length (records_entries f.width o from (length o)) ≤ length d → ToEnd f o from d d from 0
 to_end_start {f} {o} h room =
     record {
-      left = length o;
+      done = 0;
       whole = h;
       walk = walk_start (length_entry true f) (omega arith) (omega arith);
     }
@@ -306,25 +316,25 @@ to_end_start {f} {o} h room =
 module _ {f : Family} {o : List ℕ} {from : ℕ} {d₀ d : List ℕ} {at out : ℕ} (t : ToEnd f o from d₀ d at out) where
   -- before the end there is a record
   first : {C : Type 0} → at < length o
-      → ((n : ℕ) → RecordsWalk f o from d₀ d at out (suc n) → records_entries f.width o at (suc n) ≡ record_entries f.width o at ++ records_entries f.width o (at + record_size f.width o at) n
+      → ((n : ℕ) → t.walk.left ≡ suc n → records_entries f.width o at (suc n) ≡ record_entries f.width o at ++ records_entries f.width o (at + record_size f.width o at) n
       → records_size f.width o at (suc n) ≡ record_size f.width o at + records_size f.width o (at + record_size f.width o at) n → C)
       → C
   unfolding all_entries all_size plain_records
-  first {C} h next = go t.left t.walk
+  first {C} h next = go t.walk.left refl
     where
-      go : (left : ℕ) → RecordsWalk f o from d₀ d at out left → C
-      go zero w = absurd (omega (arith, t.whole, w.ends))
-      go (suc n) w = next n w (rw (records_more f.width o at n h)) (rw (records_more f.width o at n h))
+      go : (k : ℕ) → t.walk.left ≡ k → C
+      go zero e = absurd (omega (arith, t.whole, t.walk.ends, ap (records_size f.width o at) e))
+      go (suc n) e = next n e (rw (records_more f.width o at n h)) (rw (records_more f.width o at n h))
 
   pub record_there : at < length o → (at + record_size f.width o at ≤ length o) × (out + entry_size true f * length (record_entries f.width o at) ≤ length d)
-  record_there h = first h (λ n w more further. walk_there w (record_entries f.width o at) (record_size f.width o at) n more further)
+  record_there h = first h (λ n e more further. walk_there t.walk (record_entries f.width o at) (record_size f.width o at) n e more further)
 
   pub record_next : {d' : List ℕ} {at' out' : ℕ} → at < length o → d' ≡ put d out (each (assert_entry_octets f) (record_entries f.width o at)) → at' ≡ at + record_size f.width o at
       → out' ≡ out + entry_size true f * length (record_entries f.width o at) → ToEnd f o from d₀ d' at' out'
   record_next h p q r =
-      first h (λ n w more further.
-      record { left = n; whole = t.whole; walk = walk_step w (record_entries f.width o at) (record_size f.width o at) n more further p q r })
+      first h (λ n e more further.
+      record { done = t.done + 1; whole = t.whole; walk = walk_step t.walk (record_entries f.width o at) (record_size f.width o at) n e more further p q r })
 
   pub to_end_end : length o ≤ at → d ≡ put d₀ 0 (each (assert_entry_octets f) (records_entries f.width o from (length o)))
   unfolding all_entries
-  to_end_end h = left_end t.walk.written (rw (records_none f.width o at t.left h))
+  to_end_end h = left_end t.walk.written (rw (records_none f.width o at t.walk.left h))

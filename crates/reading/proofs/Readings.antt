@@ -28,31 +28,30 @@ use Rattle.headers.specs.Answers.{headed}
 use Rattle.counting.specs.Counts.{counted, tallied}
 use Rattle.reading.specs.Plain.{entries_for, entry_size}
 use Rattle.reading.specs.Calls.{body_for, read_for, value_of, HasCounted}
-use Rattle.headers.specs.declared.message.Headed.{Headed}
-use Rattle.headers.specs.declared.message.Headed.TheVariants.{Is, Refused}
 use Rattle.counting.specs.declared.aggregated.Counted.{Counted}
-use Rattle.counting.specs.declared.aggregated.Counted.TheVariants.{All, Bad}
 use Rattle.fields.proofs.Skipped.{no_got}
 use Rattle.reading.proofs.Delivered.{counted_back}
+use Rattle.std.specs.Prelude.{Result, Ok, Err}
+use Rattle.format.specs.Outcome.{reason_number}
 
 -- ---- what the passes answer
 
-pub headed_refuses : (f : Family) (path : Path) (o : List ℕ) {h : Headed} {r : Refusal} → h ≡ Refused r → headed h ≡ header f path o → header f path o ≡ refuses r.number r.place
+pub headed_refuses : (f : Family) (path : Path) (o : List ℕ) {h : Result Kind Refusal} {r : Refusal} → h ≡ Err r → headed h ≡ header f path o → header f path o ≡ refuses (reason_number r.reason) r.place
 unfolding headed
 headed_refuses f path o p q = sym q ∙ ap headed p
 
-pub headed_gives : (f : Family) (path : Path) (o : List ℕ) {h : Headed} {k : Kind} → h ≡ Is k → headed h ≡ header f path o → header f path o ≡ gives k
+pub headed_gives : (f : Family) (path : Path) (o : List ℕ) {h : Result Kind Refusal} {k : Kind} → h ≡ Ok k → headed h ≡ header f path o → header f path o ≡ gives k
 unfolding headed
 headed_gives f path o p q = sym q ∙ ap headed p
 
-pub counted_bad : {A : Type 0} (x : Read (List A)) {c : Counted} {r : Refusal} → c ≡ Bad r → counted c ≡ tallied length x → x ≡ bad r.number r.place
+pub counted_bad : {A : Type 0} (x : Read (List A)) {c : Result Counted Refusal} {r : Refusal} → c ≡ Err r → counted c ≡ tallied length x → x ≡ bad (reason_number r.reason) r.place
 unfolding counted tallied
 counted_bad (got l n) p q = absurd (no_got (sym (ap counted p) ∙ q))
-counted_bad (bad n i) {r = r} p q = let same : ◌≡◌ {A = Read ℕ} (bad n i) (bad r.number r.place) = sym q ∙ ap counted p in ap₂ bad (cc) (cc)
+counted_bad (bad n i) {r = r} p q = let same : ◌≡◌ {A = Read ℕ} (bad n i) (bad (reason_number r.reason) r.place) = sym q ∙ ap counted p in ap₂ bad (cc) (cc)
 
-pub counted_all : {A : Type 0} (x : Read (List A)) {c : Counted} {n next : ℕ} → c ≡ All n next → counted c ≡ tallied length x → HasCounted x n
+pub counted_all : {A : Type 0} (x : Read (List A)) {c : Result Counted Refusal} {k : Counted} → c ≡ Ok k → counted c ≡ tallied length x → HasCounted x k.entries
 unfolding counted
-counted_all x {next = next} p q = record { next = next; counts = sym q ∙ ap counted p }
+counted_all x {k = k} p q = record { next = k.next; counts = sym q ∙ ap counted p }
 
 -- ---- room for n entries, as code tests it
 

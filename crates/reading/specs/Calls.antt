@@ -14,11 +14,13 @@ use Rattle.format.specs.declared.Path.{Path}
 use Rattle.counting.specs.Counts.{tallied}
 use Rattle.reading.specs.Plain.{entries_for}
 use Rattle.reading.specs.declared.entries.Reading.{Reading}
-use Rattle.reading.specs.declared.entries.Reading.TheVariants.{Entries, Refused}
+use Rattle.std.specs.Prelude.{Result, Ok, Err}
+use Rattle.format.specs.declared.Refusal.{Refusal}
+use Rattle.format.specs.Outcome.{reason_number}
 
-unfoldable pub answered : Reading → Outcome Found
-answered (Entries k n) = gives (found k n)
-answered (Refused r) = refuses r.number r.place
+unfoldable pub answered : Result Reading Refusal → Outcome Found
+answered (Ok r) = gives (found r.kind r.count)
+answered (Err r) = refuses (reason_number r.reason) r.place
 
 abbrev pub body_for : (is_assert : Bool) (f : Family) → Kind → Reader (List (entries_for is_assert f).Entry)
 body_for true f = asserts_body f

@@ -1,8 +1,7 @@
 // The second pass of a reading call: the entries of octets that were checked, written one after another.
 // Octets are copied as they stand; no number is read but the counts, and R.
 // Nothing is refused here: each function knows that its octets are there and that the entries fit.
-// A loop over n things is two functions, the loop and one that calls it with the family as a literal: so the compiler
-// makes a loop for each family. A group record, of which a message may have many short ones, is two functions too.
+// The family is a const parameter of what has a loop, so that the compiler makes each loop for each family.
 ghost use Rattle.std.specs.Prelude.{◌≡◌, true, cond, ◌++◌, ◌+◌, ◌≤◌, ◌*◌, length};
 ghost use Rattle.octets.specs.Octets.{number_at, be, put};
 ghost use Rattle.records.specs.Sizes.{group_record_size, group_records_size, aggregated_size, all_size};
@@ -15,7 +14,7 @@ ghost use Rattle.reading.specs.Copied.{Fit, Copied};
 
 use addresses::{copy_address, front_size, width};
 use format::r_bit;
-use octets::{copy8, number16, number32, write32};
+use octets::{copy, number, write};
 
 // One of two numbers.
 fn either(first: bool, a: usize, b: usize) -> usize
@@ -50,10 +49,10 @@ fn put_front(ipv6: bool, d: &mut [u8], out: usize)
     ensures { d.new ≡ put d.old out (family_of ipv6).front }
 {
     if ipv6 {
-        write32(&mut d[out..out + 4], 0, 0x0200_0000);
+        write::<u32>(&mut d[out..out + 4], 0, 0x0200_0000);
         return;
     }
-    write32(&mut d[out..out + 4], 0, 0x0100_0000);
+    write::<u32>(&mut d[out..out + 4], 0, 0x0100_0000);
 }
 
 // An entry, from the places of its group and, of an assert, of its word R with preference, after which the metric stands.
@@ -77,45 +76,32 @@ fn copy_entry(
     copy_two(ipv6, m, group, s, source, d, addresses);
     if is_assert {
         let words = addresses + 2 * width(ipv6);
-        copy8(&m[word..word + 8], &mut d[words..words + 8]);
+        copy::<8>(&m[word..word + 8], &mut d[words..words + 8]);
     }
 }
 
 // n assert records, or n pairs, one after another.
-fn copy_records_of(ipv6: bool, is_assert: bool, m: &[u8], from: usize, n: usize, d: &mut [u8])
-    requires { (from + plain_size is_assert (family_of ipv6).width * n ≤ length m.now) × (entry_size is_assert (family_of ipv6) * n ≤ length d.old) }
-    ensures { d.new ≡ put d.old 0 (each (entries_for is_assert (family_of ipv6)).octets_of (plain_entries is_assert (family_of ipv6) m.now from n)) }
-{
-    let w = width(ipv6);
-    let record = 2 * w + 6 + either(is_assert, 8, 0);
-    let size = entry_size(ipv6, is_assert);
-    let mut left = n;
-    let mut at = from;
-    let mut out = 0;
-    while left > 0 {
-        let source = at + (w + 6);
-        copy_entry(ipv6, is_assert, m, at + 4, m, source, source + w, d, out);
-        at += record;
-        out += size;
-        left -= 1;
-    }
-}
-
-pub(crate) fn copy_records(
-    ipv6: bool,
+pub(crate) fn copy_records<const IPV6: bool>(
     is_assert: bool,
     m: &[u8],
     from: usize,
     n: usize,
     d: &mut [u8],
 )
-    requires { (from + plain_size is_assert (family_of ipv6).width * n ≤ length m.now) × (entry_size is_assert (family_of ipv6) * n ≤ length d.old) }
-    ensures { d.new ≡ put d.old 0 (each (entries_for is_assert (family_of ipv6)).octets_of (plain_entries is_assert (family_of ipv6) m.now from n)) }
+    requires { (from + plain_size is_assert (family_of IPV6).width * n ≤ length m.now) × (entry_size is_assert (family_of IPV6) * n ≤ length d.old) }
+    ensures { d.new ≡ put d.old 0 (each (entries_for is_assert (family_of IPV6)).octets_of (plain_entries is_assert (family_of IPV6) m.now from n)) }
 {
-    if ipv6 {
-        return copy_records_of(true, is_assert, m, from, n, d);
+    let w = width(IPV6);
+    let record = 2 * w + 6 + either(is_assert, 8, 0);
+    let size = entry_size(IPV6, is_assert);
+    let mut at = from;
+    let mut out = 0;
+    for _ in 0..n {
+        let source = at + (w + 6);
+        copy_entry(IPV6, is_assert, m, at + 4, m, source, source + w, d, out);
+        at += record;
+        out += size;
     }
-    copy_records_of(false, is_assert, m, from, n, d)
 }
 
 // The places past what was read and past what was written.
@@ -126,8 +112,7 @@ struct Places {
 }
 
 // One entry for each of n groups, or of n sources, all with one other address and two words.
-fn copy_addresses_of(
-    ipv6: bool,
+fn copy_addresses<const IPV6: bool>(
     is_group: bool,
     m: &[u8],
     from: usize,
@@ -137,92 +122,51 @@ fn copy_addresses_of(
     d: &mut [u8],
     start: usize,
 ) -> Places
-    requires { (other + (family_of ipv6).width ≤ length m.now) × (word + 8 ≤ length m.now) × Fit (family_of ipv6) m.now from (((family_of ipv6).width + skip is_group) * n) d.old start (like_entries is_group (family_of ipv6).width m.now other word from n) }
-    ensures { Copied (family_of ipv6) from (((family_of ipv6).width + skip is_group) * n) d.old start (like_entries is_group (family_of ipv6).width m.now other word from n) d.new result }
+    requires { (other + (family_of IPV6).width ≤ length m.now) × (word + 8 ≤ length m.now) × Fit (family_of IPV6) m.now from (((family_of IPV6).width + skip is_group) * n) d.old start (like_entries is_group (family_of IPV6).width m.now other word from n) }
+    ensures { Copied (family_of IPV6) from (((family_of IPV6).width + skip is_group) * n) d.old start (like_entries is_group (family_of IPV6).width m.now other word from n) d.new result }
 {
-    let w = width(ipv6);
-    let size = entry_size(ipv6, true);
-    let mut left = n;
+    let w = width(IPV6);
+    let size = entry_size(IPV6, true);
     let mut at = from;
     let mut out = start;
-    while left > 0 {
+    for _ in 0..n {
         let address = at + either(is_group, 4, 2);
         let group = either(is_group, address, other);
         let source = either(is_group, other, address);
-        copy_entry(ipv6, true, m, group, m, source, word, d, out);
+        copy_entry(IPV6, true, m, group, m, source, word, d, out);
         at = address + w;
         out += size;
-        left -= 1;
     }
     Places { at, out }
 }
 
-fn copy_addresses(
-    ipv6: bool,
-    is_group: bool,
-    m: &[u8],
-    from: usize,
-    n: usize,
-    other: usize,
-    word: usize,
-    d: &mut [u8],
-    start: usize,
-) -> Places
-    requires { (other + (family_of ipv6).width ≤ length m.now) × (word + 8 ≤ length m.now) × Fit (family_of ipv6) m.now from (((family_of ipv6).width + skip is_group) * n) d.old start (like_entries is_group (family_of ipv6).width m.now other word from n) }
-    ensures { Copied (family_of ipv6) from (((family_of ipv6).width + skip is_group) * n) d.old start (like_entries is_group (family_of ipv6).width m.now other word from n) d.new result }
-{
-    if ipv6 {
-        return copy_addresses_of(true, is_group, m, from, n, other, word, d, start);
-    }
-    copy_addresses_of(false, is_group, m, from, n, other, word, d, start)
-}
-
 // The entries of a group record; with no source one entry with source 0.
-fn copy_group_record_of(
-    ipv6: bool,
+fn copy_group_record<const IPV6: bool>(
     m: &[u8],
     at: usize,
     d: &mut [u8],
     out: usize,
     word: usize,
 ) -> Places
-    requires { (word + 8 ≤ length m.now) × Fit (family_of ipv6) m.now at (group_record_size (family_of ipv6).width (number_at 2 m.now (at + ((family_of ipv6).width + 4)))) d.old out (group_entries (number_at 4 m.now word) (number_at 4 m.now (word + 4)) (plain_group_record (family_of ipv6).width m.now at)) }
-    ensures { Copied (family_of ipv6) at (group_record_size (family_of ipv6).width (number_at 2 m.now (at + ((family_of ipv6).width + 4)))) d.old out (group_entries (number_at 4 m.now word) (number_at 4 m.now (word + 4)) (plain_group_record (family_of ipv6).width m.now at)) d.new result }
+    requires { (word + 8 ≤ length m.now) × Fit (family_of IPV6) m.now at (group_record_size (family_of IPV6).width (number_at 2 m.now (at + ((family_of IPV6).width + 4)))) d.old out (group_entries (number_at 4 m.now word) (number_at 4 m.now (word + 4)) (plain_group_record (family_of IPV6).width m.now at)) }
+    ensures { Copied (family_of IPV6) at (group_record_size (family_of IPV6).width (number_at 2 m.now (at + ((family_of IPV6).width + 4)))) d.old out (group_entries (number_at 4 m.now word) (number_at 4 m.now (word + 4)) (plain_group_record (family_of IPV6).width m.now at)) d.new result }
 {
-    let w = width(ipv6);
+    let w = width(IPV6);
     let sources = at + (w + 8);
-    let p = number16(&m[at + (w + 4)..at + (w + 6)], 0);
+    let p = number::<u16>(&m[at + (w + 4)..at + (w + 6)], 0) as usize;
     if p == 0 {
         let zeros = b"\x00\x00\x00\x00\x00\x00\x00\x00\x00\x00\x00\x00\x00\x00\x00\x00";
-        copy_entry(ipv6, true, m, at + 4, zeros, 0, word, d, out);
+        copy_entry(IPV6, true, m, at + 4, zeros, 0, word, d, out);
         return Places {
             at: sources,
-            out: out + entry_size(ipv6, true),
+            out: out + entry_size(IPV6, true),
         };
     }
-    copy_addresses(ipv6, false, m, sources, p, at + 4, word, d, out)
-}
-
-fn copy_group_record(
-    ipv6: bool,
-    m: &[u8],
-    at: usize,
-    d: &mut [u8],
-    out: usize,
-    word: usize,
-) -> Places
-    requires { (word + 8 ≤ length m.now) × Fit (family_of ipv6) m.now at (group_record_size (family_of ipv6).width (number_at 2 m.now (at + ((family_of ipv6).width + 4)))) d.old out (group_entries (number_at 4 m.now word) (number_at 4 m.now (word + 4)) (plain_group_record (family_of ipv6).width m.now at)) }
-    ensures { Copied (family_of ipv6) at (group_record_size (family_of ipv6).width (number_at 2 m.now (at + ((family_of ipv6).width + 4)))) d.old out (group_entries (number_at 4 m.now word) (number_at 4 m.now (word + 4)) (plain_group_record (family_of ipv6).width m.now at)) d.new result }
-{
-    if ipv6 {
-        return copy_group_record_of(true, m, at, d, out, word);
-    }
-    copy_group_record_of(false, m, at, d, out, word)
+    copy_addresses::<IPV6>(false, m, sources, p, at + 4, word, d, out)
 }
 
 // The entries of n group records, one after another.
-fn copy_group_records(
-    ipv6: bool,
+fn copy_group_records<const IPV6: bool>(
     m: &[u8],
     from: usize,
     n: usize,
@@ -230,44 +174,43 @@ fn copy_group_records(
     start: usize,
     word: usize,
 ) -> Places
-    requires { (word + 8 ≤ length m.now) × Fit (family_of ipv6) m.now from (group_records_size (family_of ipv6).width (plain_group_records (family_of ipv6).width m.now from n)) d.old start (all_group_entries (number_at 4 m.now word) (number_at 4 m.now (word + 4)) (plain_group_records (family_of ipv6).width m.now from n)) }
-    ensures { Copied (family_of ipv6) from (group_records_size (family_of ipv6).width (plain_group_records (family_of ipv6).width m.now from n)) d.old start (all_group_entries (number_at 4 m.now word) (number_at 4 m.now (word + 4)) (plain_group_records (family_of ipv6).width m.now from n)) d.new result }
+    requires { (word + 8 ≤ length m.now) × Fit (family_of IPV6) m.now from (group_records_size (family_of IPV6).width (plain_group_records (family_of IPV6).width m.now from n)) d.old start (all_group_entries (number_at 4 m.now word) (number_at 4 m.now (word + 4)) (plain_group_records (family_of IPV6).width m.now from n)) }
+    ensures { Copied (family_of IPV6) from (group_records_size (family_of IPV6).width (plain_group_records (family_of IPV6).width m.now from n)) d.old start (all_group_entries (number_at 4 m.now word) (number_at 4 m.now (word + 4)) (plain_group_records (family_of IPV6).width m.now from n)) d.new result }
 {
-    let mut left = n;
     let mut at = from;
     let mut out = start;
-    while left > 0 {
-        let p = copy_group_record(ipv6, m, at, d, out, word);
+    for _ in 0..n {
+        let p = copy_group_record::<IPV6>(m, at, d, out, word);
         at = p.at;
         out = p.out;
-        left -= 1;
     }
     Places { at, out }
 }
 
 // The entries of an aggregated record, of which R tells the two forms apart.
-fn copy_record(ipv6: bool, m: &[u8], at: usize, d: &mut [u8], out: usize) -> Places
-    requires { Fit (family_of ipv6) m.now at (aggregated_size (family_of ipv6).width (plain_aggregated (family_of ipv6).width m.now at)) d.old out (entries (plain_aggregated (family_of ipv6).width m.now at)) }
-    ensures { Copied (family_of ipv6) at (aggregated_size (family_of ipv6).width (plain_aggregated (family_of ipv6).width m.now at)) d.old out (entries (plain_aggregated (family_of ipv6).width m.now at)) d.new result }
+fn copy_record<const IPV6: bool>(m: &[u8], at: usize, d: &mut [u8], out: usize) -> Places
+    requires { Fit (family_of IPV6) m.now at (aggregated_size (family_of IPV6).width (plain_aggregated (family_of IPV6).width m.now at)) d.old out (entries (plain_aggregated (family_of IPV6).width m.now at)) }
+    ensures { Copied (family_of IPV6) at (aggregated_size (family_of IPV6).width (plain_aggregated (family_of IPV6).width m.now at)) d.old out (entries (plain_aggregated (family_of IPV6).width m.now at)) d.new result }
 {
-    if r_bit(number32(&m[at..at + 4], 0)) {
-        let n = number16(&m[at + 8..at + 10], 0);
-        return copy_group_records(ipv6, m, at + 12, n, d, out, at);
+    if r_bit(number::<u32>(&m[at..at + 4], 0)) {
+        let n = number::<u16>(&m[at + 8..at + 10], 0) as usize;
+        return copy_group_records::<IPV6>(m, at + 12, n, d, out, at);
     }
-    let w = width(ipv6);
-    let n = number16(&m[at + (w + 10)..at + (w + 12)], 0);
-    copy_addresses(ipv6, true, m, at + (w + 14), n, at + 10, at, d, out)
+    let w = width(IPV6);
+    let n = number::<u16>(&m[at + (w + 10)..at + (w + 12)], 0) as usize;
+    copy_addresses::<IPV6>(true, m, at + (w + 14), n, at + 10, at, d, out)
 }
 
 // The entries of the aggregated records up to the end of a message.
-pub(crate) fn copy_aggregated(ipv6: bool, m: &[u8], from: usize, d: &mut [u8])
-    requires { (from + all_size (family_of ipv6).width (plain_records (family_of ipv6).width (length m.now) m.now from) ≡ length m.now) × (entry_size true (family_of ipv6) * length (all_entries (plain_records (family_of ipv6).width (length m.now) m.now from)) ≤ length d.old) }
-    ensures { d.new ≡ put d.old 0 (each (assert_entry_octets (family_of ipv6)) (all_entries (plain_records (family_of ipv6).width (length m.now) m.now from))) }
+pub(crate) fn copy_aggregated<const IPV6: bool>(m: &[u8], from: usize, d: &mut [u8])
+    requires { (from + all_size (family_of IPV6).width (plain_records (family_of IPV6).width (length m.now) m.now from) ≡ length m.now) × (entry_size true (family_of IPV6) * length (all_entries (plain_records (family_of IPV6).width (length m.now) m.now from)) ≤ length d.old) }
+    ensures { d.new ≡ put d.old 0 (each (assert_entry_octets (family_of IPV6)) (all_entries (plain_records (family_of IPV6).width (length m.now) m.now from))) }
 {
     let mut at = from;
     let mut out = 0;
+    // A record says how long it is only as it is read, so no range has the places: an iterator would be this loop and a type more.
     while at < m.len() {
-        let p = copy_record(ipv6, m, at, d, out);
+        let p = copy_record::<IPV6>(m, at, d, out);
         at = p.at;
         out = p.out;
     }

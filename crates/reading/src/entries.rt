@@ -11,19 +11,18 @@ ghost use Rattle.reading.specs.Calls.{answered, body_for, read_for, value_of, Ha
 
 use crate::copy::{copy_aggregated, copy_records, entry_size};
 use counting::{Counted, count_asserts, count_pairs};
-use format::{AddressFamily, Kind, Path, Refusal, is_ipv6};
-use headers::{Headed, header};
+use format::{AddressFamily, Kind, Path, Reason, Refusal, is_ipv6};
+use headers::header;
 
-// What a reading call found.
+// What a reading call found: the kind, and the number of entries.
 #[derive(Clone, Copy)]
-pub enum Reading {
-    // The kind, and the number of entries.
-    Entries { kind: Kind, count: usize },
-    Refused(Refusal),
+pub struct Reading {
+    pub kind: Kind,
+    pub count: usize,
 }
 
 // The entries of a body, counted.
-fn count(ipv6: bool, is_assert: bool, kind: Kind, m: &[u8]) -> Counted
+fn count(ipv6: bool, is_assert: bool, kind: Kind, m: &[u8]) -> Result<Counted, Refusal>
     ensures { counted result ≡ tallied length (body_for is_assert (family_of ipv6) kind m.now 4) }
 {
     if is_assert {
@@ -33,53 +32,59 @@ fn count(ipv6: bool, is_assert: bool, kind: Kind, m: &[u8]) -> Counted
 }
 
 // The entries that were counted, one after another.
+fn copy_body<const IPV6: bool>(is_assert: bool, kind: Kind, m: &[u8], n: usize, d: &mut [u8])
+    requires { HasCounted (body_for is_assert (family_of IPV6) kind m.now 4) n × (entry_size is_assert (family_of IPV6) * n ≤ length d.old) }
+    ensures { d.new ≡ put d.old 0 (each (entries_for is_assert (family_of IPV6)).octets_of (value_of (body_for is_assert (family_of IPV6) kind m.now 4))) }
+{
+    match kind {
+        Kind::Hello => {}
+        Kind::Assert => copy_records::<IPV6>(is_assert, m, 4, n, d),
+        Kind::Simple => copy_records::<IPV6>(is_assert, m, 8, n, d),
+        Kind::Aggregated => copy_aggregated::<IPV6>(m, 8, d),
+        Kind::NullRegister => copy_records::<IPV6>(is_assert, m, 4, n, d),
+        Kind::RegisterStop => copy_records::<IPV6>(is_assert, m, 4, n, d),
+    }
+}
+
+// The same by a family that is known at run time: the one place where it becomes a const parameter.
 fn copy_entries(ipv6: bool, is_assert: bool, kind: Kind, m: &[u8], n: usize, d: &mut [u8])
     requires { HasCounted (body_for is_assert (family_of ipv6) kind m.now 4) n × (entry_size is_assert (family_of ipv6) * n ≤ length d.old) }
     ensures { d.new ≡ put d.old 0 (each (entries_for is_assert (family_of ipv6)).octets_of (value_of (body_for is_assert (family_of ipv6) kind m.now 4))) }
 {
-    match kind {
-        Kind::Hello => {}
-        Kind::Assert => copy_records(ipv6, is_assert, m, 4, n, d),
-        Kind::Simple => copy_records(ipv6, is_assert, m, 8, n, d),
-        Kind::Aggregated => copy_aggregated(ipv6, m, 8, d),
-        Kind::NullRegister => copy_records(ipv6, is_assert, m, 4, n, d),
-        Kind::RegisterStop => copy_records(ipv6, is_assert, m, 4, n, d),
+    if ipv6 {
+        return copy_body::<true>(is_assert, kind, m, n, d);
     }
+    copy_body::<false>(is_assert, kind, m, n, d)
 }
 
 // Reads a message of the assert kinds, or of the pair kinds.
-fn read_of(ipv6: bool, path: Path, is_assert: bool, m: &[u8], d: &mut [u8]) -> Reading
+fn read_of(
+    ipv6: bool,
+    path: Path,
+    is_assert: bool,
+    m: &[u8],
+    d: &mut [u8],
+) -> Result<Reading, Refusal>
     ensures answer { answered result ≡ (read_for is_assert (family_of ipv6) path m.now d.old).answer }
     ensures lent { d.new ≡ (read_for is_assert (family_of ipv6) path m.now d.old).lent }
 {
-    let h = header(ipv6, path, m);
-    match h {
-        Headed::Refused(r) => Reading::Refused(r),
-        Headed::Is(kind) => {
-            let c = count(ipv6, is_assert, kind, m);
-            match c {
-                Counted::Bad(r) => Reading::Refused(r),
-                Counted::All { entries, next: _ } => {
-                    let size = entry_size(ipv6, is_assert);
-                    if d.len() / size < entries {
-                        return Reading::Refused(Refusal {
-                            number: 8,
-                            place: 0,
-                        });
-                    }
-                    copy_entries(ipv6, is_assert, kind, m, entries, d);
-                    Reading::Entries {
-                        kind,
-                        count: entries,
-                    }
-                }
-            }
-        }
+    let kind = header(ipv6, path, m)?;
+    let counted = count(ipv6, is_assert, kind, m)?;
+    let n = counted.entries;
+    if d.len() / entry_size(ipv6, is_assert) < n {
+        return Err(Reason::NoRoom.at(0));
     }
+    copy_entries(ipv6, is_assert, kind, m, n, d);
+    Ok(Reading { kind, count: n })
 }
 
 // Reads a message of the assert kinds into assert entries.
-pub fn read_asserts(family: AddressFamily, path: Path, m: &[u8], d: &mut [u8]) -> Reading
+pub fn read_asserts(
+    family: AddressFamily,
+    path: Path,
+    m: &[u8],
+    d: &mut [u8],
+) -> Result<Reading, Refusal>
     ensures answer { answered result ≡ (read_asserts (family_named family) path m.now d.old).answer }
     ensures lent { d.new ≡ (read_asserts (family_named family) path m.now d.old).lent }
 {
@@ -87,7 +92,12 @@ pub fn read_asserts(family: AddressFamily, path: Path, m: &[u8], d: &mut [u8]) -
 }
 
 // Reads a message of the pair kinds into pair entries.
-pub fn read_pairs(family: AddressFamily, path: Path, m: &[u8], d: &mut [u8]) -> Reading
+pub fn read_pairs(
+    family: AddressFamily,
+    path: Path,
+    m: &[u8],
+    d: &mut [u8],
+) -> Result<Reading, Refusal>
     ensures answer { answered result ≡ (read_pairs (family_named family) path m.now d.old).answer }
     ensures lent { d.new ≡ (read_pairs (family_named family) path m.now d.old).lent }
 {

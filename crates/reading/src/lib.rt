@@ -13,5 +13,4 @@ mod message;
 
 pub use entries::{Reading, read_asserts, read_pairs};
 pub use fields::{Single, read_record};
-pub use headers::Headed;
 pub use message::{body, header};

@@ -1,14 +1,13 @@
 -- Octets moved to the front of the buffer that they stand in.
---     moved_next     one octet more: it still stands where it stood, since only octets before it were written
 --     Left           what is left of the first n octets, and where: left_of
 --     moved_front    what then stands at the front
 -- Assumes nothing.
-use Prim.Native.Nat.{ℕ, suc, ◌+◌, ◌-◌, ◌≤◌, ◌<◌}
+use Prim.Native.Nat.{ℕ, ◌+◌, ◌-◌, ◌≤◌}
 use native.Mathlib.Omega.{arith}
 use mathlib.Core.Path.{◌≡◌, sym, ap, ◌∙◌}
-use mathlib.Core.List.{List, ◌++◌}
-use lib.ListN.{length, get_or, set, take, drop, length-drop, take-append-drop}
-use lib.Seq.{paste, paste-suc, take-paste, length-take-le, drop-append-le, take_at, get_or-append-add, get_or-drop}
+use mathlib.Core.List.{List}
+use lib.ListN.{length, take, drop, length-drop, take-append-drop}
+use lib.Seq.{paste, take-paste, length-take-le, drop-append-le, take_at}
 use Rattle.octets.specs.Octets.{Octets}
 use Rattle.octets.proofs.Laws.{octets_take}
 use Rattle.reporting.specs.Report.{taken_from}
@@ -16,33 +15,6 @@ use Rattle.reporting.specs.declared.Tally.{Tally}
 use Rattle.reporting.specs.declared.Taken.{Taken}
 use Rattle.reporting.proofs.Files.{left_within, left_drop, left_few}
 use Rattle.reporting.specs.File.{file_of}
-
-module _ (d : List ℕ) (from n i : ℕ) (room : from + n ≤ length d) (less : i < n) where
-  pub moved_stands : get_or (paste d 0 (drop from d) i) (from + i) 0 ≡ get_or (drop from d) i 0
-  moved_stands =
-      let front = take i (drop from d) in
-      let long : length front ≡ i = length-take-le i (drop from d) (omega (arith, length-drop from d)) in
-      ap (λ (k : ℕ). get_or (front ++ drop (0 + i) d) k 0) (place long)
-      ∙ get_or-append-add front (drop (0 + i) d) from 0
-      ∙ get_or-drop (0 + i) d from 0
-      ∙ ap (λ (k : ℕ). get_or d k 0) sums
-      ∙ sym (get_or-drop from d i 0)
-    where
-      sums : 0 + i + from ≡ from + i
-      sums = omega arith
-
-      place : length (take i (drop from d)) ≡ i → from + i ≡ length (take i (drop from d)) + from
-      place h = omega arith
-
-  pub moved_next : {b c : List ℕ} {j : ℕ} → b ≡ paste d 0 (drop from d) i → c ≡ set b i (get_or b (from + i) 0) → j ≡ suc i → c ≡ paste d 0 (drop from d) j
-  moved_next {b} {c} {j} e s k =
-      s ∙ ap (λ (x : List ℕ). set x i (get_or x (from + i) 0)) e ∙ ap (λ (v : ℕ). set (paste d 0 (drop from d) i) i v) moved_stands
-      ∙ ap (λ (x : ℕ). set (paste d 0 (drop from d) i) x (get_or (drop from d) i 0)) first
-      ∙ paste-suc d 0 (drop from d) i 0 (omega arith) (omega (arith, length-drop from d))
-      ∙ ap (paste d 0 (drop from d)) (sym k)
-    where
-      first : i ≡ 0 + i
-      first = omega arith
 
 pub record Left (b : List ℕ) (n used : ℕ) : Type 0 where
   pub within : used ≤ n

@@ -1,7 +1,6 @@
 // Standard input read piece by piece into one buffer. What is left of a piece, the start of a length or of a message,
 // stands before the next one.
-ghost use Rattle.std.specs.Prelude.{◌≡◌, ◌+◌, ◌≤◌, length, take, drop};
-ghost use Rattle.std.proofs.Math.Seq.{paste};
+ghost use Rattle.std.specs.Prelude.{◌≡◌, ◌≤◌, length, take};
 ghost use Rattle.reporting.specs.File.{file_of};
 ghost use Rattle.reporting.specs.Report.{taken_from};
 
@@ -41,18 +40,6 @@ pub(crate) fn buffer() -> [u8; 131072]
     [0; 131072]
 }
 
-// Moves n octets from a place to the front.
-fn to_front(buf: &mut [u8], from: usize, n: usize)
-    requires { from + n ≤ length buf.old }
-    ensures { buf.new ≡ paste buf.old 0 (drop from buf.old) n }
-{
-    let mut i = 0;
-    while i < n {
-        buf[i] = buf[from + i];
-        i += 1;
-    }
-}
-
 // Counts the messages that stand whole in the first n octets, and moves what is left to the front.
 fn count_piece(t: Tally, buf: &mut [u8], n: usize) -> Counted
     requires { n ≤ length buf.old }
@@ -62,20 +49,19 @@ fn count_piece(t: Tally, buf: &mut [u8], n: usize) -> Counted
     ensures long { length buf.new ≡ length buf.old }
 {
     let all = reporting::with_octets(t, &buf[..n]);
-    let used = all.used;
-    let left = n - used;
-    to_front(buf, used, left);
-    let tally = all.tally;
-    Counted { tally, left }
+    let left = n - all.used;
+    buf.copy_within(all.used..n, 0);
+    Counted {
+        tally: all.tally,
+        left,
+    }
 }
 
 // Reads until the input ends or a read fails.
 pub(crate) fn read_input(input: &mut impl Read, buf: &mut [u8]) -> Found {
     let mut tally = reporting::none();
     let mut left = 0;
-    let mut reads = READS;
-    while 0 < reads {
-        reads -= 1;
+    for _ in 0..READS {
         match input.read(&mut buf[left..]) {
             Ok(0) => return at_end(tally, left),
             Ok(more) => {

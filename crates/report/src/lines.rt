@@ -20,14 +20,7 @@ fn kinds(out: &impl Print, t: ByKind) -> bool {
 
 // The numbers from 1 on.
 fn numbers(out: &impl Print, refused: [u64; NUMBERS]) -> bool {
-    let mut n = 1;
-    while n < NUMBERS {
-        if !(number(out, b"refused ", n as u64) && named(out, b" ", refused[n])) {
-            return false;
-        }
-        n += 1;
-    }
-    true
+    (1..NUMBERS).all(|n| number(out, b"refused ", n as u64) && named(out, b" ", refused[n]))
 }
 
 fn mean(out: &impl Print, f: Fraction) -> bool {
@@ -43,9 +36,8 @@ fn ending(out: &impl Print, whole: bool) -> bool {
 
 // All lines, up to the first that cannot be written.
 pub(crate) fn print(out: &impl Print, err: &impl Print, t: Tally, whole: bool) {
-    let refused = t.refused;
     let written = kinds(out, t.accepted)
-        && numbers(out, refused)
+        && numbers(out, t.refused)
         && mean(out, reporting::mean(t))
         && ending(out, whole);
     told(err, written, b"the report was");

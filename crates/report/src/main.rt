@@ -29,7 +29,6 @@ fn main(rt: HostRuntime) {
     let err = rt.stderr();
     let mut buf = input::buffer();
     let found = read_input(&mut rt.stdin(), &mut buf);
-    let ending = found.ending;
-    let whole = told(&err, ending);
+    let whole = told(&err, found.ending);
     lines::print(&out, &err, found.tally, whole);
 }

@@ -19,8 +19,9 @@ use Rattle.reporting.specs.Judging.{judged}
 use Rattle.reporting.specs.Answers.{judged_by}
 use Rattle.reporting.specs.Tallies.{once_more, more, tallied}
 use Rattle.reporting.specs.declared.Tally.{Tally}
-use Rattle.reporting.specs.declared.judge.Verdict.{Verdict}
-use Rattle.reporting.specs.declared.judge.Verdict.TheVariants.{Accepted, Refused}
+use Rattle.reporting.specs.declared.judge.Accepted.{Accepted}
+use Rattle.std.specs.Prelude.{Result, Ok, Err}
+use Rattle.format.specs.Outcome.{reason_number}
 
 abbrev only : ByKind → Counters
 only b = record { sent = none_by_kind; received = b }
@@ -38,13 +39,13 @@ pub counted_received : (b : ByKind) (k : Kind) (n : ℕ) {c : Counters} {x : ℕ
     → (counting c Received x n).counters ≡ only (more_at (kind_number k) n b)
 counted_received b k n {x = x} e h = ap (λ (c : Counters). (counting c Received x n).counters) e ∙ ap (λ (y : ℕ). (counting (only b) Received y n).counters) h ∙ six b k n
 
-module _ (t : Tally) (m : List ℕ) {v : Verdict} (judges : judged_by v ≡ judged m) where
-  pub accepted_one : {k : Kind} {n : ℕ} {b : ByKind} → v ≡ Accepted k n → b ≡ more_at (kind_number k) n t.accepted → record { accepted = b; refused = t.refused } ≡ tallied t m
+module _ (t : Tally) (m : List ℕ) {v : Result Accepted Refusal} (judges : judged_by v ≡ judged m) where
+  pub accepted_one : {a : Accepted} {b : ByKind} → v ≡ Ok a → b ≡ more_at (kind_number a.kind) a.records t.accepted → record { accepted = b; refused = t.refused } ≡ tallied t m
   unfolding tallied more judged_by
   accepted_one is e =
       ap {B = Tally} (λ (b : ByKind). record { accepted = b; refused = t.refused }) e ∙ ap (more t) (sym (ap judged_by is) ∙ judges)
 
-  pub refused_one : {r : Refusal} {l : List ℕ} → v ≡ Refused r → l ≡ once_more r.number t.refused → record { accepted = t.accepted; refused = l } ≡ tallied t m
+  pub refused_one : {r : Refusal} {l : List ℕ} → v ≡ Err r → l ≡ once_more (reason_number r.reason) t.refused → record { accepted = t.accepted; refused = l } ≡ tallied t m
   unfolding tallied more judged_by
   refused_one is e =
       ap {B = Tally} (λ (l : List ℕ). record { accepted = t.accepted; refused = l }) e ∙ ap (more t) (sym (ap judged_by is) ∙ judges)

@@ -1,5 +1,6 @@
 -- What comes of a message, by its parts.
 --     by_asserts, by_pairs   a message of a kind, by its body counted
+--     as_asserts, as_pairs   that is what comes of it, where an arm of the code has the kinds of either sort
 --     by_said         a Hello, by its options
 --     by_checked      the same where what they say is not asked
 --     judged_kind     what its header accepts is judged by its kind
@@ -9,6 +10,7 @@
 use Prim.Native.Nat.{ℕ, ◌≤◌}
 use native.Mathlib.Omega.{arith}
 use mathlib.Core.Path.{◌≡◌, refl, sym, subst, ◌∙◌}
+use mathlib.Core.Logic.{◌⊎◌, inl, inr}
 use mathlib.Core.List.{List}
 use lib.ListN.{length}
 use Rattle.format.specs.Outcome.{Outcome, gives, refuses, ◌>>=◌, ◌>>◌}
@@ -33,13 +35,26 @@ unfolding count_of tallied outcome ◌>>=◌ entries_in
 by_entries k (got es next) = refl
 by_entries k (bad n p) = refl
 
-pub by_asserts : (k : Kind) (m : List ℕ) {c : Read ℕ} → header ipv4 nowhere m ≡ gives k → c ≡ tallied length (asserts_body ipv4 k m 4) → count_of k c ≡ unpack_asserts ipv4 nowhere m >>= entries_in
+by_asserts : (k : Kind) (m : List ℕ) {c : Read ℕ} → header ipv4 nowhere m ≡ gives k → c ≡ tallied length (asserts_body ipv4 k m 4) → count_of k c ≡ unpack_asserts ipv4 nowhere m >>= entries_in
 unfolding unpack_asserts ◌>>=◌ from
 by_asserts k m h e = rw (e, h) (by_entries k (asserts_body ipv4 k m 4))
 
-pub by_pairs : (k : Kind) (m : List ℕ) {c : Read ℕ} → header ipv4 nowhere m ≡ gives k → c ≡ tallied length (pairs_body ipv4 k m 4) → count_of k c ≡ unpack_pairs ipv4 nowhere m >>= entries_in
+by_pairs : (k : Kind) (m : List ℕ) {c : Read ℕ} → header ipv4 nowhere m ≡ gives k → c ≡ tallied length (pairs_body ipv4 k m 4) → count_of k c ≡ unpack_pairs ipv4 nowhere m >>= entries_in
 unfolding unpack_pairs ◌>>=◌ from
 by_pairs k m h e = rw (e, h) (by_entries k (pairs_body ipv4 k m 4))
+
+pub as_asserts : {k : Kind} (m : List ℕ) {c : Read ℕ} → k ≡ Assert ⊎ k ≡ Simple ⊎ k ≡ Aggregated → header ipv4 nowhere m ≡ gives k
+    → c ≡ tallied length (asserts_body ipv4 k m 4) → count_of k c ≡ judged_as k m
+unfolding judged_as
+as_asserts {k} m (inl i) h e = by_asserts k m h e ∙ rw i refl
+as_asserts {k} m (inr (inl i)) h e = by_asserts k m h e ∙ rw i refl
+as_asserts {k} m (inr (inr i)) h e = by_asserts k m h e ∙ rw i refl
+
+pub as_pairs : {k : Kind} (m : List ℕ) {c : Read ℕ} → k ≡ NullRegister ⊎ k ≡ RegisterStop → header ipv4 nowhere m ≡ gives k
+    → c ≡ tallied length (pairs_body ipv4 k m 4) → count_of k c ≡ judged_as k m
+unfolding judged_as
+as_pairs {k} m (inl i) h e = by_pairs k m h e ∙ rw i refl
+as_pairs {k} m (inr i) h e = by_pairs k m h e ∙ rw i refl
 
 pub by_said : (m : List ℕ) → header ipv4 nowhere m ≡ gives Hello → heard_of (hello_options m) ≡ judged_as Hello m
 unfolding heard_of judged_as read_hello ◌>>=◌ hello_body

@@ -9,12 +9,14 @@ use Rattle.format.specs.Reader.{Read, got, bad}
 use Rattle.format.specs.Reading.{Found, found}
 use Rattle.format.specs.declared.Kind.{Kind}
 use Rattle.format.specs.declared.Kind.TheVariants.{Hello}
-use Rattle.reporting.specs.declared.judge.Verdict.{Verdict}
-use Rattle.reporting.specs.declared.judge.Verdict.TheVariants.{Accepted, Refused}
+use Rattle.format.specs.declared.Refusal.{Refusal}
+use Rattle.reporting.specs.declared.judge.Accepted.{Accepted}
+use Rattle.std.specs.Prelude.{Result, Ok, Err}
+use Rattle.format.specs.Outcome.{reason_number}
 
-unfoldable pub judged_by : Verdict → Outcome Found
-judged_by (Accepted k n) = gives (found k n)
-judged_by (Refused r) = refuses r.number r.place
+unfoldable pub judged_by : Result Accepted Refusal → Outcome Found
+judged_by (Ok a) = gives (found a.kind a.records)
+judged_by (Err r) = refuses (reason_number r.reason) r.place
 
 unfoldable pub count_of : Kind → Read ℕ → Outcome Found
 count_of k (got n next) = gives (found k n)

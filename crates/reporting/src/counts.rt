@@ -5,9 +5,9 @@ ghost use Rattle.format.specs.Values.{kind_number};
 ghost use Rattle.counters.specs.Counting.{none_by_kind, more_at};
 ghost use Rattle.reporting.specs.Tallies.{no_tally, once_more, tallied};
 
-use crate::judge::{Verdict, judged};
+use crate::judge::judged;
 use crate::{NUMBERS, Tally};
-use counters::{ByKind, Counters, Direction, kind_number, saturating};
+use counters::{ByKind, Counters, Direction};
 use format::Kind;
 
 // Counts of no message.
@@ -39,7 +39,7 @@ pub(crate) fn with_accepted(accepted: ByKind, kind: Kind, records: u64) -> ByKin
     ensures { result ≡ more_at (kind_number kind) records accepted }
 {
     let c = received(accepted);
-    let after = counters::counted(c, Direction::Received, kind_number(kind), records);
+    let after = counters::counted(c, Direction::Received, u8::from(kind), records);
     let all = after.counters;
     all.received
 }
@@ -50,7 +50,7 @@ pub(crate) fn count_refused(refused: &mut [u64], number: u8)
 {
     let n = number as usize;
     if n < refused.len() {
-        refused[n] = saturating(refused[n], 1);
+        refused[n] = refused[n].saturating_add(1);
     }
 }
 
@@ -60,12 +60,9 @@ pub fn with_message(t: Tally, m: &[u8]) -> Tally
 {
     let mut accepted = t.accepted;
     let mut refused = t.refused;
-    let v = judged(m);
-    match v {
-        Verdict::Accepted { kind, records } => {
-            accepted = with_accepted(accepted, kind, records as u64);
-        }
-        Verdict::Refused(refusal) => count_refused(&mut refused, refusal.number),
+    match judged(m) {
+        Ok(a) => accepted = with_accepted(accepted, a.kind, a.records as u64),
+        Err(refusal) => count_refused(&mut refused, u8::from(refusal.reason)),
     }
     Tally { accepted, refused }
 }

@@ -3,11 +3,11 @@ ghost use Rattle.std.specs.Prelude.{◌≡◌};
 ghost use Rattle.reporting.specs.Report.{taken_from, report_of};
 
 use crate::counts::{count_refused, none, with_accepted};
-use crate::judge::{Verdict, judged};
+use crate::judge::judged;
 use crate::means::mean;
 use crate::{NUMBERS, Report, Taken, Tally};
 use counters::ByKind;
-use octets::number16;
+use octets::number;
 
 // The two parts of a tally as one again, and how many octets were taken.
 fn taken(accepted: ByKind, refused: [u64; NUMBERS], used: usize) -> Taken
@@ -25,19 +25,17 @@ pub fn with_octets(t: Tally, o: &[u8]) -> Taken
     let mut accepted = t.accepted;
     let mut refused = t.refused;
     let mut at = 0;
+    // The step is a message's own length, so this is no `for`.
     while 2 <= o.len() - at {
-        let n = number16(o, at);
+        let n = number::<u16>(o, at) as usize;
         if o.len() - at - 2 < n {
             return taken(accepted, refused, at);
         }
-        let v = judged(&o[at + 2..at + 2 + n]);
-        at = at + 2 + n;
-        match v {
-            Verdict::Accepted { kind, records } => {
-                accepted = with_accepted(accepted, kind, records as u64);
-            }
-            Verdict::Refused(refusal) => count_refused(&mut refused, refusal.number),
+        match judged(&o[at + 2..at + 2 + n]) {
+            Ok(a) => accepted = with_accepted(accepted, a.kind, a.records as u64),
+            Err(refusal) => count_refused(&mut refused, u8::from(refusal.reason)),
         }
+        at = at + 2 + n;
     }
     taken(accepted, refused, at)
 }

@@ -10,63 +10,36 @@ ghost use Rattle.counting.specs.Counts.{counted};
 ghost use Rattle.reporting.specs.Judging.{judged, judged_as};
 ghost use Rattle.reporting.specs.Answers.{judged_by, count_of, heard_of};
 
-use counting::{Counted, count_asserts, count_pairs};
+use counting::{count_asserts, count_pairs};
 use format::{Kind, Refusal, nowhere};
-use headers::{Headed, header};
-use hello::{OptionsChecked, check_options};
+use headers::header;
+use hello::check_options;
 
+// The kind of a message that is accepted, and its records. A Hello has none.
 #[derive(Clone, Copy)]
-pub(crate) enum Verdict {
-    Accepted { kind: Kind, records: usize },
-    Refused(Refusal),
-}
-
-// The entries of a body that was counted are the message's records.
-fn by_count(kind: Kind, c: Counted) -> Verdict
-    ensures { judged_by result ≡ count_of kind (counted c) }
-{
-    match c {
-        Counted::All { entries, next: _ } => Verdict::Accepted {
-            kind,
-            records: entries,
-        },
-        Counted::Bad(refusal) => Verdict::Refused(refusal),
-    }
-}
-
-// A Hello has no records.
-fn by_options(h: OptionsChecked) -> Verdict
-    ensures { judged_by result ≡ heard_of (checked h) }
-{
-    match h {
-        OptionsChecked::Fine => Verdict::Accepted {
-            kind: Kind::Hello,
-            records: 0,
-        },
-        OptionsChecked::Refused(refusal) => Verdict::Refused(refusal),
-    }
+pub(crate) struct Accepted {
+    pub kind: Kind,
+    pub records: usize,
 }
 
 // A message of the kind that its header names.
-fn judged_as(kind: Kind, m: &[u8]) -> Verdict
+fn judged_as(kind: Kind, m: &[u8]) -> Result<Accepted, Refusal>
     ensures { header_of ipv4 nowhere m.now ≡ gives kind → judged_by result ≡ judged_as kind m.now }
 {
-    match kind {
-        Kind::Hello => by_options(check_options(m)),
-        Kind::Assert => by_count(kind, count_asserts(false, kind, m)),
-        Kind::Simple => by_count(kind, count_asserts(false, kind, m)),
-        Kind::Aggregated => by_count(kind, count_asserts(false, kind, m)),
-        Kind::NullRegister => by_count(kind, count_pairs(false, kind, m)),
-        Kind::RegisterStop => by_count(kind, count_pairs(false, kind, m)),
-    }
+    let records = match kind {
+        Kind::Hello => {
+            check_options(m)?;
+            0
+        }
+        Kind::Assert | Kind::Simple | Kind::Aggregated => count_asserts(false, kind, m)?.entries,
+        Kind::NullRegister | Kind::RegisterStop => count_pairs(false, kind, m)?.entries,
+    };
+    Ok(Accepted { kind, records })
 }
 
-pub(crate) fn judged(m: &[u8]) -> Verdict
+pub(crate) fn judged(m: &[u8]) -> Result<Accepted, Refusal>
     ensures { judged_by result ≡ judged m.now }
 {
-    let h = header(false, nowhere(), m);
-    match h {
-        Headed::Refused(refusal) => Verdict::Refused(refusal),
-        Headed::Is(kind) => judged_as(kind, m),
-    }
+    let kind = header(false, nowhere(), m)?;
+    judged_as(kind, m)
 }

@@ -3,7 +3,7 @@ ghost use Rattle.std.specs.Prelude.{◌≡◌};
 ghost use Rattle.reporting.specs.Fraction.{gcd, lowest, together, packed_totals, mean_of};
 
 use crate::{Fraction, Tally};
-use counters::{ByKind, Totals, saturating};
+use counters::{ByKind, Totals};
 
 // The greatest common divisor, by Euclid's rule.
 fn gcd(a: u64, b: u64) -> u64
@@ -11,6 +11,7 @@ fn gcd(a: u64, b: u64) -> u64
 {
     let mut x = a;
     let mut y = b;
+    // How many turns it takes is known only at the end, so this is no `for`.
     while y != 0 {
         let rest = x % y;
         x = y;
@@ -40,8 +41,8 @@ fn lowest(a: u64, b: u64) -> Fraction
 fn sum(a: Totals, b: Totals) -> Totals
     ensures { result ≡ together a b }
 {
-    let messages = saturating(a.messages, b.messages);
-    let records = saturating(a.records, b.records);
+    let messages = a.messages.saturating_add(b.messages);
+    let records = a.records.saturating_add(b.records);
     Totals { messages, records }
 }
 

@@ -24,7 +24,7 @@ mod written6;
 
 use addresses::sum_before;
 use format::AddressFamily;
-use printing::{case_at, front, number, text};
+use printing::{each_case, number, text};
 use shown::path;
 
 fn holds(ipv6: bool, m: &[u8]) -> bool {
@@ -45,13 +45,7 @@ fn line(out: &impl Print, ipv6: bool, name: &[u8], m: &[u8]) {
 }
 
 fn lines(out: &impl Print, ipv6: bool, table: &[u8]) {
-    let mut m = [0; 1480];
-    let mut at = 0;
-    while at < table.len() {
-        let c = case_at(table, at, &mut m);
-        line(out, ipv6, front(&table[at..], c.name), front(&m, c.length));
-        at = c.next;
-    }
+    each_case(table, &mut [0; 1480], |name, m| line(out, ipv6, name, m));
 }
 
 fn checksums(out: &impl Print) {

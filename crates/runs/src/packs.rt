@@ -1,20 +1,26 @@
 // Entries packed: what the call answers, then the listing of the message it wrote. The entries are those of
 // the packed messages of kinds.rt, so the listings are the same.
-use format::{AddressFamily, nowhere};
+use format::{AddressFamily, Refusal, nowhere};
 use packing::Packing;
 use printing::{front, packed, title};
 
 // The message stands at the front of what was lent.
-fn show_packed(out: &impl Print, err: &impl Print, name: &[u8], answer: Packing, d: &[u8]) {
+fn show_packed(
+    out: &impl Print,
+    err: &impl Print,
+    name: &[u8],
+    answer: Result<Packing, Refusal>,
+    d: &[u8],
+) {
     title(out, name);
     match answer {
-        Packing::Refused(r) => listing::refused(out, err, r),
-        Packing::Wrote { length, taken } => {
-            packed(out, length, taken);
-            if 0 < length {
-                listing::list(out, err, front(d, length));
+        Ok(p) => {
+            packed(out, p.length, p.taken);
+            if 0 < p.length {
+                listing::list(out, err, front(d, p.length));
             }
         }
+        Err(r) => listing::refused(out, err, r),
     }
 }
 

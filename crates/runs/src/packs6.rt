@@ -1,18 +1,18 @@
 // Entries of IPv6 packed: what the call answers, the octets it wrote, then the listing of the message. The entries are those of the
 // messages of kinds6.rt, so the octets are the same.
 use crate::shown::{path, written};
-use format::{AddressFamily, Kind};
+use format::{AddressFamily, Kind, Refusal};
 use packing::Packing;
-use printing::{case_at, front, packed, title};
+use printing::{each_case, front, packed, title};
 
 // Packs entries into a message of a kind. A Hello has none.
-fn pack(kind: Kind, limit: usize, e: &[u8], d: &mut [u8]) -> Packing {
+fn pack(kind: Kind, limit: usize, e: &[u8], d: &mut [u8]) -> Result<Packing, Refusal> {
     let six = AddressFamily::Ipv6;
     match kind {
-        Kind::Hello => Packing::Wrote {
+        Kind::Hello => Ok(Packing {
             length: 0,
             taken: 0,
-        },
+        }),
         Kind::Assert => packing::pack_assert(six, path(), e, 0, limit, d),
         Kind::Simple => packing::pack_simple(six, path(), e, 0, limit, d),
         Kind::Aggregated => packing::pack_aggregated(six, path(), e, 0, limit, d),
@@ -24,35 +24,23 @@ fn pack(kind: Kind, limit: usize, e: &[u8], d: &mut [u8]) -> Packing {
 // The message stands at the front of what was lent.
 fn show(out: &impl Print, err: &impl Print, kind: Kind, limit: usize, name: &[u8], e: &[u8]) {
     let mut d = [0; 1480];
-    let answer = pack(kind, limit, e, &mut d);
     title(out, name);
-    match answer {
-        Packing::Refused(r) => listing::refused(out, err, r),
-        Packing::Wrote { length, taken } => {
-            packed(out, length, taken);
-            if 0 < length {
-                written(out, err, front(&d, length));
+    match pack(kind, limit, e, &mut d) {
+        Ok(p) => {
+            packed(out, p.length, p.taken);
+            if 0 < p.length {
+                written(out, err, front(&d, p.length));
             }
         }
+        Err(r) => listing::refused(out, err, r),
     }
 }
 
 // Every list of a table: its name and its entries.
 fn show_all(out: &impl Print, err: &impl Print, kind: Kind, limit: usize, table: &[u8]) {
-    let mut e = [0; 256];
-    let mut at = 0;
-    while at < table.len() {
-        let c = case_at(table, at, &mut e);
-        show(
-            out,
-            err,
-            kind,
-            limit,
-            front(&table[at..], c.name),
-            front(&e, c.length),
-        );
-        at = c.next;
-    }
+    each_case(table, &mut [0; 256], |name, e| {
+        show(out, err, kind, limit, name, e);
+    });
 }
 
 // Two or three of one group without a source are as many group records with p=0; four are joined, and so is a source with none.

@@ -29,10 +29,8 @@ fn octet(out: &impl Print, x: u8) -> bool {
 }
 
 fn octets(out: &impl Print, m: &[u8]) {
-    let mut i = 0;
-    while i < m.len() {
-        octet(out, m[i]);
-        i += 1;
+    for x in m {
+        octet(out, *x);
     }
 }
 

@@ -3,7 +3,7 @@
 //
 // In a sum of words ffff counts as 0, so a Hello of greatest values has the checksum of least ones. The last is 20b0 in
 // all: 2000 and 1, 2, 69; 13, 4, 0, 5; 28, 0.
-use format::{AddressFamily, Writing, nowhere};
+use format::{AddressFamily, nowhere};
 use hello::Hello;
 use printing::{front, in_common, number, text, title};
 
@@ -20,15 +20,14 @@ pub(crate) fn saying(holdtime: u16, has_priority: bool, priority: u32, packing: 
 fn show(out: &impl Print, err: &impl Print, name: &[u8], said: Hello, by_hand: &[u8]) {
     let mut d = [0; 22];
     title(out, name);
-    let answer = hello::write_hello(AddressFamily::Ipv4, nowhere(), said, &mut d);
-    match answer {
-        Writing::Refused(r) => listing::refused(out, err, r),
-        Writing::Wrote(n) => {
+    match hello::write_hello(AddressFamily::Ipv4, nowhere(), said, &mut d) {
+        Ok(n) => {
             number(out, b"octets ", n as u64);
             number(out, b", as by hand ", in_common(&d, by_hand) as u64);
             text(out, b"\n");
             listing::list(out, err, front(&d, n));
         }
+        Err(r) => listing::refused(out, err, r),
     }
 }
 
@@ -112,11 +111,11 @@ fn refused(out: &impl Print, err: &impl Print) {
     );
     title(out, b"written: into 21 octets");
     match answer {
-        Writing::Refused(r) => listing::refused(out, err, r),
-        Writing::Wrote(n) => {
+        Ok(n) => {
             number(out, b"octets ", n as u64);
             text(out, b"\n");
         }
+        Err(r) => listing::refused(out, err, r),
     }
 }
 

@@ -1,20 +1,19 @@
 // Hellos of IPv6 written: the answer, the octets, then the listing of the message. What is expected of the octets is worked out by hand.
 use crate::shown::{path, written};
 use crate::written::saying;
-use format::{AddressFamily, Writing};
+use format::AddressFamily;
 use hello::Hello;
 use printing::{front, named, title};
 
 fn show(out: &impl Print, err: &impl Print, name: &[u8], said: Hello) {
     let mut d = [0; 22];
     title(out, name);
-    let answer = hello::write_hello(AddressFamily::Ipv6, path(), said, &mut d);
-    match answer {
-        Writing::Refused(r) => listing::refused(out, err, r),
-        Writing::Wrote(n) => {
+    match hello::write_hello(AddressFamily::Ipv6, path(), said, &mut d) {
+        Ok(n) => {
             named(out, b"octets ", n as u64);
             written(out, err, front(&d, n));
         }
+        Err(r) => listing::refused(out, err, r),
     }
 }
 

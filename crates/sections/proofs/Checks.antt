@@ -8,7 +8,7 @@ use mathlib.Core.Path.{◌≡◌, refl, sym, ap, ◌∙◌}
 use mathlib.Core.Bool.{Bool, true, false, not}
 use mathlib.Core.List.{List, []}
 use Prim.Native.Nat.{ℕ}
-use Rattle.format.specs.Outcome.{Outcome, gives, refuses, refuse_if, ◌>>=◌, ◌>>◌}
+use Rattle.format.specs.Outcome.{Outcome, gives, refuses, refuse_if, ◌>>=◌, ◌>>◌, reason_number}
 use Rattle.format.specs.Family.{Family, is_ipv6}
 use Rattle.format.specs.declared.AddressFamily.{AddressFamily}
 use Rattle.format.specs.declared.Refusal.{Refusal}
@@ -17,23 +17,20 @@ use Rattle.sections.specs.Checking.{fault, check_header, check_entries, check_ro
 use Rattle.sections.specs.Sections.{check_sections, section_by}
 use Rattle.sections.specs.declared.layout.Form.{Form}
 use Rattle.sections.specs.declared.Counts.{Counts}
-use Rattle.sections.specs.declared.Verdict.{Verdict}
-use Rattle.sections.specs.declared.Verdict.TheVariants.{Valid, Refused}
-use Rattle.sections.specs.declared.section.Section.{Section}
-use Rattle.sections.specs.declared.section.Section.TheVariants.{Sound, Fault}
+use Rattle.std.specs.Prelude.{Result, Ok, Err}
 
-module _ (L : Layout) (f : Family) (o : List ℕ) (c : Counts) {first : ℕ} (past-header : first ≡ header_size L) {a : Section}
+module _ (L : Layout) (f : Family) (o : List ℕ) (c : Counts) {first : ℕ} (past-header : first ≡ header_size L) {a : Result (Unit {0}) Refusal}
     (asserts : section_by a ≡ check_entries (asserts_in f) o first c.asserts) where
-  pub sections_asserts : {p : ℕ} → a ≡ Fault p → section_by a ≡ check_sections L f o c
+  pub sections_asserts : {r : Refusal} → a ≡ Err r → section_by (Err r) ≡ check_sections L f o c
   unfolding check_sections section_by ◌>>◌
   sections_asserts e = rw (← past-header, ← asserts, e) refl
 
-  module _ (sound : a ≡ Sound) {from : ℕ} (past : from ≡ pairs_from L f c) {b : Section} (pairs : section_by b ≡ check_entries (pairs_in f) o from c.pairs) where
-    pub sections_pairs : {p : ℕ} → b ≡ Fault p → section_by b ≡ check_sections L f o c
+  module _ (sound : a ≡ Ok tt) {from : ℕ} (past : from ≡ pairs_from L f c) {b : Result (Unit {0}) Refusal} (pairs : section_by b ≡ check_entries (pairs_in f) o from c.pairs) where
+    pub sections_pairs : {r : Refusal} → b ≡ Err r → section_by (Err r) ≡ check_sections L f o c
     unfolding check_sections section_by ◌>>◌
     sections_pairs e = rw (← past-header, ← asserts, sound, ← past, ← pairs, e) refl
 
-    pub sections_rows : b ≡ Sound → {r : Outcome (Unit {0})} {last : ℕ} → last ≡ rows_from L f c → r ≡ check_rows f o [] last c.neighbours → r ≡ check_sections L f o c
+    pub sections_rows : b ≡ Ok tt → {r : Outcome (Unit {0})} {last : ℕ} → last ≡ rows_from L f c → r ≡ check_rows f o [] last c.neighbours → r ≡ check_sections L f o c
     unfolding check_sections section_by ◌>>◌
     sections_rows e end rows = rw (← past-header, ← asserts, sound, ← past, ← pairs, e, ← end) rows
 
@@ -44,16 +41,16 @@ regroup (gives t) (gives u) r y = refl
 regroup (gives t) (refuses n p) r y = refl
 regroup (refuses n p) b r y = refl
 
-module _ (L : Layout) (f : Family) (o : List ℕ) {x : Verdict} (header : checked_by x ≡ check_header L f o) where
-  pub header_gives : {c : Counts} → x ≡ Valid c → check_header L f o ≡ gives c
+module _ (L : Layout) (f : Family) (o : List ℕ) {x : Result Counts Refusal} (header : checked_by x ≡ check_header L f o) where
+  pub header_gives : {c : Counts} → x ≡ Ok c → check_header L f o ≡ gives c
   unfolding checked_by
   header_gives e = sym header ∙ ap checked_by e
 
-  pub sheet_header : {r : Refusal} → x ≡ Refused r → checked_by x ≡ checking L f o
+  pub sheet_header : {r : Refusal} → x ≡ Err r → checked_by x ≡ checking L f o
   unfolding checking checked_by ◌>>=◌
   sheet_header e = rw (← header, e) refl
 
-  module _ {c : Counts} (valid : x ≡ Valid c) where
+  module _ {c : Counts} (valid : x ≡ Ok c) where
     then_all : checking L f o ≡ check_sections L f o c >> gives c
     unfolding checking check_sections ◌>>=◌
     then_all =
@@ -63,11 +60,11 @@ module _ (L : Layout) (f : Family) (o : List ℕ) {x : Verdict} (header : checke
         (check_rows f o [] (rows_from L f c) c.neighbours)
         (gives c))
 
-    pub sheet_fault : {s : Section} → section_by s ≡ check_sections L f o c → {p : ℕ} → s ≡ Fault p → refuses 14 p ≡ checking L f o
+    pub sheet_fault : {s : Result (Unit {0}) Refusal} → section_by s ≡ check_sections L f o c → {r : Refusal} → s ≡ Err r → refuses (reason_number r.reason) r.place ≡ checking L f o
     unfolding section_by ◌>>◌
     sheet_fault found e = sym (then_all ∙ rw (← found, e) refl)
 
-    pub sheet_sound : {s : Section} → section_by s ≡ check_sections L f o c → s ≡ Sound → gives c ≡ checking L f o
+    pub sheet_sound : {s : Result (Unit {0}) Refusal} → section_by s ≡ check_sections L f o c → s ≡ Ok tt → gives c ≡ checking L f o
     unfolding section_by ◌>>◌
     sheet_sound found e = sym (then_all ∙ rw (← found, e) refl)
 

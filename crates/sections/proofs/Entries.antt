@@ -20,9 +20,8 @@ use Rattle.format.specs.declared.Kind.{Kind}
 use Rattle.format.proofs.Outcomes.{no_refusal}
 use Rattle.entries.specs.Kinds.{is_assert, is_stop, family_with, entries_by, entries_with, listed_by}
 use Rattle.entries.proofs.ByKind.{with_range}
-use Rattle.entries.specs.declared.Listed.{Listed}
-use Rattle.entries.specs.declared.Listed.TheVariants.{Allowed, Bad}
 use Rattle.sections.specs.Checking.{fault, check_entries}
+use Rattle.std.specs.Prelude.{Option, None, Some}
 
 -- ---- a part
 
@@ -96,7 +95,7 @@ abbrev section : Bool → Bool → Kind → List ℕ → ℕ → ℕ → List �
 section ipv6 prefixed k o from m = take ((entries_with ipv6 prefixed k).size * m) (drop from o)
 
 -- what `first_bad` promises of them
-abbrev pub Found : Bool → Bool → Kind → List ℕ → ℕ → ℕ → Listed → Type 0
+abbrev pub Found : Bool → Bool → Kind → List ℕ → ℕ → ℕ → Option ℕ → Type 0
 Found ipv6 prefixed k o from m x = listed_by x ≡ first_bad (entries_with ipv6 prefixed k) (section ipv6 prefixed k o from m) 0
 
 module _ (ipv6 prefixed : Bool) (k : Kind) (o : List ℕ) (from m : ℕ) (there : from + (entries_with ipv6 prefixed k).size * m ≤ length o) where
@@ -116,17 +115,17 @@ module _ (ipv6 prefixed : Bool) (k : Kind) (o : List ℕ) (from m : ℕ) (there 
       (check_part (entries_with ipv6 prefixed k) o (section ipv6 prefixed k o from m) from ((entries_with ipv6 prefixed k).size * m) (allowed_part o from ((entries_with ipv6 prefixed k).size * m) there (family_with ipv6 prefixed) (is_assert k) (is_stop k))
       m 0 from ((entries_with ipv6 prefixed k).size * 0) refl (omega arith) (omega arith))
 
-  module _ {x : Listed} (found : Found ipv6 prefixed k o from m x) where
-    pub entries_sound : x ≡ Allowed → gives tt ≡ check_entries (entries_with ipv6 prefixed k) o from m
+  module _ {x : Option ℕ} (found : Found ipv6 prefixed k o from m x) where
+    pub entries_sound : x ≡ None → gives tt ≡ check_entries (entries_with ipv6 prefixed k) o from m
     unfolding listed_by
     entries_sound e = sym (section_is ∙ ap (placed from (entries_with ipv6 prefixed k).size) (sym (rw e at found)))
 
-    pub entries_bad : {i : ℕ} → x ≡ Bad i → refuses 14 (from + (entries_with ipv6 prefixed k).size * i) ≡ check_entries (entries_with ipv6 prefixed k) o from m
+    pub entries_bad : {i : ℕ} → x ≡ Some i → refuses 14 (from + (entries_with ipv6 prefixed k).size * i) ≡ check_entries (entries_with ipv6 prefixed k) o from m
     unfolding listed_by
     entries_bad e = sym (section_is ∙ ap (placed from (entries_with ipv6 prefixed k).size) (sym (rw e at found)))
 
     -- the place of a bad entry is in the section
-    pub bad_there : {i : ℕ} → x ≡ Bad i → from + (entries_with ipv6 prefixed k).size * i ≤ length o
+    pub bad_there : {i : ℕ} → x ≡ Some i → from + (entries_with ipv6 prefixed k).size * i ≤ length o
     unfolding listed_by first_bad
     bad_there {i} e =
         let below : i < 0 + (count (entries_with ipv6 prefixed k) (section ipv6 prefixed k o from m) - 0) =

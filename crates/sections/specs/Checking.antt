@@ -22,8 +22,9 @@ use Rattle.sections.specs.Layout.{Layout, layout_of, form_of, family_in, is_of, 
 use Rattle.sections.specs.Contents.{flags_at, row_at}
 use Rattle.sections.specs.declared.layout.Form.{Form}
 use Rattle.sections.specs.declared.Counts.{Counts}
-use Rattle.sections.specs.declared.Verdict.{Verdict}
-use Rattle.sections.specs.declared.Verdict.TheVariants.{Valid, Refused}
+use Rattle.std.specs.Prelude.{Result, Ok, Err}
+use Rattle.format.specs.declared.Refusal.{Refusal}
+use Rattle.format.specs.Outcome.{reason_number}
 
 unfoldable pub fault : Bool → ℕ → Outcome (Unit {0})
 fault test place = refuse_if test 14 place
@@ -99,6 +100,6 @@ check_form ipv6 k o = fault (not (is_of ipv6 k)) 0 >> checking (layout_of k) (fa
 abbrev pub check_sheet : AddressFamily → List ℕ → Outcome Counts
 check_sheet a o = check_form (is_ipv6 a) (form_of o) o
 
-unfoldable pub checked_by : Verdict → Outcome Counts
-checked_by (Valid c) = gives c
-checked_by (Refused r) = refuses r.number r.place
+unfoldable pub checked_by : Result Counts Refusal → Outcome Counts
+checked_by (Ok c) = gives c
+checked_by (Err r) = refuses (reason_number r.reason) r.place

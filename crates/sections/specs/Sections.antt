@@ -5,7 +5,7 @@
 --     section_by         what the answer about a section means
 -- Assumes nothing: these are definitions.
 use Rattle.std.specs.Prelude.{ℕ, zero, suc, ◌+◌, ◌*◌, cond, List, [], ◌∷◌}
-use Rattle.format.specs.Outcome.{Outcome, gives, refuses, ◌>>◌}
+use Rattle.format.specs.Outcome.{Outcome, gives, refuses, reason_number, ◌>>◌}
 use Rattle.format.specs.Family.{Family}
 use Rattle.neighbours.specs.declared.Neighbour.{Neighbour}
 use Rattle.sections.specs.Layout.{Layout, asserts_in, pairs_in, row_size, header_size, pairs_from, rows_from, end}
@@ -13,8 +13,8 @@ use Rattle.sections.specs.Contents.{row_at}
 use Rattle.sections.specs.Checking.{counts_allowed, check_entries, check_rows}
 use Rattle.sections.specs.declared.Counts.{Counts}
 use Rattle.sections.specs.declared.layout.Places.{Places}
-use Rattle.sections.specs.declared.section.Section.{Section}
-use Rattle.sections.specs.declared.section.Section.TheVariants.{Sound, Fault}
+use Rattle.std.specs.Prelude.{Result, Ok, Err}
+use Rattle.format.specs.declared.Refusal.{Refusal}
 
 unfoldable pub earlier_rows : Family → List ℕ → ℕ → ℕ → List Neighbour
 earlier_rows f o from zero = []
@@ -32,6 +32,6 @@ check_sections L f o c = do
   check_entries (pairs_in f) o (pairs_from L f c) c.pairs
   check_rows f o [] (rows_from L f c) c.neighbours
 
-unfoldable pub section_by : Section → Outcome (Unit {0})
-section_by Sound = gives tt
-section_by (Fault place) = refuses 14 place
+unfoldable pub section_by : Result (Unit {0}) Refusal → Outcome (Unit {0})
+section_by (Ok tt) = gives tt
+section_by (Err r) = refuses (reason_number r.reason) r.place

@@ -4,8 +4,9 @@ ghost use Rattle.sections.specs.Layout.{layout_of, family_in};
 ghost use Rattle.sections.specs.Checking.{begins, number_in, counts_in, counts_allowed, offsets_agree, check_header, checked_by};
 
 use crate::layout::{counts_allowed, header_size, places_of};
-use crate::{Counts, Form, Verdict, refused};
-use octets::{number16, number32};
+use crate::{Counts, Form};
+use format::{Reason, Refusal};
+use octets::number;
 
 // Whether the octets before the counts are those of the form: 0xFFFF and its number, or none.
 fn begins(form: Form, o: &[u8]) -> bool
@@ -13,9 +14,9 @@ fn begins(form: Form, o: &[u8]) -> bool
 {
     match form {
         Form::Base => true,
-        Form::Large => number32(o, 0) == 0xffff_0002,
-        Form::Ipv4 => number32(o, 0) == 0xffff_0003,
-        Form::Ipv6 => number32(o, 0) == 0xffff_0004,
+        Form::Large => number::<u32>(o, 0) == 0xffff_0002,
+        Form::Ipv4 => number::<u32>(o, 0) == 0xffff_0003,
+        Form::Ipv6 => number::<u32>(o, 0) == 0xffff_0004,
     }
 }
 
@@ -25,10 +26,10 @@ fn number_in(form: Form, o: &[u8], k: usize) -> usize
     ensures { result ≡ number_in (layout_of form) o.now k }
 {
     match form {
-        Form::Base => number16(o, 2 * k),
-        Form::Large => number32(o, 4 + 4 * k) as usize,
-        Form::Ipv4 => number32(o, 4 + 4 * k) as usize,
-        Form::Ipv6 => number32(o, 4 + 4 * k) as usize,
+        Form::Base => number::<u16>(o, 2 * k) as usize,
+        Form::Large => number::<u32>(o, 4 + 4 * k) as usize,
+        Form::Ipv4 => number::<u32>(o, 4 + 4 * k) as usize,
+        Form::Ipv6 => number::<u32>(o, 4 + 4 * k) as usize,
     }
 }
 
@@ -62,21 +63,21 @@ fn offsets_agree(form: Form, o: &[u8], c: Counts) -> bool
 }
 
 // The header, how it begins, the counts, the offsets and the end.
-pub(crate) fn check_header(form: Form, o: &[u8]) -> Verdict
+pub(crate) fn check_header(form: Form, o: &[u8]) -> Result<Counts, Refusal>
     ensures { checked_by result ≡ check_header (layout_of form) (family_in form) o.now }
 {
     if o.len() < header_size(form) {
-        return refused(0);
+        return Err(Reason::BadSheet.at(0));
     }
     if !begins(form, o) {
-        return refused(0);
+        return Err(Reason::BadSheet.at(0));
     }
     let c = counts_in(form, o);
     if !counts_allowed(form, c) {
-        return refused(0);
+        return Err(Reason::BadSheet.at(0));
     }
     if !offsets_agree(form, o, c) {
-        return refused(0);
+        return Err(Reason::BadSheet.at(0));
     }
-    Verdict::Valid(c)
+    Ok(c)
 }

@@ -10,7 +10,7 @@ use crate::row::row_size;
 use entries::entry_size;
 use format::Kind;
 use neighbours::ROWS;
-use octets::number16;
+use octets::number;
 
 // The form of a sheet: that of 01, with numbers of 16 bits, that of E6, with numbers of 32, and those of the two families. The first two are IPv4's, and
 // their entries have no front.
@@ -35,10 +35,10 @@ pub struct Places {
 pub fn form_of(o: &[u8]) -> Form
     ensures { result ≡ form_of o.now }
 {
-    if number16(o, 0) != 0xffff {
+    if number::<u16>(o, 0) != 0xffff {
         return Form::Base;
     }
-    let number = number16(o, 2);
+    let number = number::<u16>(o, 2) as usize;
     if number == 3 {
         return Form::Ipv4;
     }

@@ -12,7 +12,7 @@ use addresses::{address_at, width};
 use entries::front_by;
 use format::Address;
 use neighbours::Neighbour;
-use octets::{number16, number32};
+use octets::number;
 
 // The octets of a row: its front, its address, and eight more.
 pub fn row_size(ipv6: bool, prefixed: bool) -> usize
@@ -21,29 +21,19 @@ pub fn row_size(ipv6: bool, prefixed: bool) -> usize
     front_by(ipv6, prefixed) + width(ipv6) + 8
 }
 
-// The octet at a place, or 0 where none is there.
-pub(crate) fn number8(o: &[u8], at: usize) -> u8
-    ensures { result ≡ number_at 1 o.now at }
-{
-    if at < o.len() {
-        return o[at];
-    }
-    0
-}
-
 // The neighbour whose address stands at a place that is hardly past the end.
 fn neighbour_at(ipv6: bool, o: &[u8], at: usize) -> Neighbour
     requires { at ≤ length o.now + 4 }
     ensures { result ≡ neighbour_at (family_of ipv6) o.now at }
 {
     let past = at + width(ipv6);
-    let flags = number8(o, past + 4);
+    let flags = number::<u8>(o, past + 4);
     Neighbour {
         address: address_at(ipv6, o, at),
-        priority: number32(o, past),
+        priority: number::<u32>(o, past),
         has_priority: flags % 2 == 1,
         packs: flags / 2 % 2 == 1,
-        holdtime: number16(o, past + 6) as u16,
+        holdtime: number::<u16>(o, past + 6),
     }
 }
 
@@ -56,10 +46,10 @@ pub(crate) fn neighbour_in(ipv6: bool, o: &[u8], at: usize, address: Address) ->
     let bits = o[past + 4];
     Neighbour {
         address,
-        priority: number32(&o[past..past + 4], 0),
+        priority: number::<u32>(&o[past..past + 4], 0),
         has_priority: bits % 2 == 1,
         packs: bits / 2 % 2 == 1,
-        holdtime: number16(&o[past + 6..past + 8], 0) as u16,
+        holdtime: number::<u16>(&o[past + 6..past + 8], 0),
     }
 }
 

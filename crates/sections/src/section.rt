@@ -13,21 +13,13 @@ ghost use Rattle.sections.specs.Checking.{counts_allowed, check_entries, row_for
 ghost use Rattle.sections.specs.Sections.{earlier_rows, check_sections, section_by};
 
 use crate::layout::{ipv6_in, places_of, prefixed_in};
-use crate::row::{neighbour_in, number8, row_size};
+use crate::row::{neighbour_in, row_size};
 use crate::{Counts, Form};
 use addresses::{address_at, is_same, width};
-use entries::{Listed, entry_size, first_bad, front_by, front_word};
-use format::{Address, Kind};
+use entries::{entry_size, first_bad, front_by, front_word};
+use format::{Address, Kind, Reason, Refusal};
 use neighbours::is_allowed;
-use octets::number32;
-
-// What checking a section finds.
-#[derive(Clone, Copy)]
-pub(crate) enum Section {
-    Sound,
-    // The first octet of the first entry that is at fault.
-    Fault(usize),
-}
+use octets::number;
 
 // So many entries from a place on, as messages of a kind may have them.
 fn check_entries(
@@ -37,16 +29,15 @@ fn check_entries(
     o: &[u8],
     from: usize,
     count: usize,
-) -> Section
+) -> Result<(), Refusal>
     requires { from + (entries_with ipv6 prefixed kind).size * count ≤ length o.now }
     ensures { section_by result ≡ check_entries (entries_with ipv6 prefixed kind) o.now from count }
 {
     let size = entry_size(ipv6, prefixed, kind);
     let end = from + size * count;
-    let x = first_bad(ipv6, prefixed, kind, &o[from..end], 0);
-    match x {
-        Listed::Allowed => Section::Sound,
-        Listed::Bad(i) => Section::Fault(from + size * i),
+    match first_bad(ipv6, prefixed, kind, &o[from..end], 0) {
+        None => Ok(()),
+        Some(i) => Err(Reason::BadSheet.at(from + size * i)),
     }
 }
 
@@ -64,9 +55,7 @@ fn is_earlier(
 {
     let size = row_size(ipv6, prefixed);
     let front = front_by(ipv6, prefixed);
-    let mut i = count;
-    while 0 < i {
-        i -= 1;
+    for i in (0..count).rev() {
         let other = address_at(ipv6, o, from + size * i + front);
         if is_same(other, address) {
             return true;
@@ -80,7 +69,7 @@ fn has_front(ipv6: bool, prefixed: bool, o: &[u8], at: usize) -> bool
     ensures { result ≡ has_front (family_with ipv6 prefixed) o.now at }
 {
     if prefixed {
-        return number32(o, at) == front_word(ipv6);
+        return number::<u32>(o, at) == front_word(ipv6);
     }
     true
 }
@@ -91,10 +80,10 @@ fn row_form(ipv6: bool, o: &[u8], at: usize) -> bool
     ensures { result ≡ row_form (family_of ipv6) o.now at }
 {
     let past = at + width(ipv6);
-    if 4 <= number8(o, past + 4) {
+    if 4 <= number::<u8>(o, past + 4) {
         return false;
     }
-    number8(o, past + 5) == 0
+    number::<u8>(o, past + 5) == 0
 }
 
 // Whether a row, with its address read, is one that a sheet may hold after the rows before it. Where no address before it has its last octet, its own is new.
@@ -129,42 +118,40 @@ fn row_fits(
 }
 
 // So many rows from a place on. The last octets of their addresses are marked, so that only few rows are compared with others.
-fn check_rows(ipv6: bool, prefixed: bool, o: &[u8], from: usize, count: usize) -> Section
+fn check_rows(
+    ipv6: bool,
+    prefixed: bool,
+    o: &[u8],
+    from: usize,
+    count: usize,
+) -> Result<(), Refusal>
     requires { from + row_size (family_with ipv6 prefixed) * count ≤ length o.now }
     ensures { section_by result ≡ check_rows (family_with ipv6 prefixed) o.now [] from count }
 {
     let size = row_size(ipv6, prefixed);
     let front = front_by(ipv6, prefixed);
     let mut met = [false; 256];
-    let mut i = 0;
-    while i < count {
+    for i in 0..count {
         let at = from + size * i;
         let address = address_at(ipv6, o, at + front);
         let last = (address.low % 256) as usize;
         if !row_fits(ipv6, prefixed, o, from, i, address, met[last]) {
-            return Section::Fault(at);
+            return Err(Reason::BadSheet.at(at));
         }
         met[last] = true;
-        i += 1;
     }
-    Section::Sound
+    Ok(())
 }
 
 // The three sections, in their order.
-pub(crate) fn check_sections(form: Form, o: &[u8], c: Counts) -> Section
+pub(crate) fn check_sections(form: Form, o: &[u8], c: Counts) -> Result<(), Refusal>
     requires { (counts_allowed (layout_of form) c ≡ true) × (length o.now ≡ end (layout_of form) (family_in form) c) }
     ensures { section_by result ≡ check_sections (layout_of form) (family_in form) o.now c }
 {
     let ipv6 = ipv6_in(form);
     let prefixed = prefixed_in(form);
     let from = places_of(form, c);
-    let a = check_entries(ipv6, prefixed, Kind::Simple, o, from.asserts, c.asserts);
-    let Section::Sound = a else {
-        return a;
-    };
-    let p = check_entries(ipv6, prefixed, Kind::RegisterStop, o, from.pairs, c.pairs);
-    let Section::Sound = p else {
-        return p;
-    };
+    check_entries(ipv6, prefixed, Kind::Simple, o, from.asserts, c.asserts)?;
+    check_entries(ipv6, prefixed, Kind::RegisterStop, o, from.pairs, c.pairs)?;
     check_rows(ipv6, prefixed, o, from.rows, c.neighbours)
 }

@@ -1,8 +1,8 @@
--- Writing a sheet, by the tests that code makes.
+-- (Result ℕ Refusal) a sheet, by the tests that code makes.
 --     length_sheet                          the octets of a sheet of whole lists
 --     whole_not, whole_both                 10: both lists are whole
 --     storable_yes, storable_no, storable_is, due_long                 14: no count is over its limit, and the table is valid; the length that is due
---     listed_fine, listed_bad, seven_not, seven_fine     7: every entry of a list is allowed
+--     listed_as, seven_not, seven_fine     7: every entry of a list is allowed
 --     due_10, due_14, due_8, due_7, due_7_pairs, due_fine     what writing asks, test by test
 --     due_gives                             an answer of a length says that the octets are those of the sheet
 --     writing_answer, writing_buffer, writing_nothing     the answer and the buffer are those of the call
@@ -10,6 +10,7 @@
 --     filled                                a sheet written part by part
 --     written_family, written_header, written_places     the form that is written
 -- Assumes nothing.
+use Rattle.std.specs.Option.{is_some}
 use Prim.Native.Nat.{ℕ, ◌+◌, ◌*◌, ◌%◌, ◌≤◌, ◌<◌}
 use native.Mathlib.Omega.{arith}
 use mathlib.Core.Path.{◌≡◌, refl, sym, ap, ◌∙◌}
@@ -29,17 +30,13 @@ use Rattle.format.specs.Packing.{first_bad}
 use Rattle.format.specs.Record.{each}
 use Rattle.format.specs.Writing.{into_buffer, length_of, length_by}
 use Rattle.format.specs.declared.Refusal.{Refusal}
-use Rattle.format.specs.declared.Writing.{Writing}
-use Rattle.format.specs.declared.Writing.TheVariants.{Wrote, Refused}
 use Rattle.format.proofs.Outcomes.{no_refusal}
 use Rattle.format.proofs.Faithful.{whole_long}
 use Rattle.entries.specs.Kinds.{listed_by}
-use Rattle.entries.specs.declared.Listed.{Listed}
-use Rattle.entries.specs.declared.Listed.TheVariants.{Allowed, Bad}
 use Rattle.neighbours.specs.Rows.{most, used, valid}
 use Rattle.neighbours.specs.declared.Table.{Table}
 use Rattle.neighbours.proofs.Rows.{used_long}
-use Rattle.neighbours.proofs.Tables.{and_true, valid_over, valid_parts}
+use Rattle.neighbours.proofs.Tables.{and_true, valid_over, valid_parts, never}
 use Rattle.sections.specs.Layout.{Layout, layout_of, family_in, form_by, asserts_in, pairs_in, row_size, header_size, pairs_from, rows_from, end, header_octets}
 use Rattle.sections.specs.Contents.{row_octets, counts_of, sheet_octets}
 use Rattle.sections.specs.Checking.{counts_allowed}
@@ -51,6 +48,8 @@ use Rattle.sections.proofs.Header.{end_place}
 use Rattle.sheet.specs.Calls.{contents_of, counted, at_zero, asked, writing}
 use Rattle.sheet.proofs.Rows.{length_rows}
 use Rattle.sheet.proofs.Written.{accepted, asked_is, length_header}
+use Rattle.std.specs.Prelude.{Result, Ok, Err, Option, None, Some}
+use Rattle.format.specs.Outcome.{reason_number}
 
 pub length_sheet : (L : Layout) (f : Family) (ea ep : List ℕ) (t : Table) {n : ℕ} → (whole (asserts_in f) ea && whole (pairs_in f) ep) ≡ true → length (used t) ≡ n
     → length (sheet_octets L f (contents_of ea ep t)) ≡ end L f (counted f ea ep n)
@@ -119,14 +118,16 @@ module _ (L : Layout) (f : Family) (ea ep : List ℕ) (t : Table) (full : length
 
 -- ---- 7
 
-module _ (E : Entries) (e : List ℕ) {x : Listed} (said : listed_by x ≡ first_bad E e 0) where
-  pub listed_fine : x ≡ Allowed → at_zero (first_bad E e 0) ≡ gives tt
+module _ (E : Entries) (e : List ℕ) (x : Option ℕ) (said : listed_by x ≡ first_bad E e 0) where
+  pub listed_as : (b : Bool) → is_some x ≡ not b → at_zero (first_bad E e 0) ≡ cond b (gives tt) (refuses 7 0)
   unfolding listed_by at_zero
-  listed_fine q = ap at_zero (sym said ∙ ap listed_by q)
-
-  pub listed_bad : {i : ℕ} → x ≡ Bad i → at_zero (first_bad E e 0) ≡ refuses 7 0
-  unfolding listed_by at_zero
-  listed_bad q = ap at_zero (sym said ∙ ap listed_by q)
+  listed_as b q = ap at_zero (sym said) ∙ go x b q
+    where
+      go : (x : Option ℕ) (b : Bool) → is_some x ≡ not b → at_zero (listed_by x) ≡ cond b (gives tt) (refuses 7 0)
+      go None true q = refl
+      go (Some i) false q = refl
+      go None false q = never (sym q)
+      go (Some i) true q = never q
 
 -- what the answer about a list says
 pub seven_not : (b : Bool) {x : Outcome (Unit {0})} → x ≡ cond b (gives tt) (refuses 7 0) → not b ≡ true → x ≡ refuses 7 0
@@ -169,9 +170,9 @@ module _ (L : Layout) (f : Family) (ea ep : List ℕ) (t : Table) (room : ℕ) w
           unfolding asked length_of refuse_if Outcome.◌>>◌
           due_fine e = rw (w, s, long, le-ltb room n enough, fine, e) (ap gives long)
 
-module _ (L : Layout) (f : Family) (ea ep : List ℕ) (t : Table) (d : List ℕ) (x : Writing) (said : length_by x ≡ length_of (asked L f ea ep t (length d))) where
+module _ (L : Layout) (f : Family) (ea ep : List ℕ) (t : Table) (d : List ℕ) (x : Result ℕ Refusal) (said : length_by x ≡ length_of (asked L f ea ep t (length d))) where
   -- what the answer says
-  pub due_gives : {n : ℕ} → x ≡ Wrote n → asked L f ea ep t (length d) ≡ gives (sheet_octets L f (contents_of ea ep t))
+  pub due_gives : {n : ℕ} → x ≡ Ok n → asked L f ea ep t (length d) ≡ gives (sheet_octets L f (contents_of ea ep t))
   unfolding length_by length_of
   due_gives {n} q = go (asked L f ea ep t (length d)) refl (sym said ∙ ap length_by q)
     where
@@ -188,16 +189,16 @@ module _ (L : Layout) (f : Family) (ea ep : List ℕ) (t : Table) (d : List ℕ)
       go (gives o) = refl
       go (refuses m p) = refl
 
-  pub writing_buffer : {n : ℕ} {d' : List ℕ} → x ≡ Wrote n
+  pub writing_buffer : {n : ℕ} {d' : List ℕ} → x ≡ Ok n
       → d' ≡ put d 0 (sheet_octets L f (contents_of ea ep t)) → d' ≡ (writing L f ea ep t d).buffer
   unfolding writing into_buffer
   writing_buffer q p = p ∙ rw (due_gives q)
 
-  pub writing_nothing : {r : Refusal} → x ≡ Refused r → d ≡ (writing L f ea ep t d).buffer
+  pub writing_nothing : {r : Refusal} → x ≡ Err r → d ≡ (writing L f ea ep t d).buffer
   unfolding writing into_buffer length_by length_of
   writing_nothing {r} q = go (asked L f ea ep t (length d)) (sym said ∙ ap length_by q)
     where
-      go : (a : Outcome (List ℕ)) → length_of a ≡ refuses r.number r.place → d ≡ (into_buffer d a).buffer
+      go : (a : Outcome (List ℕ)) → length_of a ≡ refuses (reason_number r.reason) r.place → d ≡ (into_buffer d a).buffer
       go (gives o) g = absurd (no_refusal (sym g))
       go (refuses m p) g = refl
 

@@ -1,9 +1,8 @@
 -- Octets copied and numbers stored, as the code does it.
---     Copying                           where a loop that copies stands: copying_start, copying_there, copying_next, copying_end
---     copied_into                       octets copied from a part into a part
+--     copied_over, copied_into          octets copied from a part into a part
 --     number_into, written_next         a number written into a part; one written where it fits, and what is written past it
 --     length_two, header_written        a header, by its three pairs
---     half_written, halves_written, low_written, front_word, row_written     a row, by its parts
+--     halves_written, low_written, front_word, row_written     a row, by its parts
 --     length_fronted, fronted_none      entries that are given a front
 --     Spreading                         where a loop that gives it to them stands: spreading_start, spreading_there, spreading_next, spreading_end
 --     size_in, copied_room, copied_entries, spread_room, spread_entries     the entries of a section, by the form
@@ -15,12 +14,12 @@ use native.Mathlib.Omega.{arith}
 use mathlib.Core.Path.{◌≡◌, refl, sym, ap, ◌∙◌}
 use mathlib.Core.Bool.{Bool, true, false, cond}
 use mathlib.Core.List.{List, [], ◌∷◌, ◌++◌, append_assoc, append-nil}
-use lib.ListN.{length, get_or, set, take, drop, length-append, length-drop, drop_of_length-le}
-use lib.Seq.{take-add, take_all, take-suc, drop-drop, drop-cons, get_or-take, length-take-le}
+use lib.ListN.{length, get_or, take, drop, length-append, length-drop, drop_of_length-le}
+use lib.Seq.{take-add, take_all, take-suc, drop-drop, length-take-le}
 use borrow.Rule.Slice.PartMut.{put_mid}
 use Rattle.octets.specs.Octets.{put, be, value, copied}
 use Rattle.octets.specs.Field.{fitted}
-use Rattle.octets.proofs.Laws.{length_be, be_value, be_above, be_two, stores_put, put_nil, put_next, put_number_next, length_put, number_fits, length_fitted, copied_part}
+use Rattle.octets.proofs.Laws.{length_be, be_value, be_above, be_two, put_nil, put_next, put_number_next, length_put, number_fits, length_fitted, copied_part}
 use Rattle.format.specs.Family.{Family, family_of}
 use Rattle.format.proofs.Families.{lawful}
 use Rattle.addresses.proofs.Laws.{front_four}
@@ -41,41 +40,13 @@ use Rattle.sheet.proofs.Rows.{length_row, length_rows}
 
 -- ---- octets copied
 
--- after i of n octets
-pub record Copying (s : List ℕ) (from n : ℕ) (d₀ : List ℕ) (at : ℕ) (d : List ℕ) (i : ℕ) : Type 0 where
-  pub there : from + n ≤ length s
-  pub room : at + n ≤ length d₀
-  pub within : i ≤ n
-  pub same : length d ≡ length d₀
-  pub gives : d ≡ put d₀ at (take i (drop from s))
-
-pub copying_start : {s : List ℕ} {from n : ℕ} {d : List ℕ} {at : ℕ} → from + n ≤ length s → at + n ≤ length d → Copying s from n d at d 0
-copying_start {d = d} {at} there room =
-    record { there = there; room = room; within = omega arith; same = refl; gives = sym (put_nil d at) }
-
-module _ {s : List ℕ} {from n : ℕ} {d₀ : List ℕ} {at : ℕ} {d : List ℕ} {i : ℕ} (c : Copying s from n d₀ at d i) where
-  pub copying_there : i < n → (from + i < length s) × (at + i < length d)
-  copying_there h = (omega (arith, c.there), omega (arith, c.room, c.same))
-
-  pub copying_next : {d' : List ℕ} {i' : ℕ} → i < n → d' ≡ set d (at + i) (get_or s (from + i) 0) → i' ≡ i + 1 → Copying s from n d₀ at d' i'
-  copying_next {d'} {i'} h p q =
-      let front : List ℕ = take i (drop from s) in
-      let next : List ℕ = get_or s (from + i) 0 ∷ [] in
-      let fits = copying_there h in
-      let long : length front ≡ i = length-take-le i (drop from s) (simp length-drop (omega (arith, fits.0))) in
-      let stored : d' ≡ put d (at + i) next = p ∙ stores_put d (at + i) next (omega (arith, fits.1)) in
-      let one : take 1 (drop (from + i) s) ≡ next = rw (drop-cons s (from + i) 0 fits.0) in
-      let joined : front ++ next ≡ take i' (drop from s) = rw (q, take-add i 1 (drop from s), drop-drop i from s, one) in
-      record {
-        there = c.there;
-        room = c.room;
-        within = omega arith;
-        same = ap length stored ∙ (length_put d (at + i) next (omega (arith, fits.1)) ∙ c.same);
-        gives = put_next d₀ at front next c.gives stored (omega (arith, long)) ∙ ap (put d₀ at) joined;
-      }
-
-  pub copying_end : n ≤ i → d ≡ put d₀ at (take n (drop from s))
-  copying_end h = let e : i ≡ n = omega (arith, c.within) in rw (← e) c.gives
+-- n octets, as `copy_from_slice` leaves them in a part
+pub copied_over : (n : ℕ) (s d : List ℕ) (from at : ℕ) {x : List ℕ} {k m : ℕ} → from + n ≤ length s → k ≡ n → m ≡ n → x ≡ take m (drop from s)
+    → put_mid at k d x ≡ put d at (take n (drop from s))
+unfolding put
+copied_over n s d from at there p q e =
+    let long : length (take n (drop from s)) ≡ n = length-take-le n (drop from s) (simp length-drop (omega arith)) in
+    rw (e, p, q, long, drop-drop) refl
 
 -- k octets from a part into a part
 pub copied_into : (k : ℕ) (s d : List ℕ) (from at : ℕ) {x : List ℕ} → from + k ≤ length s → at + k ≤ length d
@@ -126,20 +97,13 @@ header_written L f wide word is c d {d₁} {d₂} {d₃} {d₄} {a} {p} {r} e e�
 
 -- ---- a row
 
--- a number in two words
-pub half_written : (n : ℕ) (d : List ℕ) (at : ℕ) {d₁ d₂ : List ℕ} {p : ℕ} → at + 8 ≤ length d
-    → d₁ ≡ fitted d at (be 4 (n / 4294967296)) → d₂ ≡ fitted d₁ p (be 4 (n % 4294967296)) → p ≡ at + 4 → d₂ ≡ put d at (be 8 n)
-half_written n d at {d₁} h e g q =
-    let same : length d₁ ≡ length d = ap length e ∙ length_fitted d at (be 4 (n / 4294967296)) in
-    let two : be 8 (n / 4294967296 * 4294967296 + n % 4294967296) ≡ be 4 (n / 4294967296) ++ be 4 (n % 4294967296) = be_two 4 4 (n / 4294967296) (n % 4294967296) (omega arith) in
-    let all : n / 4294967296 * 4294967296 + n % 4294967296 ≡ n = omega arith in
-    put_number_next 4 d at (n / 4294967296) (be 4 (n % 4294967296)) (e ∙ number_fits 4 d at (n / 4294967296) (omega arith)) (g ∙ number_fits 4 d₁ _ (n % 4294967296) (omega arith)) q
-    ∙ ap (put d at) (sym two ∙ ap (be 8) all)
-
 -- an address of 16 octets, in halves
-pub halves_written : (high low : ℕ) → low < 18446744073709551616 → (d : List ℕ) (at : ℕ) {d₁ d₂ : List ℕ} {p : ℕ}
-    → d₁ ≡ put d at (be 8 high) → d₂ ≡ put d₁ p (be 8 low) → p ≡ at + 8 → d₂ ≡ put d at (be 16 (high * 18446744073709551616 + low))
-halves_written high low h d at e g q = put_number_next 8 d at high (be 8 low) e g q ∙ ap (put d at) (sym (be_two 8 8 high low h))
+pub halves_written : (high low : ℕ) → low < 18446744073709551616 → (d : List ℕ) (at : ℕ) {d₁ d₂ : List ℕ} {p : ℕ} → at + 16 ≤ length d
+    → d₁ ≡ fitted d at (be 8 high) → d₂ ≡ fitted d₁ p (be 8 low) → p ≡ at + 8 → d₂ ≡ put d at (be 16 (high * 18446744073709551616 + low))
+halves_written high low l d at {d₁} h e g q =
+    let same : length d₁ ≡ length d = ap length e ∙ length_fitted d at (be 8 high) in
+    put_number_next 8 d at high (be 8 low) (e ∙ number_fits 8 d at high (omega arith)) (g ∙ number_fits 8 d₁ _ low (omega arith)) q
+    ∙ ap (put d at) (sym (be_two 8 8 high low l))
 
 -- an address of 4, by the lowest bits of its low half
 pub low_written : (high low : ℕ) (d : List ℕ) (at : ℕ) {d₁ : List ℕ} → at + 4 ≤ length d → d₁ ≡ fitted d at (be 4 (low % 4294967296))
@@ -253,16 +217,17 @@ unfolding each
 rowing_start {t = t} {d} {at} full room = record { full = full; room = room; within = omega arith; same = refl; gives = sym (put_nil d at) }
 
 module _ {f : Family} {t : Table} {d₀ : List ℕ} {at : ℕ} {d : List ℕ} {i : ℕ} (c : Rowing f t d₀ at d i) where
-  pub rowing_there : i < t.count → at + row_size f * i + row_size f ≤ length d
+  pub rowing_there : i < length (used t) → at + row_size f * i + row_size f ≤ length d
   rowing_there h =
-      let more : row_size f * suc i ≤ row_size f * t.count = mul-le-mul_left (row_size f) h in
+      let many : length (used t) ≡ t.count = used_long t.rows t.count c.full in
+      let more : row_size f * suc i ≤ row_size f * t.count = mul-le-mul_left (row_size f) (omega arith) in
       omega (arith, c.room, c.same, more, mul-suc (row_size f) i)
 
-  pub rowing_next : {d' : List ℕ} {i' : ℕ} (z : Neighbour) → i < t.count → (place : ℕ) → place ≡ at + row_size f * i
-      → d' ≡ put d place (row_octets f (get_or t.rows i z)) → i' ≡ i + 1 → Rowing f t d₀ at d' i'
+  pub rowing_next : {d' : List ℕ} {i' : ℕ} (z : Neighbour) → i < length (used t) → (place : ℕ) → place ≡ at + row_size f * i
+      → d' ≡ put d place (row_octets f (get_or (used t) i z)) → i' ≡ i + 1 → Rowing f t d₀ at d' i'
   unfolding each
   rowing_next {d'} {i'} z h place here p q =
-      let n : Neighbour = get_or t.rows i z in
+      let n : Neighbour = get_or (used t) i z in
       let front : List Neighbour = take i (used t) in
       let many : length (used t) ≡ t.count = used_long t.rows t.count c.full in
       let long : length front ≡ i = length-take-le i (used t) (omega (arith, many)) in
@@ -270,7 +235,7 @@ module _ {f : Family} {t : Table} {d₀ : List ℕ} {at : ℕ} {d : List ℕ} {i
       let row : length (row_octets f n) ≡ row_size f = length_row f n in
       let suc-i : i' ≡ suc i = omega (arith, q) in
       let more : take i' (used t) ≡ front ++ (n ∷ []) =
-      ap (λ x. take x (used t)) suc-i ∙ (take-suc (used t) i z (omega (arith, many)) ∙ ap (λ x. front ++ (x ∷ [])) (get_or-take t.count t.rows i z h)) in
+      ap (λ x. take x (used t)) suc-i ∙ take-suc (used t) i z h in
       let last : each (row_octets f) (front ++ (n ∷ [])) ≡ each (row_octets f) front ++ row_octets f n =
       each_append (row_octets f) front (n ∷ []) ∙ ap (λ x. each (row_octets f) front ++ x) (append-nil (row_octets f n)) in
       record {
@@ -283,10 +248,9 @@ module _ {f : Family} {t : Table} {d₀ : List ℕ} {at : ℕ} {d : List ℕ} {i
             ∙ ap (put d₀ at) (sym (ap (each (row_octets f)) more ∙ last));
       }
 
-  pub rowing_end : t.count ≤ i → d ≡ put d₀ at (each (row_octets f) (used t))
+  pub rowing_end : length (used t) ≤ i → d ≡ put d₀ at (each (row_octets f) (used t))
   rowing_end h =
-      let e : i ≡ t.count = omega (arith, c.within) in
-      let all : take i (used t) ≡ used t = take_all i (used t) (omega (arith, used_long t.rows t.count c.full, h)) in
+      let all : take i (used t) ≡ used t = take_all i (used t) h in
       rw all at c.gives
 
 -- ---- the entries of a section

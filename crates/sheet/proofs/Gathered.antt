@@ -33,11 +33,11 @@ use Rattle.sections.specs.Checking.{fault, checking, check_form, check_sheet, ch
 use Rattle.sections.specs.declared.Counts.{Counts}
 use Rattle.sections.specs.declared.layout.Form.{Form}
 use Rattle.sections.specs.declared.layout.Form.TheVariants.{Base, Large, Ipv4 as Sheet4, Ipv6 as Sheet6}
-use Rattle.sections.specs.declared.Verdict.{Verdict}
-use Rattle.sections.specs.declared.Verdict.TheVariants.{Valid, Refused}
 use Rattle.sheet.specs.Calls.{fronted, lacking, held_by, ReadingCall, room_for, delivered, read_checked, read_form, read_sheet}
 use Rattle.sheet.proofs.Rows.{length_rows_at}
 use Rattle.sheet.proofs.Again.{checked, Holds, holds}
+use Rattle.std.specs.Prelude.{Result, Ok, Err}
+use Rattle.format.specs.Outcome.{reason_number}
 
 -- ---- rows gathered
 
@@ -60,20 +60,20 @@ table_more l r i e h =
     (ap (λ x. set (l ++ replicate x no_row) i r) one ∙ (set_at l no_row (replicate k no_row) r i e ∙ sym (append_snoc l r (replicate k no_row))))
     refl (sym long) (omega arith)
 
--- after i of n rows
+-- after i of n rows, of which the table will have as many in use
 pub record Gathering (f : Family) (o : List ℕ) (at n : ℕ) (t : Table) (i : ℕ) : Type 0 where
   pub few : n ≤ most
   pub there : at + row_size f * n ≤ length o
   pub within : i ≤ n
-  pub is : t ≡ table_of (rows_at f o at i)
+  pub is : record { rows = t.rows; count = i } ≡ table_of (rows_at f o at i)
 
 pub gathering_start : {f : Family} {o : List ℕ} {at n : ℕ} {t : Table} → n ≤ most → at + row_size f * n ≤ length o → t ≡ table_of [] → Gathering f o at n t 0
-unfolding rows_at
-gathering_start few there e = record { few = few; there = there; within = omega arith; is = e }
+unfolding rows_at table_of
+gathering_start few there e = record { few = few; there = there; within = omega arith; is = ap (λ (t : Table). record { rows = t.rows; count = 0 }) e }
 
 module _ {f : Family} {o : List ℕ} {at n : ℕ} {t : Table} {i : ℕ} (g : Gathering f o at n t i) where
   pub gathering_next : {r : Neighbour} {p i' : ℕ} → i < n → r ≡ row_at f o p → p ≡ at + row_size f * i → i' ≡ i + 1
-      → Gathering f o at n (record { rows = set t.rows i r; count = i' }) i'
+      → Gathering f o at n (record { rows = set t.rows i r; count = t.count }) i'
   gathering_next {r} {p} {i'} h e q j =
       let next : suc i ≡ i' = omega arith in
       let long = length_rows_at f o at i in
@@ -84,22 +84,22 @@ module _ {f : Family} {o : List ℕ} {at n : ℕ} {t : Table} {i : ℕ} (g : Gat
         there = g.there;
         within = omega arith;
         is =
-            rw (g.is, j)
-            (table_more (rows_at f o at i) r i long (omega (arith, g.few))
+            ap (λ (u : Table). record { rows = set u.rows i r; count = i' }) g.is
+            ∙ rw (j) (table_more (rows_at f o at i) r i long (omega (arith, g.few))
             ∙ ap table_of more);
       }
 
-  pub gathering_end : n ≤ i → t ≡ table_of (rows_at f o at n)
-  gathering_end h = let e : i ≡ n = omega (arith, g.within) in g.is ∙ ap (λ x. table_of (rows_at f o at x)) e
+  pub gathering_end : n ≤ i → record { rows = t.rows; count = n } ≡ table_of (rows_at f o at n)
+  gathering_end h = let e : i ≡ n = omega (arith, g.within) in rw (e) at g.is
 
 -- ---- what the check answered
 
-module _ (a : AddressFamily) (o : List ℕ) {x : Verdict} (said : checked_by x ≡ check_sheet a o) where
-  pub checked_gives : {c : Counts} → x ≡ Valid c → check_sheet a o ≡ gives c
+module _ (a : AddressFamily) (o : List ℕ) {x : Result Counts Refusal} (said : checked_by x ≡ check_sheet a o) where
+  pub checked_gives : {c : Counts} → x ≡ Ok c → check_sheet a o ≡ gives c
   unfolding checked_by
   checked_gives q = sym said ∙ ap checked_by q
 
-  pub checked_refuses : {r : Refusal} → x ≡ Refused r → check_sheet a o ≡ refuses r.number r.place
+  pub checked_refuses : {r : Refusal} → x ≡ Err r → check_sheet a o ≡ refuses (reason_number r.reason) r.place
   unfolding checked_by
   checked_refuses q = sym said ∙ ap checked_by q
 

@@ -23,8 +23,9 @@ use Rattle.sections.specs.Contents.{Contents, rows_at, counts_of, sheet_octets}
 use Rattle.sections.specs.Checking.{counts_allowed, check_form}
 use Rattle.sections.specs.declared.Counts.{Counts}
 use Rattle.sections.specs.declared.layout.Form.{Form}
-use Rattle.sheet.specs.declared.Found.{Found}
-use Rattle.sheet.specs.declared.Found.TheVariants.{Entries as Copied, Refused as NotFound}
+use Rattle.std.specs.Prelude.{Result, Ok, Err}
+use Rattle.format.specs.declared.Refusal.{Refusal}
+use Rattle.format.specs.Outcome.{reason_number}
 
 -- ---- reading
 
@@ -75,9 +76,9 @@ read_form ipv6 k o da dp = read_checked k o da dp (check_form ipv6 k o)
 abbrev pub read_sheet : AddressFamily → List ℕ → List ℕ → List ℕ → ReadingCall
 read_sheet a o da dp = read_form (is_ipv6 a) (form_of o) o da dp
 
-unfoldable pub found_by : Found → Outcome Counts
-found_by (Copied c) = gives c
-found_by (NotFound r) = refuses r.number r.place
+unfoldable pub found_by : Result Counts Refusal → Outcome Counts
+found_by (Ok c) = gives c
+found_by (Err r) = refuses (reason_number r.reason) r.place
 
 -- ---- writing
 

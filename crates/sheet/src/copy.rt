@@ -7,19 +7,15 @@ ghost use Rattle.sheet.specs.Calls.{fronted, lacking};
 
 use entries::{entry_size, front_word};
 use format::Kind;
-use octets::{copy8, copy16, write32};
+use octets::write;
 use sections::{Form, ipv6_in, prefixed_in};
 
-// n octets. The loop is as plain as it can be: the compiler then copies many octets at a time.
+// n octets.
 pub(crate) fn copy(s: &[u8], from: usize, n: usize, d: &mut [u8], at: usize)
     requires { (from + n ≤ length s.now) × (at + n ≤ length d.old) }
     ensures { d.new ≡ put d.old at (take n (drop from s.now)) }
 {
-    let mut i = 0;
-    while i < n {
-        d[at + i] = s[from + i];
-        i += 1;
-    }
+    d[at..at + n].copy_from_slice(&s[from..from + n]);
 }
 
 // A number over four octets. They are lent as a part: the compiler then knows that they are there.
@@ -27,7 +23,7 @@ fn put_word(d: &mut [u8], at: usize, word: u32)
     requires { at + 4 ≤ length d.old }
     ensures { d.new ≡ put d.old at (be 4 word) }
 {
-    write32(&mut d[at..at + 4], 0, word);
+    write::<u32>(&mut d[at..at + 4], 0, word);
 }
 
 // The octets of an entry: those that an IPv4 entry has after its front all at once.
@@ -36,26 +32,25 @@ fn copy_entry(size: usize, s: &[u8], from: usize, d: &mut [u8], at: usize)
     ensures { d.new ≡ put d.old at (take size (drop from s.now)) }
 {
     if size == 16 {
-        copy16(&s[from..from + 16], &mut d[at..at + 16]);
+        octets::copy::<16>(&s[from..from + 16], &mut d[at..at + 16]);
         return;
     }
     if size == 8 {
-        copy8(&s[from..from + 8], &mut d[at..at + 8]);
+        octets::copy::<8>(&s[from..from + 8], &mut d[at..at + 8]);
         return;
     }
     copy(s, from, size, d, at);
 }
 
+// The size is no const parameter: `spread` takes any size, so the loop for a size that is none of the two would stand beside.
 fn spread_of(word: u32, size: usize, s: &[u8], from: usize, n: usize, d: &mut [u8])
     requires { (from + size * n ≤ length s.now) × ((4 + size) * n ≤ length d.old) × (size ≤ 44) }
     ensures { d.new ≡ put d.old 0 (fronted (be 4 word) size s.now from n) }
 {
-    let mut i = 0;
-    while i < n {
+    for i in 0..n {
         let at = (4 + size) * i;
         put_word(d, at, word);
         copy_entry(size, s, from + size * i, d, at + 4);
-        i += 1;
     }
 }
 

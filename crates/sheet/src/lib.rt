@@ -15,19 +15,12 @@ mod write;
 use format::Refusal;
 use neighbours::Table;
 pub use read::read_sheet;
-pub use sections::{Counts, Verdict, check_sheet};
+pub use sections::{Counts, check_sheet};
 pub use write::write_sheet;
-
-// What reading a sheet finds.
-#[derive(Clone, Copy)]
-pub enum Found {
-    Entries(Counts),
-    Refused(Refusal),
-}
 
 // The table that a sheet holds, with what was found; a table without neighbours where the call refuses.
 #[derive(Clone, Copy)]
 pub struct SheetRead {
     pub table: Table,
-    pub found: Found,
+    pub found: Result<Counts, Refusal>,
 }

@@ -13,7 +13,7 @@ use addresses::width;
 use entries::front_word;
 use format::Address;
 use neighbours::{Neighbour, Table};
-use octets::{write8, write16, write32};
+use octets::write;
 use sections::{Counts, form_for, places_of, row_size};
 
 // A count and the offset of its section.
@@ -21,8 +21,8 @@ fn put_pair(d: &mut [u8], at: usize, count: u32, offset: u32)
     requires { at + 8 ≤ length d.old }
     ensures { d.new ≡ put d.old at (be 4 count & be 4 offset) }
 {
-    write32(d, at, count);
-    write32(d, at + 4, offset);
+    write::<u32>(d, at, count);
+    write::<u32>(d, at + 4, offset);
 }
 
 // What a sheet of a family begins with, as one number: 0xFFFF, and 3 or 4.
@@ -41,7 +41,7 @@ pub(crate) fn put_header(ipv6: bool, d: &mut [u8], c: Counts)
     ensures { d.new ≡ put d.old 0 (header_octets (layout_of (form_by ipv6)) (family_of ipv6) c) }
 {
     let s = places_of(form_for(ipv6), c);
-    write32(d, 0, form_word(ipv6));
+    write::<u32>(d, 0, form_word(ipv6));
     put_pair(d, 4, c.asserts as u32, s.asserts as u32);
     put_pair(d, 12, c.pairs as u32, s.pairs as u32);
     put_pair(d, 20, c.neighbours as u32, s.rows as u32);
@@ -63,26 +63,17 @@ fn flags_of(row: Neighbour) -> u8
     0
 }
 
-// The 8 octets of half an address.
-fn put_half(d: &mut [u8], at: usize, n: u64)
-    requires { at + 8 ≤ length d.old }
-    ensures { d.new ≡ put d.old at (be 8 n) }
-{
-    write32(d, at, (n / 4294967296) as u32);
-    write32(d, at + 4, (n % 4294967296) as u32);
-}
-
 // The octets of an address.
 fn put_address(ipv6: bool, d: &mut [u8], at: usize, a: Address)
     requires { at + (family_of ipv6).width ≤ length d.old }
     ensures { d.new ≡ put d.old at (be (family_of ipv6).width (number_of a)) }
 {
     if ipv6 {
-        put_half(d, at, a.high);
-        put_half(d, at + 8, a.low);
+        write::<u64>(d, at, a.high);
+        write::<u64>(d, at + 8, a.low);
         return;
     }
-    write32(d, at, (a.low % 4294967296) as u32);
+    write::<u32>(d, at, (a.low % 4294967296) as u32);
 }
 
 // What follows the address in a row.
@@ -90,10 +81,10 @@ fn put_rest(d: &mut [u8], at: usize, row: Neighbour)
     requires { at + 8 ≤ length d.old }
     ensures { d.new ≡ put d.old at (be 4 row.priority & be 1 (cond row.has_priority 1 0 + cond row.packs 2 0) & be 1 0 & be 2 row.holdtime) }
 {
-    write32(d, at, row.priority);
-    write8(d, at + 4, flags_of(row));
-    write8(d, at + 5, 0);
-    write16(d, at + 6, row.holdtime);
+    write::<u32>(d, at, row.priority);
+    write::<u8>(d, at + 4, flags_of(row));
+    write::<u8>(d, at + 5, 0);
+    write::<u16>(d, at + 6, row.holdtime);
 }
 
 // The octets of a row.
@@ -101,7 +92,7 @@ fn put_row(ipv6: bool, d: &mut [u8], at: usize, row: Neighbour)
     requires { at + row_size (family_of ipv6) ≤ length d.old }
     ensures { d.new ≡ put d.old at (row_octets (family_of ipv6) row) }
 {
-    write32(d, at, front_word(ipv6));
+    write::<u32>(d, at, front_word(ipv6));
     put_address(ipv6, d, at + 4, row.address);
     put_rest(d, at + 4 + width(ipv6), row);
 }
@@ -112,10 +103,7 @@ pub(crate) fn put_rows(ipv6: bool, d: &mut [u8], at: usize, table: Table)
     ensures { d.new ≡ put d.old at (each (row_octets (family_of ipv6)) (used table)) }
 {
     let size = row_size(ipv6, true);
-    let count = table.count;
-    let mut i = 0;
-    while i < count {
-        put_row(ipv6, d, at + size * i, table.rows[i]);
-        i += 1;
+    for (i, row) in table.rows[..table.count].iter().enumerate() {
+        put_row(ipv6, d, at + size * i, *row);
     }
 }

@@ -1,6 +1,6 @@
 // Reading a sheet of any form: it is checked, then its two lists are copied and its rows gathered. 8 is the last refusal.
 ghost use Rattle.std.specs.Prelude.{◌≡◌, [], ◌+◌, ◌*◌, ◌≤◌, length};
-ghost use Rattle.format.specs.Outcome.{gives, refuses};
+ghost use Rattle.format.specs.Outcome.{gives, refuses, reason_number};
 ghost use Rattle.entries.specs.Kinds.{family_with};
 ghost use Rattle.neighbours.specs.Rows.{most, table_of};
 ghost use Rattle.sections.specs.Layout.{layout_of, form_of, family_in, row_size};
@@ -8,23 +8,21 @@ ghost use Rattle.sections.specs.Contents.{rows_at};
 ghost use Rattle.sections.specs.Checking.{checking};
 ghost use Rattle.sheet.specs.Calls.{read_checked, read_sheet, found_by};
 
+use crate::SheetRead;
 use crate::copy::copy_entries;
-use crate::{Found, SheetRead};
 use entries::entry_size;
-use format::{AddressFamily, Kind, Refusal};
+use format::{AddressFamily, Kind, Reason, Refusal};
 use neighbours::Table;
-use sections::{
-    Counts, Verdict, check_sheet, form_of, ipv6_in, places_of, prefixed_in, row_at, row_size,
-};
+use sections::{Counts, check_sheet, form_of, ipv6_in, places_of, prefixed_in, row_at, row_size};
 
 // A refusal, with a table without neighbours.
 fn refused(why: Refusal) -> SheetRead
-    ensures found { found_by result.found ≡ refuses why.number why.place }
+    ensures found { found_by result.found ≡ refuses (reason_number why.reason) why.place }
     ensures table { result.table ≡ table_of [] }
 {
     SheetRead {
         table: Table::empty(),
-        found: Found::Refused(why),
+        found: Err(why),
     }
 }
 
@@ -35,13 +33,10 @@ fn gather(ipv6: bool, prefixed: bool, o: &[u8], at: usize, n: usize) -> Table
 {
     let size = row_size(ipv6, prefixed);
     let mut table = Table::empty();
-    let mut i = 0;
-    while i < n {
-        let row = row_at(ipv6, prefixed, o, at + size * i);
-        table.rows[i] = row;
-        i += 1;
-        table.count = i;
+    for i in 0..n {
+        table.rows[i] = row_at(ipv6, prefixed, o, at + size * i);
     }
+    table.count = n;
     table
 }
 
@@ -56,23 +51,17 @@ fn deliver(o: &[u8], c: Counts, asserts: &mut [u8], pairs: &mut [u8]) -> SheetRe
     let form = form_of(o);
     let ipv6 = ipv6_in(form);
     if asserts.len() < entry_size(ipv6, true, Kind::Simple) * c.asserts {
-        return refused(Refusal {
-            number: 8,
-            place: 0,
-        });
+        return refused(Reason::NoRoom.at(0));
     }
     if pairs.len() < entry_size(ipv6, true, Kind::RegisterStop) * c.pairs {
-        return refused(Refusal {
-            number: 8,
-            place: 0,
-        });
+        return refused(Reason::NoRoom.at(0));
     }
     let s = places_of(form, c);
     copy_entries(form, Kind::Simple, o, s.asserts, c.asserts, asserts);
     copy_entries(form, Kind::RegisterStop, o, s.pairs, c.pairs, pairs);
     SheetRead {
         table: gather(ipv6, prefixed_in(form), o, s.rows, c.neighbours),
-        found: Found::Entries(c),
+        found: Ok(c),
     }
 }
 
@@ -88,9 +77,8 @@ pub fn read_sheet(
     ensures asserts { asserts.new ≡ (read_sheet family o.now asserts.old pairs.old).asserts }
     ensures pairs { pairs.new ≡ (read_sheet family o.now asserts.old pairs.old).pairs }
 {
-    let x = check_sheet(family, o);
-    match x {
-        Verdict::Refused(r) => refused(r),
-        Verdict::Valid(c) => deliver(o, c, asserts, pairs),
+    match check_sheet(family, o) {
+        Err(r) => refused(r),
+        Ok(c) => deliver(o, c, asserts, pairs),
     }
 }

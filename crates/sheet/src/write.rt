@@ -15,17 +15,10 @@ ghost use Rattle.sheet.specs.Calls.{contents_of, counted, at_zero, asked, write_
 
 use crate::copy::copy;
 use crate::put::{put_header, put_rows};
-use entries::{Listed, entry_size, first_bad};
-use format::{AddressFamily, Kind, Refusal, Writing, is_ipv6};
+use entries::{entry_size, first_bad};
+use format::{AddressFamily, Kind, Reason, Refusal, is_ipv6};
 use neighbours::{Table, is_valid};
 use sections::{Counts, counts_allowed, form_for, places_of};
-
-// Refused, at place 0.
-fn refused(number: u8) -> Writing
-    ensures { length_by result ≡ refuses number 0 }
-{
-    Writing::Refused(Refusal { number, place: 0 })
-}
 
 // Whether both lists are whole.
 fn are_whole(ipv6: bool, asserts: &[u8], pairs: &[u8]) -> bool
@@ -62,34 +55,37 @@ fn are_storable(ipv6: bool, c: Counts, table: Table) -> bool
 fn all_allowed(ipv6: bool, kind: Kind, e: &[u8]) -> bool
     ensures { at_zero (first_bad (entries_for ipv6 kind) e.now 0) ≡ cond result (gives tt) (refuses 7 0) }
 {
-    match first_bad(ipv6, true, kind, e, 0) {
-        Listed::Allowed => true,
-        Listed::Bad(_) => false,
-    }
+    first_bad(ipv6, true, kind, e, 0).is_none()
 }
 
 // The length of the sheet that is due, or a refusal.
-fn due(ipv6: bool, asserts: &[u8], pairs: &[u8], table: Table, room: usize) -> Writing
+fn due(
+    ipv6: bool,
+    asserts: &[u8],
+    pairs: &[u8],
+    table: Table,
+    room: usize,
+) -> Result<usize, Refusal>
     ensures { length_by result ≡ length_of (asked (layout_of (form_by ipv6)) (family_of ipv6) asserts.now pairs.now table room) }
 {
     if !are_whole(ipv6, asserts, pairs) {
-        return refused(10);
+        return Err(Reason::BadList.at(0));
     }
     let c = counts_of(ipv6, asserts, pairs, table.count);
     if !are_storable(ipv6, c, table) {
-        return refused(14);
+        return Err(Reason::BadSheet.at(0));
     }
     let n = places_of(form_for(ipv6), c).end;
     if room < n {
-        return refused(8);
+        return Err(Reason::NoRoom.at(0));
     }
     if !all_allowed(ipv6, Kind::Simple, asserts) {
-        return refused(7);
+        return Err(Reason::BadAddress.at(0));
     }
     if !all_allowed(ipv6, Kind::RegisterStop, pairs) {
-        return refused(7);
+        return Err(Reason::BadAddress.at(0));
     }
-    Writing::Wrote(n)
+    Ok(n)
 }
 
 // The octets of a sheet that is due.
@@ -112,15 +108,12 @@ pub fn write_sheet(
     pairs: &[u8],
     table: Table,
     d: &mut [u8],
-) -> Writing
+) -> Result<usize, Refusal>
     ensures answer { length_by result ≡ (write_sheet family asserts.now pairs.now table d.old).answer }
     ensures buffer { d.new ≡ (write_sheet family asserts.now pairs.now table d.old).buffer }
 {
     let ipv6 = is_ipv6(family);
-    let answer = due(ipv6, asserts, pairs, table, d.len());
-    let Writing::Wrote(_) = answer else {
-        return answer;
-    };
+    let n = due(ipv6, asserts, pairs, table, d.len())?;
     fill(ipv6, asserts, pairs, table, d);
-    answer
+    Ok(n)
 }

@@ -4,7 +4,7 @@ ghost use Rattle.std.specs.Prelude.{◌≡◌, ◌+◌, ◌*◌, ◌≤◌, leng
 
 use addresses::width;
 use format::{Address, AddressFamily, is_ipv6};
-use octets::{write8, write16, write32};
+use octets::write;
 use printing::put_address;
 use sections::{Form, Places};
 use sheet::Counts;
@@ -22,9 +22,7 @@ pub(crate) fn room(x: u8) -> [u8; ROOM]
 // The family of a form's sheets.
 pub(crate) fn family_of(form: Form) -> AddressFamily {
     match form {
-        Form::Base => AddressFamily::Ipv4,
-        Form::Large => AddressFamily::Ipv4,
-        Form::Ipv4 => AddressFamily::Ipv4,
+        Form::Base | Form::Large | Form::Ipv4 => AddressFamily::Ipv4,
         Form::Ipv6 => AddressFamily::Ipv6,
     }
 }
@@ -32,9 +30,7 @@ pub(crate) fn family_of(form: Form) -> AddressFamily {
 // The form in which a sheet is written again.
 pub(crate) fn newest(form: Form) -> Form {
     match form {
-        Form::Base => Form::Ipv4,
-        Form::Large => Form::Ipv4,
-        Form::Ipv4 => Form::Ipv4,
+        Form::Base | Form::Large | Form::Ipv4 => Form::Ipv4,
         Form::Ipv6 => Form::Ipv6,
     }
 }
@@ -45,9 +41,7 @@ pub(crate) fn header_size(form: Form) -> usize
 {
     match form {
         Form::Base => 12,
-        Form::Large => 28,
-        Form::Ipv4 => 28,
-        Form::Ipv6 => 28,
+        Form::Large | Form::Ipv4 | Form::Ipv6 => 28,
     }
 }
 
@@ -56,13 +50,13 @@ fn put_mark(form: Form, d: &mut [u8]) {
     match form {
         Form::Base => {}
         Form::Large => {
-            write32(d, 0, 0xffff_0002);
+            write::<u32>(d, 0, 0xffff_0002);
         }
         Form::Ipv4 => {
-            write32(d, 0, 0xffff_0003);
+            write::<u32>(d, 0, 0xffff_0003);
         }
         Form::Ipv6 => {
-            write32(d, 0, 0xffff_0004);
+            write::<u32>(d, 0, 0xffff_0004);
         }
     }
 }
@@ -73,10 +67,10 @@ fn put_number(form: Form, d: &mut [u8], k: usize, n: usize)
     requires { (k ≤ 5) × (n ≤ 700000) }
 {
     if header_size(form) == 12 {
-        write16(d, 2 * k, (n % 0x1_0000) as u16);
+        write::<u16>(d, 2 * k, (n % 0x1_0000) as u16);
         return;
     }
-    write32(d, 4 + 4 * k, n as u32);
+    write::<u32>(d, 4 + 4 * k, n as u32);
 }
 
 // Group n of a family: 232.0.0.0 and on, or ff3e::e800:0 and on.
@@ -135,14 +129,13 @@ fn put_front(form: Form, d: &mut [u8], at: usize) -> usize
     ensures { (at ≤ result) × (result ≤ at + 4) }
 {
     match form {
-        Form::Base => at,
-        Form::Large => at,
+        Form::Base | Form::Large => at,
         Form::Ipv4 => {
-            write32(d, at, 0x0100_0000);
+            write::<u32>(d, at, 0x0100_0000);
             at + 4
         }
         Form::Ipv6 => {
-            write32(d, at, 0x0200_0000);
+            write::<u32>(d, at, 0x0200_0000);
             at + 4
         }
     }
@@ -193,8 +186,8 @@ fn put_assert(form: Form, d: &mut [u8], at: usize, i: u32) -> usize
     ensures { (at ≤ result) × (result ≤ at + 44) }
 {
     let past = put_addresses(form, d, at, i, assert_source(i));
-    write32(d, past, r_preference(i));
-    write32(d, past + 4, i);
+    write::<u32>(d, past, r_preference(i));
+    write::<u32>(d, past + 4, i);
     past + 8
 }
 
@@ -242,10 +235,10 @@ fn put_said(d: &mut [u8], at: usize, i: u32) -> usize
     requires { at ≤ 700020 }
     ensures { (at ≤ result) × (result ≤ at + 8) }
 {
-    write32(d, at, priority(i));
-    write8(d, at + 4, flags(i));
-    write8(d, at + 5, 0);
-    write16(d, at + 6, 105);
+    write::<u32>(d, at, priority(i));
+    write::<u8>(d, at + 4, flags(i));
+    write::<u8>(d, at + 5, 0);
+    write::<u16>(d, at + 6, 105);
     at + 8
 }
 

@@ -4,7 +4,7 @@ ghost use Rattle.std.specs.Prelude.{◌≤◌};
 use crate::built::{build, family_of, room};
 use crate::output::{checked, form_name};
 use format::AddressFamily;
-use octets::write16;
+use octets::write;
 use printing::{front, number, text};
 use sections::Form;
 use sheet::Counts;
@@ -49,7 +49,7 @@ fn first_word(out: &impl Print, x: u16) {
         neighbours: 0,
     };
     let s = build(Form::Base, c, &mut o);
-    write16(&mut o, 0, x);
+    write::<u16>(&mut o, 0, x);
     number(out, b"base form, 1,024 asserts, first word ", x as u64);
     text(out, b": ");
     checked(out, AddressFamily::Ipv4, front(&o, s.end));

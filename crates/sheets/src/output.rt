@@ -1,9 +1,9 @@
 // What the calls of a sheet and of a table answered, a line each.
-use format::{AddressFamily, Writing};
+use format::{AddressFamily, Refusal};
 use neighbours::Change;
 use printing::{named, number, refused, text};
 use sections::Form;
-use sheet::{Counts, Found, Verdict};
+use sheet::Counts;
 
 pub(crate) fn form_name(out: &impl Print, form: Form) -> bool {
     match form {
@@ -37,11 +37,7 @@ fn counts(out: &impl Print, c: Counts) -> bool {
 
 // A sheet checked.
 pub(crate) fn checked(out: &impl Print, family: AddressFamily, o: &[u8]) -> bool {
-    let c = sheet::check_sheet(family, o);
-    match c {
-        Verdict::Valid(n) => counts(out, n),
-        Verdict::Refused(r) => refused(out, r, b"\n"),
-    }
+    found(out, sheet::check_sheet(family, o))
 }
 
 // A sheet checked as one of the other family.
@@ -50,26 +46,26 @@ pub(crate) fn other_checked(out: &impl Print, family: AddressFamily, o: &[u8]) -
     text(out, b"  named ") && family_name(out, f) && text(out, b": ") && checked(out, f, o)
 }
 
-pub(crate) fn found(out: &impl Print, f: Found) -> bool {
+pub(crate) fn found(out: &impl Print, f: Result<Counts, Refusal>) -> bool {
     match f {
-        Found::Entries(n) => counts(out, n),
-        Found::Refused(r) => refused(out, r, b"\n"),
+        Ok(n) => counts(out, n),
+        Err(r) => refused(out, r, b"\n"),
     }
 }
 
-pub(crate) fn stored(out: &impl Print, w: Writing) -> bool {
+pub(crate) fn stored(out: &impl Print, w: Result<usize, Refusal>) -> bool {
     match w {
-        Writing::Wrote(n) => named(out, b"octets ", n as u64),
-        Writing::Refused(r) => refused(out, r, b"\n"),
+        Ok(n) => named(out, b"octets ", n as u64),
+        Err(r) => refused(out, r, b"\n"),
     }
 }
 
 // What was done to a table; its line goes on.
-pub(crate) fn done(out: &impl Print, c: Change) -> bool {
-    match c {
-        Change::Replaced => text(out, b"replaced"),
-        Change::Appended => text(out, b"appended"),
-        Change::Forgotten => text(out, b"forgotten"),
-        Change::Refused(r) => refused(out, r, b""),
+pub(crate) fn done(out: &impl Print, change: Result<Change, Refusal>) -> bool {
+    match change {
+        Ok(Change::Replaced) => text(out, b"replaced"),
+        Ok(Change::Appended) => text(out, b"appended"),
+        Ok(Change::Forgotten) => text(out, b"forgotten"),
+        Err(r) => refused(out, r, b""),
     }
 }

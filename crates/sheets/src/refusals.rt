@@ -8,7 +8,7 @@ use crate::table::heard;
 use format::{Address, AddressFamily};
 use hello::Hello;
 use neighbours::Table;
-use printing::{case_at, front, number, text};
+use printing::{each_case, front, number, text};
 use sections::Form;
 
 // The octets of so many asserts.
@@ -244,18 +244,11 @@ fn one_list(out: &impl Print, family: AddressFamily, name: &[u8], e: &[u8]) {
 
 // Such lists by name and octets.
 fn each_list(out: &impl Print, family: AddressFamily, cases: &[u8]) {
-    let mut e = [0; 44];
-    let mut at = 0;
-    while at < cases.len() {
-        let c = case_at(cases, at, &mut e);
-        one_list(
-            out,
-            family,
-            front(&cases[at..], c.name),
-            front(&e, c.length),
-        );
-        at = c.next;
-    }
+    each_case(
+        cases,
+        &mut [0; 44],
+        |name, e| one_list(out, family, name, e),
+    );
 }
 
 fn lists_ipv4(out: &impl Print) {

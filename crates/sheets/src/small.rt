@@ -4,10 +4,9 @@ ghost use Rattle.std.specs.Prelude.{◌≤◌};
 
 use crate::built::{family_of, header_size};
 use crate::output::{checked, form_name, other_checked};
-use format::AddressFamily;
+use format::{AddressFamily, Reason};
 use printing::{front, hexadecimal, named, number, text};
 use sections::Form;
-use sheet::Verdict;
 
 // Room for the sheet of any form.
 const ROOM: usize = 244;
@@ -56,8 +55,7 @@ e80101010a0000000000006e00000014 e8010102000000008000006e00000014 e80101030a0000
 // And those of the two families.
 fn put_sections(form: Form, d: &mut [u8]) {
     match form {
-        Form::Base => put_older(d),
-        Form::Large => put_older(d),
+        Form::Base | Form::Large => put_older(d),
         Form::Ipv4 => hexadecimal(
             b"\
 01000000e80101010a0000000000006e00000014 01000000e8010102000000008000006e00000014 \
@@ -174,8 +172,7 @@ fn of_entries(out: &impl Print, form: Form) {
     let older = b"00df 0400 10f0 1800 20c8 2400 28ff 3000 3700 3804 3802 3901 3c0a 4001 4501 4700";
     let first = header_size(form);
     match form {
-        Form::Base => changes(out, form, first, older),
-        Form::Large => changes(out, form, first, older),
+        Form::Base | Form::Large => changes(out, form, first, older),
         Form::Ipv4 => changes(
             out,
             form,
@@ -199,15 +196,9 @@ fn of_entries(out: &impl Print, form: Form) {
 fn refused_at_start(family: AddressFamily, o: &[u8]) -> usize
     ensures { result ≤ 1 }
 {
-    let c = sheet::check_sheet(family, o);
-    match c {
-        Verdict::Valid(_n) => 0,
-        Verdict::Refused(r) => {
-            if r.number == 14 && r.place == 0 {
-                return 1;
-            }
-            0
-        }
+    match sheet::check_sheet(family, o) {
+        Err(r) if r.reason == Reason::BadSheet && r.place == 0 => 1,
+        _ => 0,
     }
 }
 

@@ -3,7 +3,7 @@
 // no other is refused.
 use crate::output::{checked, found};
 use format::AddressFamily;
-use printing::{case_at, front, text};
+use printing::{each_case, text};
 
 // A sheet checked, and read with room for both entries.
 fn stored(out: &impl Print, family: AddressFamily, name: &[u8], o: &[u8]) {
@@ -21,18 +21,7 @@ fn stored(out: &impl Print, family: AddressFamily, name: &[u8], o: &[u8]) {
 
 // Sheets by name and octets.
 fn each(out: &impl Print, family: AddressFamily, cases: &[u8]) {
-    let mut o = [0; 108];
-    let mut at = 0;
-    while at < cases.len() {
-        let c = case_at(cases, at, &mut o);
-        stored(
-            out,
-            family,
-            front(&cases[at..], c.name),
-            front(&o, c.length),
-        );
-        at = c.next;
-    }
+    each_case(cases, &mut [0; 108], |name, o| stored(out, family, name, o));
 }
 
 fn base(out: &impl Print) {

@@ -53,12 +53,10 @@ pub(crate) fn same_table(a: Table, b: Table) -> bool {
 
 // What was done, and how many rows are in use now: the table.
 fn after(out: &impl Print, name: &[u8], c: Changed) -> Table {
-    let change = c.change;
-    let table = c.table;
     text(out, name);
-    done(out, change);
-    named(out, b", neighbours ", table.count as u64);
-    table
+    done(out, c.change);
+    named(out, b", neighbours ", c.table.count as u64);
+    c.table
 }
 
 // A 65th is refused until one of the 64 is forgotten; then there is no room for that one.

@@ -2,15 +2,7 @@
 ghost use Rattle.std.specs.Prelude.{◌≡◌};
 ghost use Rattle.counters.specs.Counting.{counting};
 
-use counters::{Answer, Counters, Direction};
-
-// Says what was refused, and nothing where the message was counted.
-fn said(out: &impl Print, err: &impl Print, answer: Answer) {
-    match answer {
-        Answer::Added => {}
-        Answer::Refused(r) => listing::refused(out, err, r),
-    }
-}
+use counters::{Counters, Direction};
 
 // The counters with one message more and its records, or as they were where the kind is none of the six.
 pub(crate) fn counted(
@@ -24,7 +16,8 @@ pub(crate) fn counted(
     ensures { result ≡ (counting c direction kind records).counters }
 {
     let after = counters::counted(c, direction, kind, records);
-    let answer = after.answer;
-    said(out, err, answer);
+    if let Err(r) = after.answer {
+        listing::refused(out, err, r);
+    }
     after.counters
 }

@@ -2,24 +2,14 @@
 // ones, of Faults.antt.
 use crate::receive::receive;
 use counters::Counters;
-use printing::{case_at, front};
+use printing::each_case;
 
 // Every message of a table.
 fn receive_all(out: &impl Print, err: &impl Print, start: Counters, table: &[u8]) -> Counters {
     let mut c = start;
-    let mut m = [0; 1480];
-    let mut at = 0;
-    while at < table.len() {
-        let x = case_at(table, at, &mut m);
-        c = receive(
-            out,
-            err,
-            c,
-            front(&table[at..], x.name),
-            front(&m, x.length),
-        );
-        at = x.next;
-    }
+    each_case(table, &mut [0; 1480], |name, m| {
+        c = receive(out, err, c, name, m);
+    });
     c
 }
 

@@ -2,7 +2,7 @@
 // that is refused, and one that stays at its maximum.
 use crate::lend::counted;
 use counters::{Counters, Direction};
-use format::{AddressFamily, Kind, nowhere};
+use format::{AddressFamily, Kind, Refusal, nowhere};
 use packing::Packing;
 use printing::{packed, title};
 
@@ -13,27 +13,20 @@ fn send(
     c: Counters,
     name: &[u8],
     kind: Kind,
-    answer: Packing,
+    answer: Result<Packing, Refusal>,
 ) -> Counters {
     title(out, name);
     match answer {
-        Packing::Refused(r) => {
-            listing::refused(out, err, r);
-            c
-        }
-        Packing::Wrote { length, taken } => {
+        Ok(Packing { length, taken }) => {
             packed(out, length, taken);
             if length == 0 {
                 return c;
             }
-            counted(
-                out,
-                err,
-                c,
-                Direction::Sent,
-                counters::kind_number(kind),
-                taken as u64,
-            )
+            counted(out, err, c, Direction::Sent, u8::from(kind), taken as u64)
+        }
+        Err(r) => {
+            listing::refused(out, err, r);
+            c
         }
     }
 }
@@ -80,7 +73,7 @@ fn pairs(out: &impl Print, err: &impl Print, start: Counters) -> Counters {
 
 // A kind that is none of the six; then so many records that the next one would pass the 64-bit maximum.
 fn counts(out: &impl Print, err: &impl Print, start: Counters) -> Counters {
-    let kind = counters::kind_number(Kind::Assert);
+    let kind = u8::from(Kind::Assert);
     title(out, b"count kind 6");
     let c = counted(out, err, start, Direction::Sent, 6, 1);
     title(out, b"count past the maximum");

@@ -1,6 +1,6 @@
 // The aggregated packing call, in the one place that names it, and the path of every message. Nothing is promised of the
 // call here: what it answers is what the program puts to the test.
-use format::{Address, AddressFamily, Path};
+use format::{Address, AddressFamily, Path, Refusal};
 use packing::Packing;
 
 // From fe80::1 to ff02::d, all PIM routers. In IPv4 it is ignored.
@@ -23,6 +23,6 @@ pub(crate) fn pack(
     start: usize,
     limit: usize,
     d: &mut [u8],
-) -> Packing {
+) -> Result<Packing, Refusal> {
     packing::pack_aggregated(family, path(), e, start, limit, d)
 }

@@ -6,7 +6,7 @@ use crate::call::path;
 use crate::lists::{one, three, zeros};
 use crate::output::{family_name, wrote};
 use crate::rule::place;
-use format::AddressFamily;
+use format::{AddressFamily, Refusal};
 use packing::Choice;
 use printing::{front, hexadecimal, named, number, refused, text};
 
@@ -17,14 +17,10 @@ fn form(out: &impl Print, aggregated: bool) -> bool {
     text(out, b"simple, ")
 }
 
-fn answer(out: &impl Print, c: Choice) -> bool {
+fn answer(out: &impl Print, c: Result<Choice, Refusal>) -> bool {
     match c {
-        Choice::Refused(r) => refused(out, r, b"; "),
-        Choice::Wrote {
-            aggregated,
-            length,
-            taken,
-        } => form(out, aggregated) && wrote(out, length, taken, b"; "),
+        Err(r) => refused(out, r, b"; "),
+        Ok(c) => form(out, c.aggregated) && wrote(out, c.length, c.taken, b"; "),
     }
 }
 

@@ -6,19 +6,24 @@ use crate::call::{pack, path};
 use crate::lists::{one, three, zeros};
 use crate::output::{answer, family_name};
 use crate::rule::place;
-use format::AddressFamily;
-use octets::number16;
+use format::{AddressFamily, Refusal};
 use packing::Packing;
 use printing::{front, named, number, text};
 
-fn show(out: &impl Print, family: AddressFamily, name: &[u8], p: Packing) {
+fn show(out: &impl Print, family: AddressFamily, name: &[u8], p: Result<Packing, Refusal>) {
     family_name(out, family);
     text(out, name);
     answer(out, p);
 }
 
 // The same, where the line ends in its limit.
-fn show_limit(out: &impl Print, family: AddressFamily, name: &[u8], limit: usize, p: Packing) {
+fn show_limit(
+    out: &impl Print,
+    family: AddressFamily,
+    name: &[u8],
+    limit: usize,
+    p: Result<Packing, Refusal>,
+) {
     family_name(out, family);
     text(out, name);
     number(out, b", limit ", limit as u64);
@@ -47,15 +52,15 @@ fn limit_0(out: &impl Print, list: &[u8]) {
     show(out, family, b"limit 0, 555 octets lent: ", q);
 }
 
-fn taken_by(p: Packing) -> usize {
-    let Packing::Wrote { length: _, taken } = p else {
-        return 0;
-    };
-    taken
+fn taken_by(p: Result<Packing, Refusal>) -> usize {
+    match p {
+        Ok(p) => p.taken,
+        Err(_) => 0,
+    }
 }
 
 // With no more octets lent than the limit.
-fn exactly(family: AddressFamily, e: &[u8], start: usize, limit: usize) -> Packing
+fn exactly(family: AddressFamily, e: &[u8], start: usize, limit: usize) -> Result<Packing, Refusal>
     requires { limit ≤ 98 }
 {
     let mut d = [0; 98];
@@ -103,8 +108,12 @@ fn example_6(out: &impl Print, family: AddressFamily, count: usize, p: usize)
     let m = pack(family, front(&room, place(family, count)), 0, 1480, &mut d);
     show(out, family, b"example 6: ", m);
     family_name(out, family);
-    number(out, b"example 6: group records ", number16(&d, 16) as u64);
-    named(out, b", p=", number16(&d, p) as u64);
+    number(
+        out,
+        b"example 6: group records ",
+        octets::number::<u16>(&d, 16) as u64,
+    );
+    named(out, b", p=", octets::number::<u16>(&d, p) as u64);
 }
 
 // "Empty list, any allowed limit: no message."

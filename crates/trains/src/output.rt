@@ -1,5 +1,5 @@
 // What a packing call answered.
-use format::AddressFamily;
+use format::{AddressFamily, Refusal};
 use packing::Packing;
 use printing::{decimal, number, refused, text};
 
@@ -22,9 +22,9 @@ pub(crate) fn wrote(out: &impl Print, length: usize, taken: usize, after: &[u8])
         && text(out, after)
 }
 
-pub(crate) fn answer(out: &impl Print, p: Packing) -> bool {
+pub(crate) fn answer(out: &impl Print, p: Result<Packing, Refusal>) -> bool {
     match p {
-        Packing::Refused(r) => refused(out, r, b"\n"),
-        Packing::Wrote { length, taken } => wrote(out, length, taken, b"\n"),
+        Err(r) => refused(out, r, b"\n"),
+        Ok(p) => wrote(out, p.length, p.taken, b"\n"),
     }
 }

@@ -5,10 +5,9 @@ ghost use Rattle.std.specs.Prelude.{◌≡◌, ◌+◌, ◌*◌, ◌≤◌, ◌<
 use crate::call::{pack, path};
 use crate::output::{answer, family_name};
 use crate::rule::{COUNT, place, room};
-use format::AddressFamily;
+use format::{AddressFamily, Refusal};
 use packing::Packing;
 use printing::{decimal, front, in_common, named, number, refused, text};
-use reading::Reading;
 
 // A message that was packed and read back. With 0 taken there is none: something was wrong, and has been said.
 #[derive(Clone, Copy)]
@@ -33,7 +32,7 @@ fn came(out: &impl Print, start: usize) {
 }
 
 // An answer that ends the train before its time.
-fn stopped(out: &impl Print, start: usize, p: Packing) -> Sent
+fn stopped(out: &impl Print, start: usize, p: Result<Packing, Refusal>) -> Sent
     ensures { (result.length ≡ 0) × (result.taken ≡ 0) }
 {
     came(out, start);
@@ -55,21 +54,20 @@ fn read_back(
     requires { (start < 1024) × (length back.old ≡ 45056) }
 {
     let at = place(family, start);
-    let x = reading::read_asserts(family, path(), front(d, s.length), &mut back[at..]);
-    match x {
-        Reading::Refused(r) => {
+    match reading::read_asserts(family, path(), front(d, s.length), &mut back[at..]) {
+        Err(r) => {
             came(out, start);
             text(out, b"reading: ");
             refused(out, r, b"\n");
             false
         }
-        Reading::Entries { kind: _, count } => {
-            if count == s.taken {
+        Ok(read) => {
+            if read.count == s.taken {
                 return true;
             }
             came(out, start);
             decimal(out, s.taken as u64);
-            number(out, b" more, but of these ", count as u64);
+            number(out, b" more, but of these ", read.count as u64);
             text(out, b" read\n");
             false
         }
@@ -90,19 +88,22 @@ fn next_message(
     ensures { (start + result.taken ≤ 1024) × (result.length ≤ 65536) }
 {
     let p = pack(family, e, start, limit, d);
-    let Packing::Wrote { length, taken } = p else {
+    let Ok(packed) = p else {
         return stopped(out, start, p);
     };
-    if taken == 0 {
+    if packed.taken == 0 {
         return stopped(out, start, p);
     }
-    if COUNT - start < taken {
+    if COUNT - start < packed.taken {
         return stopped(out, start, p);
     }
-    if d.len() < length {
+    if d.len() < packed.length {
         return stopped(out, start, p);
     }
-    let s = Sent { length, taken };
+    let s = Sent {
+        length: packed.length,
+        taken: packed.taken,
+    };
     if read_back(out, family, d, s, start, back) {
         return s;
     }
@@ -139,6 +140,7 @@ fn pack_all(
     let mut messages = 0;
     let mut octets = 0;
     let mut taken = 0;
+    // No `for` is plainer: a message takes as many entries as fit it.
     while taken < COUNT {
         let limit = in_turn(one, other, messages);
         let s = next_message(out, family, e, taken, limit, d, back);

@@ -1,28 +1,34 @@
--- `checksum::sum_from` meets its contract. The loop's invariant: the accumulator is at most 0xFFFF, and the one's complement sum of the
--- words so far. The measure is what is left of the length.
+-- `checksum::sum_from` meets its contract. The loop's invariant: the accumulator is the one's complement sum of the words so far.
 -- Assumes nothing.
-use mathlib.Core.Path.{ap, ◌∙◌}
-use Rattle.checksum.specs.Sum.{add}
-use native.Mathlib.Omega.{arith}
-use Rattle.checksum.proofs.SoFar.{so_far_start, so_far_there, so_far_next, so_far_end, so_far_odd}
+use Rattle.std.proofs.Common.{◌≡◌, ◌-◌, arith, refl, length, take, drop, length-drop}
+use lib.Seq.{take_all}
+use Rattle.checksum.specs.Sum.{sum_from}
+use Rattle.checksum.proofs.SoFar.{Cut, pair_more, none_left, odd_more}
 use Rattle.checksum.proofs.sum_from.Goals as goal
+use Rattle.checksum.proofs.sum_from.Goals.{After-as_chunks}
 
-pub loop-i-init : goal.loop-i-init
-loop-i-init c =
-    let a = c.args in
-    so_far_start a.s.now a.from a.start c.requires (omega arith)
+-- the part from `from` on is all that is left there
+cut : (c : After-as_chunks) → Cut (drop c.args.from c.args.s.now) c.as_chunks.result.0.now c.as_chunks.result.1.now
+cut c =
+    let o = drop c.args.from c.args.s.now in
+    let whole : take (length c.args.s.now - c.args.from) o ≡ o = take_all (length c.args.s.now - c.args.from) o (simp length-drop (omega arith)) in
+    let e = c.as_chunks.ensures in
+    record { front = rw whole at e.front; front_len = rw whole at e.front_len; back = rw whole at e.back; back_len = rw whole at e.back_len }
 
-pub loop-i-preserved : goal.loop-i-preserved
-loop-i-preserved c =
-    let f = c.loop-i.invariant in
-    so_far_next f (so_far_there f c.loop-i-test.true) c.add-acc.result (omega arith)
-    (c.add-acc.ensures ∙ ap (add _) c.word.ensures)
+pub loop-high-init : goal.loop-high-init
+unfolding sum_from
+loop-high-init c = refl
 
-pub returns-then-i-s : goal.returns-then-i-s
-returns-then-i-s c =
-    let f = c.loop-i.invariant in
-    c.add.ensures ∙ ap (add _) c.word-then-i-s.ensures
-    ∙ so_far_odd f (omega (arith, f.place))
+pub loop-high-preserved : goal.loop-high-preserved
+loop-high-preserved c =
+    pair_more (cut (goal.at.loop-high-preserved c).After-as_chunks) c.args.start c.loop-high.high-index c.loop-high.invariant c.loop-high-test.true c.word.ensures c.add-acc.ensures
 
-pub returns-else-i-s : goal.returns-else-i-s
-returns-else-i-s c = so_far_end c.loop-i.invariant c.if-i-s.false
+pub returns-in-len1 : goal.returns-in-len1
+returns-in-len1 c =
+    odd_more (cut (goal.at.returns-in-len1 c).After-as_chunks) c.args.start c.loop-high.high-index c.loop-high.invariant c.loop-high-test.false c.loop-high.auto.high-index-end c.in-len1.len_at_least
+    c.word-in-len1.ensures
+    c.add.ensures
+
+pub returns-in_default : goal.returns-in_default
+returns-in_default c =
+    none_left (cut (goal.at.returns-in_default c).After-as_chunks) c.args.start c.loop-high.high-index c.loop-high.invariant c.loop-high-test.false c.in_default.len_below

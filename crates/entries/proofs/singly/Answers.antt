@@ -1,4 +1,4 @@
--- `entries::singly` meets its contract. The loop's invariant: the first bad entry from here on is that from the on. The measure is the entries left.
+-- `entries::singly` meets its contract. The loop's invariant: the first bad entry from here on is that from the start on.
 -- Assumes nothing.
 use Prim.Native.Nat.{◌+◌, ◌*◌, ◌≤◌}
 use native.Mathlib.Omega.{arith}
@@ -23,8 +23,5 @@ room c =
 pub loop-i-preserved : goal.loop-i-preserved
 loop-i-preserved c =
     let a = c.args in
-    let E = entries_by (family_with a.ipv6 a.prefixed) a.asserts a.stop in (
-      omega (arith, c.loop-i.invariant.0),
-      omega (arith, c.loop-i-test.true),
-      first_next E a.e.now c.loop-i.i (omega (arith, c.loop-i-test.true, c.requires.1)) (ap (E.allowed_at a.e.now) (sym (place (goal.at.loop-i-preserved c).In-loop-i)) ∙ sym c.allowed.ensures ∙ c.if-not-allowed.false) ∙ c.loop-i.invariant.2,
-    )
+    let E = entries_by (family_with a.ipv6 a.prefixed) a.asserts a.stop in
+    first_next E a.e.now c.loop-i.i (omega (arith, c.loop-i-test.true, c.requires.1)) (ap (E.allowed_at a.e.now) (sym (place (goal.at.loop-i-preserved c).In-loop-i)) ∙ sym c.allowed.ensures ∙ c.if-not-allowed.false) ∙ c.loop-i.invariant

@@ -4,11 +4,12 @@ use Prim.Native.Nat.{◌-◌, ◌≤◌}
 use mathlib.Core.Path.{◌≡◌}
 use Rattle.format.specs.Packing.{first_bad}
 use Rattle.entries.specs.Kinds.{family_with, entries_by}
+use Rattle.format.proofs.Constants.{flag}
 use Rattle.entries.proofs.up_to.Given as goal
 
 abbrev pub invariant-loop-i : goal.invariant-loop-i
-invariant-loop-i l =
-    (l.i ≤ l.count) × (first_bad (entries_by (family_with l.ipv6 l.prefixed) l.asserts l.stop) l.e l.i ≡ first_bad (entries_by (family_with l.ipv6 l.prefixed) l.asserts l.stop) l.e l.start)
+invariant-loop-i g l =
+    (l.i ≤ l.count) × (first_bad (entries_by (family_with (flag g.row.IPV6) (flag g.row.PREFIXED)) (flag g.row.ASSERTS) l.stop) l.e l.i ≡ first_bad (entries_by (family_with (flag g.row.IPV6) (flag g.row.PREFIXED)) (flag g.row.ASSERTS) l.stop) l.e l.start)
 
 abbrev pub decreases-loop-i : goal.decreases-loop-i
-decreases-loop-i l = l.count - l.i
+decreases-loop-i g l = l.count - l.i

@@ -20,7 +20,7 @@ pub returns-then-asserts : goal.returns-then-asserts
 returns-then-asserts c =
     let a = c.args in
     let word = a.group + 2 * c.width.result in
-    rw (c.r_bit.ensures, c.number32.ensures ∙ number_cut 4 a.e.now word (word + 4) refl (there (goal.at.returns-then-asserts c).After-width), c.width.ensures.0)
+    rw (c.r_bit.ensures, c.number.ensures ∙ number_cut 4 a.e.now word (word + 4) refl (there (goal.at.returns-then-asserts c).After-width), c.width.ensures.0)
     (sym (zero_long (family_of a.ipv6) a.e.now a.group a.asserts a.stop c.if-asserts.true))
 
 pub returns : goal.returns

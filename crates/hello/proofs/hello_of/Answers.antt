@@ -1,7 +1,6 @@
 -- `hello::hello_of` meets its contract, field by field.
 -- Assumes nothing.
-use mathlib.Core.Path.{◌∙◌}
-use Rattle.octets.specs.Octets.{number_at}
+use mathlib.Core.Path.{sym, ◌∙◌}
 use Rattle.hello.specs.Hello.{hello_of}
 use Rattle.hello.specs.Answers.{said_at, hello_by}
 use Rattle.hello.proofs.Hellos.{placed_zero, placed_none}
@@ -12,5 +11,5 @@ unfolding hello_by hello_of said_at
 returns c =
     let a = c.args in
     let at = a.p.priority in
-    let n = number_at 4 a.m.now at in
-    record { says = rw (c.holdtime_of.ensures, c.priority_of.ensures, placed_zero at n); zero = λ e. c.priority_of.ensures ∙ placed_none at n e }
+    let o = a.m.now in
+    record { says = rw (c.holdtime_of.ensures, c.priority_of.ensures, c.is_some.ensures, c.is_some-2.ensures, placed_zero o at); zero = λ e. c.priority_of.ensures ∙ placed_none o at (sym c.is_some.ensures ∙ e) }

@@ -2,18 +2,19 @@
 -- Assumes nothing.
 use mathlib.Core.Path.{sym, ap, ◌∙◌}
 use Rattle.format.specs.Outcome.{gives}
+use Rattle.format.proofs.Refusals.{handed_up}
 use Rattle.hello.specs.Answers.{heard, told}
 use Rattle.hello.proofs.Hellos.{hello_all, hello_cut}
 use Rattle.hello.proofs.hello_options.Goals as goal
 
-pub returns-in-All : goal.returns-in-All
+pub returns-in_err-places : goal.returns-in_err-places
 unfolding heard told
-returns-in-All c =
+returns-in_err-places c =
     let o = c.args.m.now in
-    record { says = ap gives c.hello_of.ensures.says ∙ sym (hello_all o (sym c.options-all.ensures ∙ ap (heard o) c.in-All.is)); zero = c.hello_of.ensures.zero }
+    rw (handed_up c.from_residual.result c.from_residual.ensures.1) record { says = sym (hello_cut o (sym c.options.ensures ∙ ap (heard o) c.in_err-places.was)); zero = tt }
 
-pub returns-in-Bad : goal.returns-in-Bad
+pub returns : goal.returns
 unfolding heard told
-returns-in-Bad c =
+returns c =
     let o = c.args.m.now in
-    record { says = sym (hello_cut o (sym c.options-all.ensures ∙ ap (heard o) c.in-Bad.is)); zero = tt }
+    record { says = ap gives c.hello_of.ensures.says ∙ sym (hello_all o (sym c.options.ensures ∙ ap (heard o) c.in_ok-places.was)); zero = c.hello_of.ensures.zero }

@@ -13,5 +13,5 @@ pub assert_lines-requires : goal.assert_lines-requires
 unfolding answered read_asserts
 assert_lines-requires g c =
     let f = family_named c.args.family in
-    let fits = room (assert_entries f) (unpack_asserts f _ _) _ (sym c.read_asserts-found.ensures.answer ∙ ap answered c.in-Entries.is) in
+    let fits = room (assert_entries f) (unpack_asserts f _ _) _ (sym c.read_asserts.ensures.answer ∙ ap answered c.in-Ok.is) in
     rw c.is_ipv6-ipv6.ensures (omega (arith, fits))

@@ -14,5 +14,5 @@ pub pair_lines-requires : goal.pair_lines-requires
 unfolding answered read_pairs
 pair_lines-requires g c =
     let f = family_named c.args.family in
-    let fits = room (pair_entries f false) (unpack_pairs f _ _) _ (sym c.read_pairs-found.ensures.answer ∙ ap answered c.in-Entries.is) in
+    let fits = room (pair_entries f false) (unpack_pairs f _ _) _ (sym c.read_pairs.ensures.answer ∙ ap answered c.in-Ok.is) in
     rw c.is_ipv6-ipv6.ensures (omega (arith, fits))

@@ -24,4 +24,4 @@ pub returns : goal.returns
 returns c =
     let a = c.args in
     let there : a.at + 4 ≤ length a.s.now = omega (arith, c.if-s-at-lt4.false, c.if-s-at.false) in
-    rw (address_there ipv4 a.s.now a.at there) (zero-add c.whole32.result ∙ c.whole32.ensures ∙ whole_cut 4 a.s.now a.at (a.at + 4) refl there)
+    rw (address_there ipv4 a.s.now a.at there) (zero-add c.whole.result ∙ c.whole.ensures ∙ whole_cut 4 a.s.now a.at (a.at + 4) refl there)

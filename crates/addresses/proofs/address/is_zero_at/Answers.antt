@@ -28,18 +28,18 @@ returns-then-s-lt16 c = let a = c.args in ap (λ x. eqb x 0) (address_none ipv6 
 pub returns-then-s-at : goal.returns-then-s-at
 returns-then-s-at c = let a = c.args in ap (λ x. eqb x 0) (address_none ipv6 a.s.now a.at (omega (arith, c.if-s-at.true)))
 
-pub returns-then-number32-ne0 : goal.returns-then-number32-ne0
-returns-then-number32-ne0 c = let a = c.args in sym (ne_eqb (address_at ipv6 a.s.now a.at) 0 (λ e. c.if-number32-ne0.true (omega (arith, e, parts (goal.at.returns-then-number32-ne0 c).Else-s-at, c.number32.ensures))))
+pub returns-then-number-ne0 : goal.returns-then-number-ne0
+returns-then-number-ne0 c = let a = c.args in sym (ne_eqb (address_at ipv6 a.s.now a.at) 0 (λ e. c.if-number-ne0.true (omega (arith, e, parts (goal.at.returns-then-number-ne0 c).Else-s-at, c.number.ensures))))
 
-pub returns-then-number32-ne0-2 : goal.returns-then-number32-ne0-2
-returns-then-number32-ne0-2 c = let a = c.args in sym (ne_eqb (address_at ipv6 a.s.now a.at) 0 (λ e. c.if-number32-ne0-2.true (omega (arith, e, parts (goal.at.returns-then-number32-ne0-2 c).Else-s-at, c.number32-2.ensures))))
+pub returns-then-number-ne0-2 : goal.returns-then-number-ne0-2
+returns-then-number-ne0-2 c = let a = c.args in sym (ne_eqb (address_at ipv6 a.s.now a.at) 0 (λ e. c.if-number-ne0-2.true (omega (arith, e, parts (goal.at.returns-then-number-ne0-2 c).Else-s-at, c.number-2.ensures))))
 
-pub returns-then-number32-ne0-3 : goal.returns-then-number32-ne0-3
-returns-then-number32-ne0-3 c = let a = c.args in sym (ne_eqb (address_at ipv6 a.s.now a.at) 0 (λ e. c.if-number32-ne0-3.true (omega (arith, e, parts (goal.at.returns-then-number32-ne0-3 c).Else-s-at, c.number32-3.ensures))))
+pub returns-then-number-ne0-3 : goal.returns-then-number-ne0-3
+returns-then-number-ne0-3 c = let a = c.args in sym (ne_eqb (address_at ipv6 a.s.now a.at) 0 (λ e. c.if-number-ne0-3.true (omega (arith, e, parts (goal.at.returns-then-number-ne0-3 c).Else-s-at, c.number-3.ensures))))
 
 pub returns : goal.returns
 returns c =
     let a = c.args in
-    let last : c.number32-4.result ≡ address_at ipv6 a.s.now a.at =
-    omega (arith, parts (goal.at.returns c).Else-s-at, c.number32-4.ensures, c.number32-3.ensures, c.if-number32-ne0-3.false, c.number32-2.ensures, c.if-number32-ne0-2.false, c.number32.ensures, c.if-number32-ne0.false) in
+    let last : c.number-4.result ≡ address_at ipv6 a.s.now a.at =
+    omega (arith, parts (goal.at.returns c).Else-s-at, c.number-4.ensures, c.number-3.ensures, c.if-number-ne0-3.false, c.number-2.ensures, c.if-number-ne0-2.false, c.number.ensures, c.if-number-ne0.false) in
     ap (λ x. eqb x 0) last

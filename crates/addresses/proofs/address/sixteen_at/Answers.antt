@@ -24,6 +24,6 @@ returns c =
     let a = c.args in
     let o = a.s.now in
     let there : a.at + 16 ≤ length o = omega (arith, c.if-s-at-lt16.false, c.if-s-at.false) in
-    let high = c.whole64.ensures ∙ whole_cut 8 o a.at (a.at + 8) refl (omega arith) in
-    let low = c.whole64-2.ensures ∙ whole_cut 8 o (a.at + 8) (a.at + 16) (omega arith) there in
+    let high = c.whole.ensures ∙ whole_cut 8 o a.at (a.at + 8) refl (omega arith) in
+    let low = c.whole-2.ensures ∙ whole_cut 8 o (a.at + 8) (a.at + 16) (omega arith) there in
     rw (address_there ipv6 o a.at there, high, low) (sym (number_split 8 8 o a.at there))

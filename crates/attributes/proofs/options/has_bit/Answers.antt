@@ -5,10 +5,10 @@ use native.Mathlib.Nat.{div-zero}
 use Rattle.attributes.specs.Options.{has_bit}
 use Rattle.attributes.proofs.options.has_bit.Goals as goal
 
-pub returns-then-bit-eq0 : goal.returns-then-bit-eq0
+pub returns-then-bit-ne0 : goal.returns-then-bit-ne0
 unfolding has_bit
-returns-then-bit-eq0 c = rw (c.if-bit-eq0.true, div-zero)
+returns-then-bit-ne0 c = refl
 
-pub returns : goal.returns
+pub returns-else-bit-ne0 : goal.returns-else-bit-ne0
 unfolding has_bit
-returns c = refl
+returns-else-bit-ne0 c = rw (c.if-bit-ne0.false, div-zero)

@@ -1,19 +1,20 @@
--- `counters::calls::added` meets its contract: the test is that of the definition.
+-- `counters::calls::added` meets its contract: a number names a kind where it is below 6.
 -- Assumes nothing.
-use Prim.Native.Nat.{◌<◌, ◌≤◌}
-use native.Mathlib.Omega.{arith}
+use mathlib.Core.Path.{sym, ap, ◌∙◌}
 use borrow.Author.Tests.{lt-ltb, le-ltb}
-use Rattle.counters.specs.Counting.{counting, answer_of}
+use Rattle.format.specs.Values.{named_by}
+use Rattle.counters.specs.Counting.{counting, answer_of, more_in}
+use Rattle.counters.proofs.Numbers.{is_kind, no_kind}
 use Rattle.counters.proofs.calls.added.Goals as goal
 
-pub returns-then-kind-gt5 : goal.returns-then-kind-gt5
-unfolding counting answer_of
-returns-then-kind-gt5 c =
-    let past : 6 ≤ c.args.kind = omega (arith, c.if-kind-gt5.true) in
-    record { answer = rw (le-ltb _ _ past); counters = rw (le-ltb _ _ past) }
+pub returns-in_default : goal.returns-in_default
+unfolding counting answer_of named_by
+returns-in_default c =
+    let past = no_kind c.args.kind (sym c.try_from.ensures ∙ ap named_by c.in_default.is) in
+    record { answer = rw (c.at.ensures, le-ltb _ _ past); counters = rw (le-ltb _ _ past) }
 
 pub returns : goal.returns
-unfolding counting answer_of
+unfolding counting answer_of named_by
 returns c =
-    let within : c.args.kind < 6 = omega (arith, c.if-kind-gt5.false) in
-    record { answer = rw (lt-ltb _ _ within); counters = rw (lt-ltb _ _ within) c.added_in-counters.ensures }
+    let named = is_kind c.args.kind (sym c.try_from.ensures ∙ ap named_by c.in-Ok.is) in
+    record { answer = rw (lt-ltb _ _ named.1); counters = rw (lt-ltb _ _ named.1) (c.added_in.ensures ∙ ap (λ k. more_in c.args.c c.args.direction k c.args.records) (sym named.0)) }

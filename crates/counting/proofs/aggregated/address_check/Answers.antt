@@ -1,4 +1,5 @@
 -- `counting::aggregated::address_check` meets its contract: the octets are there, and the test is that of their form. Assumes nothing.
+use Rattle.std.specs.Prelude.{Err}
 use Prim.Native.Nat.{◌+◌, ◌≤◌}
 use mathlib.Core.Path.{◌≡◌, sym, ap, ◌∙◌}
 use mathlib.Core.Bool.{true}
@@ -36,6 +37,6 @@ returns-then-is_address c =
 pub returns : goal.returns
 returns c =
     let a = c.args in
-    let bad-is = c.bad.ensures in
+    let bad-is = ap Err c.at.ensures in
     let there = address_is (family_of a.ipv6) a.is_group true a.m.now a.at c.requires in
     record { answer = form_no there bad-is (form (goal.at.returns c).After-is_address (room (goal.at.returns c).After-address_size) ∙ c.if-is_address.false); next = λ k e. cc }

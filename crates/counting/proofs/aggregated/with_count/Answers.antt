@@ -3,10 +3,10 @@ use Rattle.fields.specs.Answers.{checked}
 use Rattle.counting.specs.Counts.{counted, tallied}
 use Rattle.counting.proofs.aggregated.with_count.Goals as goal
 
-pub returns-in-Next : goal.returns-in-Next
+pub returns-in-Ok : goal.returns-in-Ok
 unfolding checked counted tallied
-returns-in-Next c = rw c.in-Next.is
+returns-in-Ok c = rw c.in-Ok.is
 
-pub returns-in-Bad : goal.returns-in-Bad
+pub returns-in-Err : goal.returns-in-Err
 unfolding checked counted tallied
-returns-in-Bad c = rw c.in-Bad.is
+returns-in-Err c = rw c.in-Err.is

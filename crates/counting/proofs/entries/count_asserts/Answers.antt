@@ -1,17 +1,9 @@
--- `counting::entries::count_asserts` meets its contract, kind by kind.
+-- `counting::entries::count_asserts` meets its contract, by the family.
 -- Assumes nothing.
-use Rattle.format.specs.Body.{asserts_body}
-use Rattle.counting.specs.Counts.{tallied}
 use Rattle.counting.proofs.entries.count_asserts.Goals as goal
 
-pub returns-in-Hello : goal.returns-in-Hello
-unfolding asserts_body tallied
-returns-in-Hello c = rw c.in-Hello.is c.refused.ensures
+pub returns-then-ipv6 : goal.returns-then-ipv6
+returns-then-ipv6 c = rw c.if-ipv6.true c.asserts.ensures
 
-pub returns-in-NullRegister : goal.returns-in-NullRegister
-unfolding asserts_body tallied
-returns-in-NullRegister c = rw c.in-NullRegister.is c.refused-in-NullRegister.ensures
-
-pub returns-in-RegisterStop : goal.returns-in-RegisterStop
-unfolding asserts_body tallied
-returns-in-RegisterStop c = rw c.in-RegisterStop.is c.refused-in-RegisterStop.ensures
+pub returns : goal.returns
+returns c = rw c.if-ipv6.false c.asserts-2.ensures

@@ -3,21 +3,21 @@
 use native.Mathlib.Omega.{arith}
 use mathlib.Core.Path.{sym, ap, ◌∙◌}
 use lib.ListN.{length}
-use Rattle.format.specs.Family.{family_of}
+use Rattle.format.proofs.Constants.{family}
 use Rattle.format.specs.Record.{pair_record}
-use Rattle.counting.specs.Counts.{tallied}
+use Rattle.counting.specs.Counts.{tallied, counted}
 use Rattle.counting.proofs.Bodies.{count_pairs, records_none_left, records_left}
 use Rattle.counting.proofs.entries.count_register.Goals as goal
 
 pub returns-then-m-le4 : goal.returns-then-m-le4
-unfolding tallied
-returns-then-m-le4 c =
+unfolding tallied counted
+returns-then-m-le4 g c =
     let a = c.args in
-    c.refused.ensures ∙ sym (ap (tallied length) (records_none_left (pair_record (family_of a.ipv6) a.zero_allowed) a.m.now 4 (omega arith)))
+    rw c.at.ensures (sym (ap (tallied length) (records_none_left (pair_record (family g.row.IPV6) a.zero_allowed) a.m.now 4 (omega arith))))
 
 pub returns : goal.returns
-returns c =
+returns g c =
     let a = c.args in
     c.count_to_end.ensures
-    ∙ count_pairs (family_of a.ipv6) a.zero_allowed a.m.now (length a.m.now) 4
-    ∙ sym (ap (tallied length) (records_left (pair_record (family_of a.ipv6) a.zero_allowed) a.m.now 4 (omega arith)))
+    ∙ count_pairs (family g.row.IPV6) a.zero_allowed a.m.now (length a.m.now) 4
+    ∙ sym (ap (tallied length) (records_left (pair_record (family g.row.IPV6) a.zero_allowed) a.m.now 4 (omega arith)))

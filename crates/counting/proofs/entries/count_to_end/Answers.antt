@@ -6,83 +6,84 @@ use native.Mathlib.Omega.{arith}
 use mathlib.Core.Path.{◌≡◌, sym, ◌∙◌}
 use lib.ListN.{length}
 use Rattle.format.specs.Reader.{to_end}
-use Rattle.format.specs.Family.{family_of}
+use Rattle.format.proofs.Constants.{flag, family}
 use Rattle.format.proofs.Families.{lawful}
 use Rattle.counting.specs.Counts.{counted, tallied, entry_count, sum}
 use Rattle.counting.proofs.Tallied.{counts_next, tally_start, end_bad, end_on, end_end}
 use Rattle.counting.proofs.Bodies.{tallied_id, sum_none, sum_more, entry_room}
 use Rattle.counting.proofs.Formed.{Reached, passed_start, passed_few}
 use Rattle.counting.proofs.entries.count_to_end.Goals as goal
-use Rattle.counting.proofs.entries.count_to_end.Goals.{After-record_size, At-loop-at, In-All}
+use Rattle.counting.proofs.entries.count_to_end.Given.{Over}
+use Rattle.counting.proofs.entries.count_to_end.Goals.{After-record_size, At-loop-at, In-Ok}
 
 -- past the records that are passed by their form
-first : (c : After-record_size)
-    → Reached (family_of c.args.ipv6) c.args.joined c.args.is_assert c.args.zero_allowed c.args.m.now
+first : (g : Over) (c : After-record_size g)
+    → Reached (family g.row.IPV6) c.args.joined c.args.is_assert c.args.zero_allowed c.args.m.now
     c.passed-total.result (c.args.from + c.passed-total.result * c.record_size.result) 0 (length c.args.m.now) c.args.from
-first c =
+first g c =
     let a = c.args in
-    passed_start (family_of a.ipv6) (lawful a.ipv6) a.joined a.is_assert a.zero_allowed a.m.now a.from c.requires c.passed-total.ensures c.record_size.ensures
+    passed_start (family g.row.IPV6) (lawful (flag g.row.IPV6)) a.joined a.is_assert a.zero_allowed a.m.now a.from c.requires c.passed-total.ensures c.record_size.ensures
 
 -- what is left to count gives the whole
-whole : (c : At-loop-at)
-    → tallied (λ ns. c.loop-at.total + sum ns) (to_end c.loop-at.invariant.1.left (entry_count (family_of c.args.ipv6) c.args.joined c.args.is_assert c.args.zero_allowed) c.args.m.now c.loop-at.at)
-    ≡ tallied sum (to_end (length c.args.m.now) (entry_count (family_of c.args.ipv6) c.args.joined c.args.is_assert c.args.zero_allowed) c.args.m.now c.args.from)
-whole c =
+whole : (g : Over) (c : At-loop-at g)
+    → tallied (λ ns. c.loop-at.total + sum ns) (to_end c.loop-at.invariant.1.left (entry_count (family g.row.IPV6) c.args.joined c.args.is_assert c.args.zero_allowed) c.args.m.now c.loop-at.at)
+    ≡ tallied sum (to_end (length c.args.m.now) (entry_count (family g.row.IPV6) c.args.joined c.args.is_assert c.args.zero_allowed) c.args.m.now c.args.from)
+whole g c =
     let a = c.args in
-    c.loop-at.invariant.1.gives ∙ tally_start sum (to_end (length a.m.now) (entry_count (family_of a.ipv6) a.joined a.is_assert a.zero_allowed) a.m.now a.from)
+    c.loop-at.invariant.1.gives ∙ tally_start sum (to_end (length a.m.now) (entry_count (family g.row.IPV6) a.joined a.is_assert a.zero_allowed) a.m.now a.from)
 
 -- the record's octets are more than its entries
-room : (c : In-All)
-    → (c.in-All.entries + c.loop-at.at < c.in-All.next)
-    × (c.in-All.next ≤ length c.args.m.now)
-room c =
+room : (g : Over) (c : In-Ok g)
+    → (c.in-Ok.some.entries + c.loop-at.at < c.in-Ok.some.next)
+    × (c.in-Ok.some.next ≤ length c.args.m.now)
+room g c =
     let a = c.args in
-    counts_next (λ n. n) (entry_count (family_of a.ipv6) a.joined a.is_assert a.zero_allowed a.m.now c.loop-at.at) c.in-All.is (c.record_count-c.ensures ∙ sym (tallied_id _)) (λ n e s.
-    let r = entry_room (family_of a.ipv6) a.joined a.is_assert a.zero_allowed a.m.now c.loop-at.at n _ c.loop-at.invariant.1.within e in
+    counts_next (λ n. n) (entry_count (family g.row.IPV6) a.joined a.is_assert a.zero_allowed a.m.now c.loop-at.at) c.in-Ok.is (c.record_count-c.ensures ∙ sym (tallied_id _)) (λ n e s.
+    let r = entry_room (family g.row.IPV6) a.joined a.is_assert a.zero_allowed a.m.now c.loop-at.at n _ c.loop-at.invariant.1.within e in
     (omega (arith, r.0, s), r.1))
 
 pub overflow_mul-at : goal.overflow_mul-at
-overflow_mul-at c = omega (arith, (first (goal.at.overflow_mul-at c).After-record_size).within)
+overflow_mul-at g c = omega (arith, (first g (goal.at.overflow_mul-at g c).After-record_size).within)
 
 pub overflow_add-at : goal.overflow_add-at
-overflow_add-at c = omega (arith, (first (goal.at.overflow_add-at c).After-record_size).within)
+overflow_add-at g c = omega (arith, (first g (goal.at.overflow_add-at g c).After-record_size).within)
 
 pub loop-at-init : goal.loop-at-init
-loop-at-init c =
+loop-at-init g c =
     let a = c.args in
-    (passed_few (family_of a.ipv6) a.is_assert a.from c.passed-total.result c.record_size.ensures, first (goal.at.loop-at-init c).After-record_size)
+    (passed_few (family g.row.IPV6) a.is_assert a.from c.passed-total.result c.record_size.ensures, first g (goal.at.loop-at-init g c).After-record_size)
 
 pub returns-in_default : goal.returns-in_default
-returns-in_default c =
+returns-in_default g c =
     let a = c.args in
-    end_bad (λ n. n) sum sum_none sum_more (entry_count (family_of a.ipv6) a.joined a.is_assert a.zero_allowed) a.m.now c.loop-at.at c.loop-at.total c.loop-at.invariant.1.left
+    end_bad (λ n. n) sum sum_none sum_more (entry_count (family g.row.IPV6) a.joined a.is_assert a.zero_allowed) a.m.now c.loop-at.at c.loop-at.total c.loop-at.invariant.1.left
     c.loop-at-test.true
     c.loop-at.invariant.1.enough
     c.in_default.is
     (c.record_count-c.ensures ∙ sym (tallied_id _))
-    ∙ whole (goal.at.returns-in_default c).At-loop-at
+    ∙ whole g (goal.at.returns-in_default g c).At-loop-at
 
 pub overflow_add-total : goal.overflow_add-total
-overflow_add-total c = omega (arith, room (goal.at.overflow_add-total c).In-All)
+overflow_add-total g c = omega (arith, room g (goal.at.overflow_add-total g c).In-Ok)
 
 pub loop-at-smaller : goal.loop-at-smaller
-loop-at-smaller c = omega (arith, room (goal.at.loop-at-smaller c).In-All)
+loop-at-smaller g c = omega (arith, room g (goal.at.loop-at-smaller g c).In-Ok)
 
 pub loop-at-preserved : goal.loop-at-preserved
-loop-at-preserved c =
+loop-at-preserved g c =
     let a = c.args in
     let on =
-    end_on (λ n. n) sum sum_none sum_more (entry_count (family_of a.ipv6) a.joined a.is_assert a.zero_allowed) a.m.now c.loop-at.at c.loop-at.total c.loop-at.invariant.1.left
+    end_on (λ n. n) sum sum_none sum_more (entry_count (family g.row.IPV6) a.joined a.is_assert a.zero_allowed) a.m.now c.loop-at.at c.loop-at.total c.loop-at.invariant.1.left
     c.loop-at-test.true
     c.loop-at.invariant.1.enough
-    (omega (arith, room (goal.at.loop-at-preserved c).In-All))
-    c.in-All.is
+    (omega (arith, room g (goal.at.loop-at-preserved g c).In-Ok))
+    c.in-Ok.is
     (c.record_count-c.ensures ∙ sym (tallied_id _)) in
-    (omega (arith, room (goal.at.loop-at-preserved c).In-All), record { within = (room (goal.at.loop-at-preserved c).In-All).1; left = on.0; enough = on.1.0; gives = on.1.1 ∙ c.loop-at.invariant.1.gives })
+    (omega (arith, room g (goal.at.loop-at-preserved g c).In-Ok), record { within = (room g (goal.at.loop-at-preserved g c).In-Ok).1; left = on.0; enough = on.1.0; gives = on.1.1 ∙ c.loop-at.invariant.1.gives })
 
 pub returns : goal.returns
 unfolding counted
-returns c =
+returns g c =
     let a = c.args in
-    end_end (λ n. n) sum sum_none sum_more (entry_count (family_of a.ipv6) a.joined a.is_assert a.zero_allowed) a.m.now c.loop-at.at c.loop-at.total c.loop-at.invariant.1.left c.loop-at-test.false
-    ∙ whole (goal.at.returns c).At-loop-at
+    end_end (λ n. n) sum sum_none sum_more (entry_count (family g.row.IPV6) a.joined a.is_assert a.zero_allowed) a.m.now c.loop-at.at c.loop-at.total c.loop-at.invariant.1.left c.loop-at-test.false
+    ∙ whole g (goal.at.returns g c).At-loop-at

@@ -3,12 +3,12 @@
 -- Assumes nothing.
 use Prim.Native.Nat.{◌-◌, ◌≤◌}
 use lib.ListN.{length}
-use Rattle.format.specs.Family.{family_of}
+use Rattle.format.proofs.Constants.{family}
 use Rattle.counting.proofs.Formed.{Reached}
 use Rattle.counting.proofs.entries.count_to_end.Given as goal
 
 abbrev pub invariant-loop-at : goal.invariant-loop-at
-invariant-loop-at l = (l.total ≤ l.at) × Reached (family_of l.ipv6) l.joined l.is_assert l.zero_allowed l.m l.total l.at 0 (length l.m) l.from
+invariant-loop-at g l = (l.total ≤ l.at) × Reached (family g.row.IPV6) l.joined l.is_assert l.zero_allowed l.m l.total l.at 0 (length l.m) l.from
 
 abbrev pub decreases-loop-at : goal.decreases-loop-at
-decreases-loop-at l = length l.m - l.at
+decreases-loop-at g l = length l.m - l.at

@@ -4,8 +4,8 @@ use Rattle.counting.proofs.entries.passed.Goals as goal
 
 pub returns-then-joined : goal.returns-then-joined
 unfolding passed_records
-returns-then-joined c = rw c.if-joined.true
+returns-then-joined g c = rw c.if-joined.true
 
 pub returns : goal.returns
 unfolding passed_records
-returns c = rw c.if-joined.false c.allowed_records.ensures
+returns g c = rw c.if-joined.false c.allowed_records.ensures

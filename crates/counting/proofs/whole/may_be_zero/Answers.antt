@@ -14,4 +14,4 @@ there c = c.requires c.if-is_assert.true
 pub returns-then-is_assert : goal.returns-then-is_assert
 returns-then-is_assert c =
     let a = c.args in
-    rw c.if-is_assert.true (c.r_bit.ensures ∙ ap r_bit (c.number32.ensures ∙ number_cut 4 a.m.now a.word (a.word + 4) refl (there (goal.at.returns-then-is_assert c).Then-is_assert)))
+    rw c.if-is_assert.true (c.r_bit.ensures ∙ ap r_bit (c.number.ensures ∙ number_cut 4 a.m.now a.word (a.word + 4) refl (there (goal.at.returns-then-is_assert c).Then-is_assert)))

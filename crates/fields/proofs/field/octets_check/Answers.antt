@@ -9,13 +9,13 @@ pub returns-then-m-at : goal.returns-then-m-at
 unfolding checked skipped
 returns-then-m-at c =
     let a = c.args in
-    rw (c.bad.ensures, octets_short a.k a.m.now a.at (omega arith))
+    rw (c.at.ensures, octets_short a.k a.m.now a.at (omega arith))
 
 pub returns-then-m-at-2 : goal.returns-then-m-at-2
 unfolding checked skipped
 returns-then-m-at-2 c =
     let a = c.args in
-    rw (c.bad-then-m-at-2.ensures, octets_short a.k a.m.now a.at (omega arith))
+    rw (c.at-then-m-at-2.ensures, octets_short a.k a.m.now a.at (omega arith))
 
 pub returns : goal.returns
 unfolding checked skipped

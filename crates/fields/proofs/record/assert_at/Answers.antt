@@ -9,4 +9,4 @@ pub returns : goal.returns
 unfolding assert_of
 returns c =
     let a = c.args in
-    assert_read (family_of a.ipv6) a.m.now a.at c.width-w.ensures.0 c.address_at.ensures c.address_at-2.ensures c.requires c.number32.ensures c.number32-2.ensures
+    assert_read (family_of a.ipv6) a.m.now a.at c.width-w.ensures.0 c.address_at.ensures c.address_at-2.ensures c.requires c.number.ensures c.number-2.ensures

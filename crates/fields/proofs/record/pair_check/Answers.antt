@@ -19,5 +19,5 @@ pub returns : goal.returns
 unfolding pair_record ◌>>=◌ give
 returns c =
     let a = c.args in
-    checks_on (group_field (family_of a.ipv6) a.m.now a.at) _ c.in-Next.is c.group_check-g.ensures
+    checks_on (group_field (family_of a.ipv6) a.m.now a.at) _ c.in-Ok.is c.group_check-g.ensures
     (λ g e. c.source_check.ensures ∙ sym (skipped_last _ (λ s. pair g s)))

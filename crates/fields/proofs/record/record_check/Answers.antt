@@ -9,7 +9,7 @@ use Rattle.fields.proofs.record.record_check.Goals as goal
 
 pub returns-in-Hello : goal.returns-in-Hello
 unfolding checked skipped record_at
-returns-in-Hello c = rw (c.bad.ensures, c.in-Hello.is)
+returns-in-Hello c = rw (c.at.ensures, c.in-Hello.is)
 
 pub returns-in-Assert : goal.returns-in-Assert
 unfolding record_at ◌>>=◌ give
@@ -21,7 +21,7 @@ returns-in-Simple c = rw c.in-Simple.is (c.assert_check-in-Simple.ensures ∙ sy
 
 pub returns-in-Aggregated : goal.returns-in-Aggregated
 unfolding checked skipped record_at
-returns-in-Aggregated c = rw (c.bad-in-Aggregated.ensures, c.in-Aggregated.is)
+returns-in-Aggregated c = rw (c.at-in-Aggregated.ensures, c.in-Aggregated.is)
 
 pub returns-in-NullRegister : goal.returns-in-NullRegister
 unfolding record_at ◌>>=◌ give

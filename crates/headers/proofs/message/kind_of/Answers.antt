@@ -19,4 +19,4 @@ returns-then-t-eq13 c = rw (ne_eqb _ _ c.if-t-eq0.false, ne_eqb _ _ c.if-t-eq5.f
 
 pub returns : goal.returns
 unfolding kind_of headed
-returns c = rw (ne_eqb _ _ c.if-t-eq0.false, ne_eqb _ _ c.if-t-eq5.false, ne_eqb _ _ c.if-t-eq13.false, c.refused.ensures)
+returns c = rw (ne_eqb _ _ c.if-t-eq0.false, ne_eqb _ _ c.if-t-eq5.false, ne_eqb _ _ c.if-t-eq13.false, c.at.ensures)

@@ -15,4 +15,4 @@ returns-then-x-eq1 c = rw (ne_eqb _ _ c.if-x-eq0.false, eq-eqb _ _ c.if-x-eq1.tr
 
 pub returns : goal.returns
 unfolding register_kind headed
-returns c = rw (ne_eqb _ _ c.if-x-eq0.false, ne_eqb _ _ c.if-x-eq1.false, c.refused.ensures)
+returns c = rw (ne_eqb _ _ c.if-x-eq0.false, ne_eqb _ _ c.if-x-eq1.false, c.at.ensures)

@@ -12,4 +12,4 @@ returns-then-d-lt4 c =
 pub returns : goal.returns
 returns c =
     let a = c.args in
-    with_written a.kind a.sum a.d.now c.first_word.ensures c.write16.ensures.buffer c.write16-2.ensures.buffer (omega arith)
+    with_written a.kind a.sum a.d.now c.first_word.ensures c.write.ensures.buffer c.write-2.ensures.buffer (omega arith)

@@ -7,29 +7,29 @@ use Rattle.hello.specs.Options.{type_of, length_of}
 use Rattle.hello.specs.Answers.{head_of, among_heads, beginning}
 use Rattle.hello.proofs.table.option_beginning.Goals as goal
 
-pub returns-then-head-number32 : goal.returns-then-head-number32
+pub returns-then-head-number : goal.returns-then-head-number
 unfolding beginning among_heads head_of type_of length_of number_at value
-returns-then-head-number32 c = rw (eq-eqb _ 65538 (c.if-head-number32.true ∙ c.number32.ensures))
+returns-then-head-number c = rw (eq-eqb _ 65538 (c.if-head-number.true ∙ c.number.ensures))
 
-pub returns-then-head-number32-2 : goal.returns-then-head-number32-2
+pub returns-then-head-number-2 : goal.returns-then-head-number-2
 unfolding beginning among_heads head_of type_of length_of number_at value
-returns-then-head-number32-2 c =
-    rw (ne_eqb _ 65538 (λ e. c.if-head-number32.false (e ∙ sym c.number32.ensures)), eq-eqb _ 1245188 (c.if-head-number32-2.true ∙ c.number32-2.ensures))
+returns-then-head-number-2 c =
+    rw (ne_eqb _ 65538 (λ e. c.if-head-number.false (e ∙ sym c.number.ensures)), eq-eqb _ 1245188 (c.if-head-number-2.true ∙ c.number-2.ensures))
 
-pub returns-then-head-number32-3 : goal.returns-then-head-number32-3
+pub returns-then-head-number-3 : goal.returns-then-head-number-3
 unfolding beginning among_heads head_of type_of length_of number_at value
-returns-then-head-number32-3 c =
+returns-then-head-number-3 c =
     rw (
-      ne_eqb _ 65538 (λ e. c.if-head-number32.false (e ∙ sym c.number32.ensures)),
-      ne_eqb _ 1245188 (λ e. c.if-head-number32-2.false (e ∙ sym c.number32-2.ensures)),
-      eq-eqb _ 2621440 (c.if-head-number32-3.true ∙ c.number32-3.ensures),
+      ne_eqb _ 65538 (λ e. c.if-head-number.false (e ∙ sym c.number.ensures)),
+      ne_eqb _ 1245188 (λ e. c.if-head-number-2.false (e ∙ sym c.number-2.ensures)),
+      eq-eqb _ 2621440 (c.if-head-number-3.true ∙ c.number-3.ensures),
     )
 
 pub returns : goal.returns
 unfolding beginning among_heads head_of type_of length_of number_at value
 returns c =
     rw (
-      ne_eqb _ 65538 (λ e. c.if-head-number32.false (e ∙ sym c.number32.ensures)),
-      ne_eqb _ 1245188 (λ e. c.if-head-number32-2.false (e ∙ sym c.number32-2.ensures)),
-      ne_eqb _ 2621440 (λ e. c.if-head-number32-3.false (e ∙ sym c.number32-3.ensures)),
+      ne_eqb _ 65538 (λ e. c.if-head-number.false (e ∙ sym c.number.ensures)),
+      ne_eqb _ 1245188 (λ e. c.if-head-number-2.false (e ∙ sym c.number-2.ensures)),
+      ne_eqb _ 2621440 (λ e. c.if-head-number-3.false (e ∙ sym c.number-3.ensures)),
     )

@@ -1,17 +1,19 @@
 -- `hello::table::taken` meets its contract: the value is cut, or there.
 -- Assumes nothing.
-use mathlib.Core.Path.{◌∙◌}
-use Rattle.hello.specs.Answers.{said_at, stepped}
-use Rattle.hello.proofs.Laws.{stepped_bad, taken_cut, taken_got}
+use mathlib.Core.Path.{sym, ap, ◌∙◌}
+use Rattle.octets.specs.Field.{skipped_at}
+use Rattle.format.specs.Reader.{continue}
+use Rattle.hello.specs.Answers.{taken, stepped}
 use Rattle.hello.proofs.table.taken.Goals as goal
 
 pub returns-in_default : goal.returns-in_default
-returns-in_default c = λ o.
+unfolding taken stepped continue
+returns-in_default c =
     let a = c.args in
-    stepped_bad o c.cut.ensures ∙ taken_cut (said_at o a.places) a.v c.in_default.is
+    rw (c.at.ensures, sym c.skip.ensures ∙ ap (skipped_at a.at) c.in_default.is)
 
 pub returns : goal.returns
-unfolding stepped
-returns c = λ o.
+unfolding taken stepped continue
+returns c =
     let a = c.args in
-    taken_got (said_at o a.places) a.v c.in-Got.is
+    rw (sym c.skip.ensures ∙ ap (skipped_at a.at) c.in-Some.is)

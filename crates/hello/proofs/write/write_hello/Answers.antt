@@ -28,7 +28,7 @@ unfolding length_by
 returns-then-d-n c =
     let a = c.args in
     let e = hello_refused (family_named a.family) a.path (hello_by a.said) a.d.now (omega (arith, extent (goal.at.returns-then-d-n c).After-pass-measured, c.if-d-n.true, c.pass-measured.auto)) in
-    record { answer = rw e; buffer = rw e c.pass-measured.ensures.buffer }
+    record { answer = rw (e, c.at.ensures); buffer = rw e c.pass-measured.ensures.buffer }
 
 pub returns : goal.returns
 unfolding length_by

@@ -9,4 +9,4 @@ pub returns : goal.returns
 unfolding assert_of
 returns c =
     assert_read (family_of c.args.ipv6) c.args.e.now c.args.at c.width-w.ensures.0 (omega (arith, c.front_size.ensures.0)) c.address_at.ensures
-    c.address_at-2.ensures c.requires c.number32.ensures c.number32-2.ensures
+    c.address_at-2.ensures c.requires c.number.ensures c.number-2.ensures

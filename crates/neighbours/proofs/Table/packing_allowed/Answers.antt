@@ -25,4 +25,4 @@ pub returns : goal.returns
 unfolding packing_by
 returns c =
     let t = c.args.self in
-    sym (refused_14 (family_of c.is_ipv6.result) t (sym c.is_valid.ensures ∙ c.if-is_valid.false)).of_packing ∙ ap (λ (b : Bool). may_pack (family_of b) t) c.is_ipv6.ensures
+    rw c.at.ensures (sym (refused_14 (family_of c.is_ipv6.result) t (sym c.is_valid.ensures ∙ c.if-is_valid.false)).of_packing ∙ ap (λ (b : Bool). may_pack (family_of b) t) c.is_ipv6.ensures)

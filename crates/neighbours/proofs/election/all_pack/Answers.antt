@@ -1,34 +1,13 @@
--- `neighbours::election::all_pack` meets its contract. The loop's invariant: the rows that are left give what all of them give.
+-- `neighbours::election::all_pack` meets its contract: `all` over the rows in use.
 -- Assumes nothing.
-use mathlib.Core.Path.{refl}
-use Prim.Native.Nat.{◌≤◌}
-use native.Mathlib.Omega.{arith}
+use mathlib.Core.Path.{◌∙◌}
 use borrow.Author.Rules.{rules}
-use lib.ListN.{length}
+use Rattle.std.proofs.Common.{tests}
 use Rattle.neighbours.specs.Rows.{used}
-use Rattle.neighbours.specs.Election.{all_pack}
-use Rattle.neighbours.proofs.Rows.{next_row, no_row_left, scan_next, scan_stop, scan_end}
+use Rattle.std.proofs.lemmas.Iterator.{YieldsList-from_slice}
+use Rattle.std.proofs.lemmas.Iterator.Search.{all_from_yields_List}
+use Rattle.neighbours.proofs.Chains.{all_pack_is}
 use Rattle.neighbours.proofs.election.all_pack.Goals as goal
-use Rattle.neighbours.proofs.election.all_pack.Goals.{Start}
-
--- the rows in use are rows of the array
-within : (c : Start) → c.args.table.count ≤ length c.args.table.rows
-within c = omega arith
-
-pub loop-i-preserved : goal.loop-i-preserved
-unfolding all_pack
-loop-i-preserved c =
-    let i = c.loop-i.i in
-    (search rules, scan_next all_pack (used c.args.table) i c.loop-i.invariant.1 (next_row c.args.table.rows c.args.table.count (within (goal.at.loop-i-preserved c).Start) i _ c.loop-i-test.true) refl c.if-table-i.true)
-
-pub returns-else-table-i : goal.returns-else-table-i
-unfolding all_pack
-returns-else-table-i c =
-    let i = c.loop-i.i in
-    scan_stop all_pack (used c.args.table) i c.loop-i.invariant.1 (next_row c.args.table.rows c.args.table.count (within (goal.at.returns-else-table-i c).Start) i _ c.loop-i-test.true) refl c.if-table-i.false
 
 pub returns : goal.returns
-unfolding all_pack
-returns c =
-    let i = c.loop-i.i in
-    scan_end all_pack (used c.args.table) i c.loop-i.invariant.1 (no_row_left c.args.table.rows c.args.table.count (within (goal.at.returns c).Start) i c.loop-i-test.false) refl
+returns c = all_from_yields_List (λ n. n.packs) _ _ _ c.all.ensures.ran (YieldsList-from_slice (used c.args.table) cc) (λ x b q k. search (rules, tests)) ∙ all_pack_is (used c.args.table)

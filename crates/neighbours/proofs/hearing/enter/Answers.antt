@@ -27,14 +27,11 @@ find-at-requires c = (parts (goal.at.find-at-requires c).Start).within
 
 pub returns-then-at-count : goal.returns-then-at-count
 returns-then-at-count c =
-    let x = enter_old c.args.table (full (goal.at.returns-then-at-count c).Start) (parts (goal.at.returns-then-at-count c).Start) c.args.row c.find-at.result c.find-at.ensures c.if-at-count.true in
-    record { table = x.table; order = x.order; done = x.done }
+    enter_old c.args.table (full (goal.at.returns-then-at-count c).Start) (parts (goal.at.returns-then-at-count c).Start) c.args.row c.find-at.result c.find-at.ensures c.if-at-count.true
 
 pub returns-then-count-eq-ROWS : goal.returns-then-count-eq-ROWS
 returns-then-count-eq-ROWS c =
-    let r = c.refused.ensures in
-    let x = enter_full c.args.table (full (goal.at.returns-then-count-eq-ROWS c).Start) (parts (goal.at.returns-then-count-eq-ROWS c).Start) c.args.row c.find-at.result c.find-at.ensures c.if-at-count.false c.if-count-eq-ROWS.true (r.table c.args.table) r.order r.done in
-    record { table = x.table; order = x.order; done = x.done }
+    enter_full c.args.table (full (goal.at.returns-then-count-eq-ROWS c).Start) (parts (goal.at.returns-then-count-eq-ROWS c).Start) c.args.row c.find-at.result c.find-at.ensures c.if-at-count.false c.if-count-eq-ROWS.true c.at.ensures
 
 pub overflow_add-result : goal.overflow_add-result
 overflow_add-result c =
@@ -47,5 +44,4 @@ overflow_add-result c =
 
 pub returns : goal.returns
 returns c =
-    let x = enter_new c.args.table (full (goal.at.returns c).Start) (parts (goal.at.returns c).Start) c.args.row c.find-at.result c.find-at.ensures c.if-at-count.false (room (goal.at.returns c).Else-count-eq-ROWS (parts (goal.at.returns c).Start)) in
-    record { table = x.table; order = x.order; done = x.done }
+    enter_new c.args.table (full (goal.at.returns c).Start) (parts (goal.at.returns c).Start) c.args.row c.find-at.result c.find-at.ensures c.if-at-count.false (room (goal.at.returns c).Else-count-eq-ROWS (parts (goal.at.returns c).Start))

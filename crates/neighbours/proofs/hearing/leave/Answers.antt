@@ -21,11 +21,8 @@ find-at-requires c = (parts (goal.at.find-at-requires c).Start).within
 
 pub returns-then-at-count : goal.returns-then-at-count
 returns-then-at-count c =
-    let x = leave_old c.args.table (full (goal.at.returns-then-at-count c).Start) (parts (goal.at.returns-then-at-count c).Start) (number_of c.args.address) c.find-at.result c.find-at.ensures c.if-at-count.true c.no_row.ensures in
-    record { table = x.table; order = x.order; done = x.done }
+    leave_old c.args.table (full (goal.at.returns-then-at-count c).Start) (parts (goal.at.returns-then-at-count c).Start) (number_of c.args.address) c.find-at.result c.find-at.ensures c.if-at-count.true c.no_row.ensures
 
 pub returns : goal.returns
 returns c =
-    let r = c.refused.ensures in
-    let x = leave_none c.args.table (full (goal.at.returns c).Start) (parts (goal.at.returns c).Start) (number_of c.args.address) c.find-at.result c.find-at.ensures c.if-at-count.false (r.table c.args.table) r.order r.done in
-    record { table = x.table; order = x.order; done = x.done }
+    leave_none c.args.table (full (goal.at.returns c).Start) (parts (goal.at.returns c).Start) (number_of c.args.address) c.find-at.result c.find-at.ensures c.if-at-count.false c.at.ensures

@@ -10,11 +10,11 @@ use Rattle.neighbours.proofs.list.answer.Goals as goal
 
 pub returns-then-s : goal.returns-then-s
 unfolding elected_by answering
-returns-then-s c = rw c.if-s.true
+returns-then-s c = rw (c.if-s.true, c.at.ensures)
 
 pub returns-then-s-2 : goal.returns-then-s-2
 unfolding elected_by answering
-returns-then-s-2 c = rw (c.if-s.false, c.if-s-2.true)
+returns-then-s-2 c = rw (c.if-s.false, c.if-s-2.true, c.at-then-s-2.ensures)
 
 pub returns : goal.returns
 unfolding elected_by

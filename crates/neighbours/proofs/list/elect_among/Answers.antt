@@ -1,20 +1,18 @@
--- `neighbours::list::elect_among` meets its contract. The loop's invariant: what was seen so far and the rows that are left give what all of
--- them give.
+-- `neighbours::list::elect_among` meets its contract: each turn of the fold sees one row more.
 -- Assumes nothing.
-use mathlib.Core.Path.{ap, ◌∙◌}
-use lib.ListN.{drop_of_length-le}
-use lib.Seq.{drop-cons}
-use Rattle.neighbours.specs.Among.{answering}
-use Rattle.neighbours.proofs.Among.{seen_next, seen_end, seen_elects}
+use mathlib.Core.Path.{◌≡◌, ◌∙◌, ap}
+use borrow.Author.Rules.{rules}
+use Rattle.std.proofs.Common.{subst}
+use Rattle.std.proofs.lemmas.Fn.{fold_over, slice_gives, fronts}
+use Rattle.neighbours.specs.Among.{first, seen, answering}
+use Rattle.neighbours.proofs.Among.{seen_push, seen_elects}
 use Rattle.neighbours.proofs.list.elect_among.Goals as goal
 
-pub loop-i-preserved : goal.loop-i-preserved
-loop-i-preserved c =
-    let rows = c.args.rows.now in
-    let i = c.loop-i.i in
-    rw c.looked-s.ensures (seen_next rows i c.loop-i.s c.loop-i.invariant (drop-cons rows i _ c.loop-i-test.true))
-
 pub returns : goal.returns
+unfolding seen
 returns c =
     let rows = c.args.rows.now in
-    c.answer.ensures ∙ ap answering (seen_end rows c.loop-i.i c.loop-i.s c.loop-i.invariant (drop_of_length-le rows {i = c.loop-i.i} c.loop-i-test.false)) ∙ seen_elects rows
+    let e : c.fold.result ≡ seen first rows = subst (λ l. c.fold.result ≡ seen first l) c.iter.ensures.rest
+    (fold_over fronts (λ y. y.now) _ (λ ys s. s ≡ seen first ys) _ (λ ys a x b f' j k. let more = seen_push first ys x.now in search rules)
+    _ _ _ _ (slice_gives c.iter.result) c.start.ensures c.fold.ensures.ran) in
+    c.answer.ensures ∙ ap answering e ∙ seen_elects rows

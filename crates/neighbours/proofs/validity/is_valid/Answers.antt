@@ -4,12 +4,12 @@ use mathlib.Core.Path.{◌≡◌, refl, sym, ap, ◌∙◌}
 use mathlib.Core.Bool.{true, false}
 use Prim.Native.Nat.{ℕ, ◌≤◌}
 use native.Mathlib.Omega.{arith}
-use borrow.Author.Rules.{rules}
 use lib.ListN.{length, get_or, take, drop, drop_of_length-le}
+use lib.Seq.{drop-cons}
 use Rattle.format.specs.Family.{family_of}
 use Rattle.addresses.proofs.Laws.{halves_octet}
 use Rattle.neighbours.specs.Rows.{address_of, no_row, has, used, all_zero}
-use Rattle.neighbours.proofs.Rows.{used_long, next_row, has_before, none_before}
+use Rattle.neighbours.proofs.Rows.{used_long, has_before, none_before}
 use Rattle.neighbours.proofs.Tables.{valid_over, valid_not, valid_unused, valid_all}
 use Rattle.neighbours.proofs.Slots.{marked_new}
 use Rattle.neighbours.proofs.Holding.{holding_start, holding_not, holding_twice, holding_next, holding_all}
@@ -44,23 +44,23 @@ returns-then-not-rest_is_zero c =
 pub loop-i-init : goal.loop-i-init
 loop-i-init c =
     let a = c.args in
-    (search rules, holding_start (family_of a.ipv6) a.table.rows a.table.count _ refl)
+    holding_start (family_of a.ipv6) a.table.rows a.table.count _ refl
 
 pub returns-then-not-is_allowed : goal.returns-then-not-is_allowed
 returns-then-not-is_allowed c =
     let a = c.args in
     let t = a.table in
     valid_not (family_of a.ipv6) t c.if-count-gt-ROWS.false
-    (holding_not c.loop-i.invariant.1 (next_row t.rows t.count (within (goal.at.returns-then-not-is_allowed c).Else-count-gt-ROWS) c.loop-i.i _ c.loop-i-test.true) (sym c.is_allowed.ensures ∙ c.if-not-is_allowed.true))
+    (holding_not c.loop-i.invariant (drop-cons (used t) c.loop-i.i _ c.loop-i-test.true) (sym c.is_allowed.ensures ∙ c.if-not-is_allowed.true))
 
 pub returns-then-find-i : goal.returns-then-find-i
 returns-then-find-i c =
     let a = c.args in
     let t = a.table in
     let i = c.loop-i.i in
-    let w : i ≤ length (used t) = omega (arith, used_long t.rows t.count (within (goal.at.returns-then-find-i c).Else-count-gt-ROWS), c.loop-i-test.true) in
+    let w : i ≤ length (used t) = omega (arith, c.loop-i-test.true) in
     valid_not (family_of a.ipv6) t c.if-count-gt-ROWS.false
-    (holding_twice c.loop-i.invariant.1 (next_row t.rows t.count (within (goal.at.returns-then-find-i c).Else-count-gt-ROWS) i _ c.loop-i-test.true) (has_before _ i (used t) (rw c.find.ensures at c.if-find-i.true) w))
+    (holding_twice c.loop-i.invariant (drop-cons (used t) c.loop-i.i _ c.loop-i-test.true) (has_before _ i (used t) (rw c.find.ensures at c.if-find-i.true) w))
 
 -- no row before this one has its address: it was looked for, or its last octet was not met
 pub loop-i-preserved : goal.loop-i-preserved
@@ -68,8 +68,8 @@ unfolding no_row
 loop-i-preserved c =
     let t = c.args.table in
     let i = c.loop-i.i in
-    let h = c.loop-i.invariant.1 in
-    let x = get_or t.rows i no_row in
+    let h = c.loop-i.invariant in
+    let x = get_or (used t) i no_row in
     let last = halves_octet x.address.high x.address.low in
     let new : has (address_of x) (take i (used t)) ≡ false =
     elim c.else-met-slot.branch [
@@ -77,9 +77,9 @@ loop-i-preserved c =
       | else-met-slot-via-else-met-slot w ↦ marked_new h.marked (address_of x) false (ap (λ (k : ℕ). get_or c.loop-i.met k false) last ∙ w.if-met-slot.false)
     ]
     in
-    (omega (arith, c.loop-i-test.true), rw last at (holding_next h (next_row t.rows t.count (within (goal.at.loop-i-preserved c).Else-count-gt-ROWS) i no_row c.loop-i-test.true) (sym c.is_allowed.ensures ∙ c.if-not-is_allowed.false) new))
+    rw last at (holding_next h (drop-cons (used t) c.loop-i.i no_row c.loop-i-test.true) (sym c.is_allowed.ensures ∙ c.if-not-is_allowed.false) new)
 
 pub returns : goal.returns
 returns c =
     let a = c.args in
-    valid_all (family_of a.ipv6) a.table c.if-count-gt-ROWS.false (holding_all c.loop-i.invariant.1 (within (goal.at.returns c).Else-count-gt-ROWS) c.loop-i-test.false) (unused (goal.at.returns c).Joined-else-count-lt-ROWS)
+    valid_all (family_of a.ipv6) a.table c.if-count-gt-ROWS.false (holding_all c.loop-i.invariant (within (goal.at.returns c).Else-count-gt-ROWS) (rw (used_long a.table.rows a.table.count (within (goal.at.returns c).Else-count-gt-ROWS)) at c.loop-i-test.false)) (unused (goal.at.returns c).Joined-else-count-lt-ROWS)

@@ -8,7 +8,6 @@ use mathlib.Core.List.{◌++◌}
 use lib.ListN.{length}
 use Rattle.octets.specs.Octets.{number_at, be}
 use Rattle.octets.proofs.Laws.{put_next}
-use Rattle.format.specs.Family.{family_of}
 use Rattle.format.specs.Address.{source_octets}
 use Rattle.format.specs.Record.{each, reserved2}
 use Rattle.format.proofs.Lengths.{length_source}
@@ -16,31 +15,33 @@ use Rattle.packing.specs.Joins.{asserts, group_at}
 use Rattle.packing.specs.Aggregates.{address_octets}
 use Rattle.packing.proofs.Joins.{entry_there}
 use Rattle.packing.proofs.Aggregating.{source_is, source_long, metric_long, number_long}
+use Rattle.format.proofs.Constants.{family}
 use Rattle.packing.proofs.aggregate.put_source_aggregated.Goals as goal
+use Rattle.packing.proofs.aggregate.put_source_aggregated.Given.{Over}
 use Rattle.packing.proofs.aggregate.put_source_aggregated.Goals.{After-front_size, After-width-w}
 
 -- the first entry is there, with the numbers as code has them, and the record fits
-there : (c : After-front_size) → c.args.from + c.front_size.result + 2 * c.width-w.result + 8 ≤ length c.args.e.now
-there c =
-    omega (arith, c.front_size.ensures, c.width-w.ensures, entry_there (family_of c.args.ipv6) c.args.e.now c.args.from c.args.k c.requires.0 c.requires.1)
+there : (g : Over) (c : After-front_size g) → c.args.from + c.front_size.result + 2 * c.width-w.result + 8 ≤ length c.args.e.now
+there g c =
+    omega (arith, c.front_size.ensures, c.width-w.ensures, entry_there (family g.row.IPV6) c.args.e.now c.args.from c.args.k c.requires.0 c.requires.1)
 
-room : (c : After-width-w)
-    → c.args.out + (14 + (family_of c.args.ipv6).width + ((family_of c.args.ipv6).width + 4) * c.args.k) ≤ length c.args.d.now
-room c = rw (source_long (family_of c.args.ipv6) c.args.e.now c.args.from c.args.k c.requires.0 c.requires.2) at c.requires.3
+room : (g : Over) (c : After-width-w g)
+    → c.args.out + (14 + (family g.row.IPV6).width + ((family g.row.IPV6).width + 4) * c.args.k) ≤ length c.args.d.now
+room g c = rw (source_long (family g.row.IPV6) c.args.e.now c.args.from c.args.k c.requires.0 c.requires.2) at c.requires.3
 
 pub put_metric-requires : goal.put_metric-requires
-put_metric-requires c = (omega (arith, there (goal.at.put_metric-requires c).After-front_size), omega (arith, room (goal.at.put_metric-requires c).After-width-w))
+put_metric-requires g c = (omega (arith, there g (goal.at.put_metric-requires g c).After-front_size), omega (arith, room g (goal.at.put_metric-requires g c).After-width-w))
 
 pub put_source-requires : goal.put_source-requires
-put_source-requires c = (omega (arith, there (goal.at.put_source-requires c).After-front_size, c.width-w.ensures), omega (arith, room (goal.at.put_source-requires c).After-width-w, c.put_metric.auto))
+put_source-requires g c = (omega (arith, there g (goal.at.put_source-requires g c).After-front_size, c.width-w.ensures), omega (arith, room g (goal.at.put_source-requires g c).After-width-w, c.put_metric.auto))
 
 pub put_addresses-requires : goal.put_addresses-requires
-put_addresses-requires c = (c.requires.1, omega (arith, room (goal.at.put_addresses-requires c).After-width-w, c.width-w.ensures, c.put_metric.auto, c.put_source.auto, c.put_number.auto))
+put_addresses-requires g c = (c.requires.1, omega (arith, room g (goal.at.put_addresses-requires g c).After-width-w, c.width-w.ensures, c.put_metric.auto, c.put_source.auto, c.put_number.auto))
 
 pub returns : goal.returns
-returns c =
+returns g c =
     let a = c.args in
-    let f = family_of a.ipv6 in
+    let f = family g.row.IPV6 in
     let o = a.e.now in
     let groups = each (address_octets f false) (asserts f o a.from a.k) in
     let number = be 2 a.k ++ reserved2 in
@@ -58,4 +59,4 @@ returns c =
     }
 
 pub put_number-requires : goal.put_number-requires
-put_number-requires c = omega (arith, room (goal.at.put_number-requires c).After-width-w, c.width-w.ensures, c.put_metric.auto, c.put_source.auto)
+put_number-requires g c = omega (arith, room g (goal.at.put_number-requires g c).After-width-w, c.width-w.ensures, c.put_metric.auto, c.put_source.auto)

@@ -1,24 +1,25 @@
 -- `packing::limit::asked` meets its contract: the tests are those of the definition, in its order.
 -- Assumes nothing.
-use mathlib.Core.Path.{◌≡◌, sym, ap, ◌∙◌}
+use Rattle.format.proofs.Refusals.{handed_up}
+use mathlib.Core.Path.{◌≡◌, sym}
 use Rattle.format.specs.Outcome.{gives}
 use Rattle.format.specs.Packing.{read_limit}
 use Rattle.entries.specs.Kinds.{entries_for}
 use Rattle.packing.specs.Answers.{limit_of}
 use Rattle.packing.proofs.Asks.{read_gives, read_refuses, ask_limit, ask_room, ask_part, ask_start, ask_bad, ask_fine}
 use Rattle.packing.proofs.limit.asked.Goals as goal
-use Rattle.packing.proofs.limit.asked.Goals.{In-Is}
+use Rattle.packing.proofs.limit.asked.Goals.{In_ok-l}
 
 -- what reading the limit gave
-read : (c : In-Is) → read_limit (entries_for c.args.ipv6 c.args.kind).family c.args.limit ≡ gives c.in-Is.l
-read c = read_gives c.args.ipv6 c.args.kind c.args.limit c.in-Is.is c.read_limit-x.ensures
+read : (c : In_ok-l) → read_limit (entries_for c.args.ipv6 c.args.kind).family c.args.limit ≡ gives c.in_ok-l.l
+read c = read_gives c.args.ipv6 c.args.kind c.args.limit c.in_ok-l.was c.read_limit.ensures
 
-pub returns-in_default : goal.returns-in_default
+pub returns-in_err-l : goal.returns-in_err-l
 unfolding limit_of
-returns-in_default c =
+returns-in_err-l c =
     let a = c.args in
-    let read = read_refuses a.ipv6 a.kind a.limit c.in_default.is c.read_limit-x.ensures in
-    ap limit_of c.in_default.is ∙ sym (ask_limit (entries_for a.ipv6 a.kind) a.e.now a.start a.limit a.room _ _ read)
+    rw (handed_up c.from_residual.result c.from_residual.ensures.1)
+    (sym (ask_limit (entries_for a.ipv6 a.kind) a.e.now a.start a.limit a.room _ _ (read_refuses a.ipv6 a.kind a.limit c.in_err-l.was c.read_limit.ensures)))
 
 pub returns-then-room-l : goal.returns-then-room-l
 unfolding limit_of
@@ -26,7 +27,7 @@ returns-then-room-l c =
     let a = c.args in
     let E = entries_for a.ipv6 a.kind in
     let o = a.e.now in
-    rw c.refused.ensures (sym (ask_room E o a.start a.limit a.room _ (read (goal.at.returns-then-room-l c).In-Is) c.if-room-l.true))
+    rw c.at.ensures (sym (ask_room E o a.start a.limit a.room _ (read (goal.at.returns-then-room-l c).In_ok-l) c.if-room-l.true))
 
 pub returns-then-e-size-ne0 : goal.returns-then-e-size-ne0
 unfolding limit_of
@@ -34,8 +35,8 @@ returns-then-e-size-ne0 c =
     let a = c.args in
     let E = entries_for a.ipv6 a.kind in
     let o = a.e.now in
-    rw c.refused-then-e-size-ne0.ensures
-    (sym (ask_part E o a.start a.limit a.room _ (read (goal.at.returns-then-e-size-ne0 c).In-Is) c.if-room-l.false (rw c.entry_size-size.ensures at c.if-e-size-ne0.true)))
+    rw c.at-then-e-size-ne0.ensures
+    (sym (ask_part E o a.start a.limit a.room _ (read (goal.at.returns-then-e-size-ne0 c).In_ok-l) c.if-room-l.false (rw c.entry_size-size.ensures at c.if-e-size-ne0.true)))
 
 pub returns-then-count-start : goal.returns-then-count-start
 unfolding limit_of
@@ -44,20 +45,20 @@ returns-then-count-start c =
     let E = entries_for a.ipv6 a.kind in
     let o = a.e.now in
     let size = c.entry_size-size.ensures in
-    rw c.refused-then-count-start.ensures
-    (sym (ask_start E o a.start a.limit a.room _ (read (goal.at.returns-then-count-start c).In-Is) c.if-room-l.false (rw size at c.if-e-size-ne0.false) (rw size at c.if-count-start.true)))
+    rw c.at-then-count-start.ensures
+    (sym (ask_start E o a.start a.limit a.room _ (read (goal.at.returns-then-count-start c).In_ok-l) c.if-room-l.false (rw size at c.if-e-size-ne0.false) (rw size at c.if-count-start.true)))
 
-pub returns-in-Allowed : goal.returns-in-Allowed
+pub returns-in-None : goal.returns-in-None
 unfolding limit_of
-returns-in-Allowed c =
+returns-in-None c =
     let a = c.args in
     let size = c.entry_size-size.ensures in
-    sym (ask_fine (entries_for a.ipv6 a.kind) a.e.now a.start a.limit a.room _ (read (goal.at.returns-in-Allowed c).In-Is) c.if-room-l.false (rw size at c.if-e-size-ne0.false) (rw size at c.if-count-start.false) c.first_bad-bad.ensures c.in-Allowed.is)
+    sym (ask_fine (entries_for a.ipv6 a.kind) a.e.now a.start a.limit a.room _ (read (goal.at.returns-in-None c).In_ok-l) c.if-room-l.false (rw size at c.if-e-size-ne0.false) (rw size at c.if-count-start.false) c.first_bad.ensures c.in-None.is)
 
-pub returns-in-Bad : goal.returns-in-Bad
+pub returns-in-Some : goal.returns-in-Some
 unfolding limit_of
-returns-in-Bad c =
+returns-in-Some c =
     let a = c.args in
     let size = c.entry_size-size.ensures in
-    rw c.refused-in-Bad.ensures
-    (sym (ask_bad (entries_for a.ipv6 a.kind) a.e.now a.start a.limit a.room _ (read (goal.at.returns-in-Bad c).In-Is) c.if-room-l.false (rw size at c.if-e-size-ne0.false) (rw size at c.if-count-start.false) c.first_bad-bad.ensures c.in-Bad.is))
+    rw c.at-in-Some.ensures
+    (sym (ask_bad (entries_for a.ipv6 a.kind) a.e.now a.start a.limit a.room _ (read (goal.at.returns-in-Some c).In_ok-l) c.if-room-l.false (rw size at c.if-e-size-ne0.false) (rw size at c.if-count-start.false) c.first_bad.ensures c.in-Some.is))

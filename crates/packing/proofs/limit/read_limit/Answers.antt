@@ -15,13 +15,13 @@ pub returns-then-limit-least_limit : goal.returns-then-limit-least_limit
 unfolding limit_of
 returns-then-limit-least_limit c =
     let low = rw c.least_limit.ensures at c.if-limit-least_limit.true in
-    rw c.refused.ensures (sym (limit_low (family_of c.args.ipv6) c.args.limit c.if-limit-eq0.false low))
+    rw c.at.ensures (sym (limit_low (family_of c.args.ipv6) c.args.limit c.if-limit-eq0.false low))
 
 pub returns-then-limit-gt-GREATEST_LIMIT : goal.returns-then-limit-gt-GREATEST_LIMIT
 unfolding limit_of
 returns-then-limit-gt-GREATEST_LIMIT c =
     let high = rw c.least_limit.ensures at c.if-limit-least_limit.false in
-    rw c.refused-then-limit-gt-GREATEST_LIMIT.ensures (sym (limit_high (family_of c.args.ipv6) c.args.limit c.if-limit-eq0.false high c.if-limit-gt-GREATEST_LIMIT.true))
+    rw c.at-then-limit-gt-GREATEST_LIMIT.ensures (sym (limit_high (family_of c.args.ipv6) c.args.limit c.if-limit-eq0.false high c.if-limit-gt-GREATEST_LIMIT.true))
 
 pub returns : goal.returns
 unfolding limit_of

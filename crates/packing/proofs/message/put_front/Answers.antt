@@ -16,7 +16,7 @@ returns-then-l-eq8 c =
     let a = c.args in
     let zero = front_long a.kind (sym l.ensures.0 ∙ c.if-l-eq8.true) in
     let room : 8 ≤ length a.d.now = omega (arith, l.ensures.0, c.if-l-eq8.true, c.requires) in
-    record { size = l.ensures.0; buffer = rw zero (c.write32.ensures.buffer ∙ number_fits 4 a.d.now 4 0 room) }
+    record { size = l.ensures.0; buffer = rw zero (c.write.ensures.buffer ∙ number_fits 4 a.d.now 4 0 room) }
 
 pub returns-else-l-eq8 : goal.returns-else-l-eq8
 returns-else-l-eq8 c =

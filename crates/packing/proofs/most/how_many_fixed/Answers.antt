@@ -17,10 +17,10 @@ pub returns-then-l : goal.returns-then-l
 unfolding fitting
 returns-then-l c =
     let l = c.layout_of-l in
-    rw (most_one c.args.ipv6 c.args.n c.args.kind c.requires.1 (sym l.ensures.2 ∙ c.if-l.true), ← sized (goal.at.returns-then-l c).After-record_size, ← l.ensures.0) c.smaller.ensures
+    rw (most_one c.args.ipv6 c.args.n c.args.kind c.requires.1 (sym l.ensures.2 ∙ c.if-l.true), ← sized (goal.at.returns-then-l c).After-record_size, ← l.ensures.0) c.min.ensures
 
 pub returns : goal.returns
 unfolding fitting
 returns c =
     let l = c.layout_of-l in
-    rw (most_all c.args.ipv6 c.args.n c.args.kind c.requires.0 (sym l.ensures.2 ∙ c.if-l.false), ← sized (goal.at.returns c).After-record_size, ← l.ensures.0) c.smaller-2.ensures
+    rw (most_all c.args.ipv6 c.args.n c.args.kind c.requires.0 (sym l.ensures.2 ∙ c.if-l.false), ← sized (goal.at.returns c).After-record_size, ← l.ensures.0) c.min-2.ensures

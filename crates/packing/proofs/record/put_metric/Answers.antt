@@ -15,5 +15,5 @@ returns c =
     let o = a.e.now in
     let d = a.d.now in
     let octet : Octets o = λ i. (c.type_inv.e i).fits in
-    copied_next 8 o d a.out [] a.at (a.at + 8) a.out (a.out + 8) octet (sym (put_nil d a.out)) c.copy8.ensures refl (omega arith) refl c.requires.0 c.requires.1
+    copied_next 8 o d a.out [] a.at (a.at + 8) a.out (a.out + 8) octet (sym (put_nil d a.out)) c.copy.ensures refl (omega arith) refl c.requires.0 c.requires.1
     ∙ ap (put d a.out) (be_parts 4 4 o a.at octet c.requires.0)

@@ -21,11 +21,11 @@ returns-then-ipv6 c =
     let a = c.args in
     let o = a.e.now in
     let there : a.at + 16 ≤ length o = sixteen (goal.at.returns-then-ipv6 c).Then-ipv6 in
-    let high = c.whole64.ensures ∙ whole_cut 8 o a.at (a.at + 8) refl (omega (arith, there)) in
-    let low = c.whole64-then-ipv6.ensures ∙ whole_cut 8 o (a.at + 8) (a.at + 16) (omega arith) there in
+    let high = c.whole.ensures ∙ whole_cut 8 o a.at (a.at + 8) refl (omega (arith, there)) in
+    let low = c.whole-then-ipv6.ensures ∙ whole_cut 8 o (a.at + 8) (a.at + 16) (omega arith) there in
     rw (c.if-ipv6.true, high, low) (sym (number_split 8 8 o a.at there))
 
 pub returns : goal.returns
 returns c =
     let a = c.args in
-    rw c.if-ipv6.false (zero-add c.whole32.result ∙ c.whole32.ensures ∙ whole_cut 4 a.e.now a.at (a.at + 4) refl (four (goal.at.returns c).Else-ipv6))
+    rw c.if-ipv6.false (zero-add c.whole-2.result ∙ c.whole-2.ensures ∙ whole_cut 4 a.e.now a.at (a.at + 4) refl (four (goal.at.returns c).Else-ipv6))

@@ -8,4 +8,4 @@ use Rattle.packing.proofs.run.word.Goals as goal
 pub returns : goal.returns
 returns c =
     let a = c.args in
-    c.number32.ensures ∙ number_cut 4 a.e.now a.at (a.at + 4) refl c.requires
+    c.number.ensures ∙ number_cut 4 a.e.now a.at (a.at + 4) refl c.requires

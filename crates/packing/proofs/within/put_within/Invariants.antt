@@ -2,13 +2,13 @@
 -- measure is the entries left.
 -- Assumes nothing.
 use Prim.Native.Nat.{◌-◌}
-use Rattle.format.specs.Family.{family_of}
 use Rattle.packing.specs.Joins.{Aggregated}
 use Rattle.packing.proofs.Limits.{RunsWithin}
+use Rattle.format.proofs.Constants.{family}
 use Rattle.packing.proofs.within.put_within.Given as goal
 
 abbrev pub invariant-loop-taken : goal.invariant-loop-taken
-invariant-loop-taken l = RunsWithin (family_of l.ipv6) Aggregated l.e l.from l.n l.initial.d l.start l.limit l.d l.taken l.at l.out
+invariant-loop-taken g l = RunsWithin (family g.row.IPV6) Aggregated l.e l.from l.n l.initial.d l.start l.limit l.d l.taken l.at l.out
 
 abbrev pub decreases-loop-taken : goal.decreases-loop-taken
-decreases-loop-taken l = l.n - l.taken
+decreases-loop-taken g l = l.n - l.taken

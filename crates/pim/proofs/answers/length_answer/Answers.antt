@@ -4,10 +4,10 @@ use Rattle.format.specs.Writing.{length_by}
 use Rattle.pim.specs.Answers.{length_answer}
 use Rattle.pim.proofs.answers.length_answer.Goals as goal
 
-pub returns-in-Wrote : goal.returns-in-Wrote
+pub returns-in-Ok : goal.returns-in-Ok
 unfolding length_answer length_by
-returns-in-Wrote c = rw (c.in-Wrote.is, c.accepted.ensures)
+returns-in-Ok c = rw (c.in-Ok.is, c.accepted.ensures)
 
-pub returns-in-Refused : goal.returns-in-Refused
+pub returns-in-Err : goal.returns-in-Err
 unfolding length_answer length_by
-returns-in-Refused c = rw c.in-Refused.is
+returns-in-Err c = rw (c.in-Err.is, c.from.ensures)

@@ -4,10 +4,10 @@ use Rattle.headers.specs.Answers.{headed}
 use Rattle.pim.specs.Answers.{header_answer}
 use Rattle.pim.proofs.messages.header_answer.Goals as goal
 
-pub returns-in-Is : goal.returns-in-Is
+pub returns-in-Ok : goal.returns-in-Ok
 unfolding header_answer headed
-returns-in-Is c = rw (c.in-Is.is, c.accepted.ensures, c.kind_number.ensures)
+returns-in-Ok c = rw (c.in-Ok.is, c.accepted.ensures, c.from.ensures)
 
-pub returns-in-Refused : goal.returns-in-Refused
+pub returns-in-Err : goal.returns-in-Err
 unfolding header_answer headed
-returns-in-Refused c = rw c.in-Refused.is
+returns-in-Err c = rw (c.in-Err.is, c.from-in-Err.ensures)

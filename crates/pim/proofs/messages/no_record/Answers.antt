@@ -7,4 +7,4 @@ use Rattle.pim.proofs.messages.no_record.Goals as goal
 
 pub returns : goal.returns
 unfolding record_answer single
-returns c = refl
+returns c = rw c.from.ensures refl

@@ -2,17 +2,17 @@
 -- Assumes nothing.
 use mathlib.Core.Path.{refl, sym, ap, ◌∙◌}
 use lib.ListN.{length}
-use Rattle.pim.specs.Families.{family_by, of_family}
+use Rattle.pim.specs.Families.{of_family}
 use Rattle.pim.proofs.messages.pim_body.Goals as goal
 
-pub returns-in-Is : goal.returns-in-Is
-unfolding family_by of_family
-returns-in-Is c =
-    let named = ap family_by (sym c.in-Is.is) ∙ c.family_numbered-f.ensures in
+pub returns-in-Some : goal.returns-in-Some
+unfolding of_family
+returns-in-Some c =
+    let named = sym c.in-Some.is ∙ c.family_numbered.ensures in
     rw (← named) (ap length c.body.ensures)
 
-pub returns-in-Neither : goal.returns-in-Neither
-unfolding family_by of_family
-returns-in-Neither c =
-    let named = ap family_by (sym c.in-Neither.is) ∙ c.family_numbered-f.ensures in
+pub returns-in-None : goal.returns-in-None
+unfolding of_family
+returns-in-None c =
+    let named = sym c.in-None.is ∙ c.family_numbered.ensures in
     rw (← named) (refl)

@@ -2,19 +2,19 @@
 -- Assumes nothing.
 use mathlib.Core.Path.{refl, sym, ap, ◌∙◌}
 use Rattle.reading.specs.Calls.{answered}
-use Rattle.reading.specs.declared.entries.Reading.TheVariants.{Refused}
 use Rattle.pim.specs.Answers.{read_answer}
-use Rattle.pim.specs.Families.{family_by, of_family}
+use Rattle.pim.specs.Families.{of_family}
 use Rattle.pim.proofs.messages.pim_read_asserts.Goals as goal
+use Rattle.std.specs.Prelude.{Err}
 
-pub returns-in-Is : goal.returns-in-Is
-unfolding family_by of_family
-returns-in-Is c =
-    let named = ap family_by (sym c.in-Is.is) ∙ c.family_numbered-f.ensures in
+pub returns-in-Some : goal.returns-in-Some
+unfolding of_family
+returns-in-Some c =
+    let named = sym c.in-Some.is ∙ c.family_numbered.ensures in
     record { answer = rw (← named) (c.read_answer.ensures ∙ ap read_answer c.read_asserts.ensures.answer); entries = rw (← named) (c.read_asserts.ensures.lent) }
 
-pub returns-in-Neither : goal.returns-in-Neither
-unfolding family_by of_family answered
-returns-in-Neither c =
-    let named = ap family_by (sym c.in-Neither.is) ∙ c.family_numbered-f.ensures in
-    record { answer = rw (← named) (c.read_answer-in-Neither.ensures ∙ ap (λ x. read_answer (answered (Refused x))) c.no_family.ensures); entries = rw (← named) (refl) }
+pub returns-in-None : goal.returns-in-None
+unfolding of_family answered
+returns-in-None c =
+    let named = sym c.in-None.is ∙ c.family_numbered.ensures in
+    record { answer = rw (← named) (c.read_answer-in-None.ensures ∙ ap (λ x. read_answer (answered (Err x))) c.no_family.ensures); entries = rw (← named) (refl) }

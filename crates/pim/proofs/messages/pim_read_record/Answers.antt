@@ -2,19 +2,19 @@
 -- Assumes nothing.
 use mathlib.Core.Path.{sym, ap, ◌∙◌}
 use Rattle.fields.specs.Answers.{single}
-use Rattle.fields.specs.declared.record.Single.TheVariants.{Refused}
 use Rattle.pim.specs.Answers.{record_answer}
-use Rattle.pim.specs.Families.{family_by, of_family}
+use Rattle.pim.specs.Families.{of_family}
 use Rattle.pim.proofs.messages.pim_read_record.Goals as goal
+use Rattle.std.specs.Prelude.{Err}
 
-pub returns-in-Is : goal.returns-in-Is
-unfolding family_by of_family
-returns-in-Is c =
-    let named = ap family_by (sym c.in-Is.is) ∙ c.family_numbered-f.ensures in
+pub returns-in-Some : goal.returns-in-Some
+unfolding of_family
+returns-in-Some c =
+    let named = sym c.in-Some.is ∙ c.family_numbered.ensures in
     rw (← named) c.of_kind.ensures
 
-pub returns-in-Neither : goal.returns-in-Neither
-unfolding family_by of_family single
-returns-in-Neither c =
-    let named = ap family_by (sym c.in-Neither.is) ∙ c.family_numbered-f.ensures in
-    rw (← named) (c.no_record.ensures ∙ ap (λ x. record_answer (single (Refused x))) c.no_family.ensures)
+pub returns-in-None : goal.returns-in-None
+unfolding of_family single
+returns-in-None c =
+    let named = sym c.in-None.is ∙ c.family_numbered.ensures in
+    rw (← named) (c.no_record.ensures ∙ ap (λ x. record_answer (single (Err x))) c.no_family.ensures)

@@ -4,10 +4,10 @@ use Rattle.reading.specs.Calls.{answered}
 use Rattle.pim.specs.Answers.{read_answer}
 use Rattle.pim.proofs.messages.read_answer.Goals as goal
 
-pub returns-in-Entries : goal.returns-in-Entries
+pub returns-in-Ok : goal.returns-in-Ok
 unfolding read_answer answered
-returns-in-Entries c = rw (c.in-Entries.is, c.accepted.ensures, c.kind_number.ensures)
+returns-in-Ok c = rw (c.in-Ok.is, c.accepted.ensures, c.from.ensures)
 
-pub returns-in-Refused : goal.returns-in-Refused
+pub returns-in-Err : goal.returns-in-Err
 unfolding read_answer answered
-returns-in-Refused c = rw c.in-Refused.is
+returns-in-Err c = rw (c.in-Err.is, c.from-in-Err.ensures)

@@ -4,10 +4,10 @@ use Rattle.packing.specs.Answers.{chosen_by}
 use Rattle.pim.specs.Answers.{choice_answer}
 use Rattle.pim.proofs.packs.choice_answer.Goals as goal
 
-pub returns-in-Wrote : goal.returns-in-Wrote
+pub returns-in-Ok : goal.returns-in-Ok
 unfolding choice_answer chosen_by
-returns-in-Wrote c = rw (c.in-Wrote.is, c.accepted.ensures)
+returns-in-Ok c = rw (c.in-Ok.is, c.accepted.ensures)
 
-pub returns-in-Refused : goal.returns-in-Refused
+pub returns-in-Err : goal.returns-in-Err
 unfolding choice_answer chosen_by
-returns-in-Refused c = rw c.in-Refused.is
+returns-in-Err c = rw (c.in-Err.is, c.from.ensures)

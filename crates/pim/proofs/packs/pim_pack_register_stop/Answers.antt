@@ -2,19 +2,19 @@
 -- Assumes nothing.
 use mathlib.Core.Path.{refl, sym, ap, ◌∙◌}
 use Rattle.packing.specs.Answers.{packed}
-use Rattle.packing.specs.declared.calls.Packing.TheVariants.{Refused}
 use Rattle.pim.specs.Answers.{pack_answer}
-use Rattle.pim.specs.Families.{family_by, of_family}
+use Rattle.pim.specs.Families.{of_family}
 use Rattle.pim.proofs.packs.pim_pack_register_stop.Goals as goal
+use Rattle.std.specs.Prelude.{Err}
 
-pub returns-in-Is : goal.returns-in-Is
-unfolding family_by of_family
-returns-in-Is c =
-    let named = ap family_by (sym c.in-Is.is) ∙ c.family_numbered-f.ensures in
+pub returns-in-Some : goal.returns-in-Some
+unfolding of_family
+returns-in-Some c =
+    let named = sym c.in-Some.is ∙ c.family_numbered.ensures in
     record { answer = rw (← named) (c.pack_answer.ensures ∙ ap pack_answer c.pack_register_stop.ensures.answer); buffer = rw (← named) (c.pack_register_stop.ensures.buffer) }
 
-pub returns-in-Neither : goal.returns-in-Neither
-unfolding family_by of_family packed
-returns-in-Neither c =
-    let named = ap family_by (sym c.in-Neither.is) ∙ c.family_numbered-f.ensures in
-    record { answer = rw (← named) (c.pack_answer-in-Neither.ensures ∙ ap (λ x. pack_answer (packed (Refused x))) c.no_family.ensures); buffer = rw (← named) (refl) }
+pub returns-in-None : goal.returns-in-None
+unfolding of_family packed
+returns-in-None c =
+    let named = sym c.in-None.is ∙ c.family_numbered.ensures in
+    record { answer = rw (← named) (c.pack_answer-in-None.ensures ∙ ap (λ x. pack_answer (packed (Err x))) c.no_family.ensures); buffer = rw (← named) (refl) }

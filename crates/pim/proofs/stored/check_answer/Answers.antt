@@ -4,10 +4,10 @@ use Rattle.sections.specs.Checking.{checked_by}
 use Rattle.pim.specs.Stored.{check_answer}
 use Rattle.pim.proofs.stored.check_answer.Goals as goal
 
-pub returns-in-Valid : goal.returns-in-Valid
+pub returns-in-Ok : goal.returns-in-Ok
 unfolding check_answer checked_by
-returns-in-Valid c = rw (c.in-Valid.is, c.accepted.ensures)
+returns-in-Ok c = rw (c.in-Ok.is, c.accepted.ensures)
 
-pub returns-in-Refused : goal.returns-in-Refused
+pub returns-in-Err : goal.returns-in-Err
 unfolding check_answer checked_by
-returns-in-Refused c = rw (c.in-Refused.is, c.no_counts.ensures)
+returns-in-Err c = rw (c.in-Err.is, c.from.ensures, c.no_counts.ensures)

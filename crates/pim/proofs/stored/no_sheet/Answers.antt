@@ -5,4 +5,4 @@ use Rattle.pim.proofs.stored.no_sheet.Goals as goal
 
 pub returns : goal.returns
 unfolding sheet_answer
-returns c = rw (c.no_family.ensures, c.no_counts.ensures, c.empty.ensures)
+returns c = rw (c.from.ensures, c.no_family.ensures, c.no_counts.ensures, c.empty.ensures)

@@ -2,19 +2,19 @@
 -- Assumes nothing.
 use mathlib.Core.Path.{sym, ap, ◌∙◌}
 use Rattle.sections.specs.Checking.{checked_by}
-use Rattle.sections.specs.declared.Verdict.TheVariants.{Refused}
 use Rattle.pim.specs.Stored.{check_answer}
-use Rattle.pim.specs.Families.{family_by, of_family}
+use Rattle.pim.specs.Families.{of_family}
 use Rattle.pim.proofs.stored.pim_check_sheet.Goals as goal
+use Rattle.std.specs.Prelude.{Err}
 
-pub returns-in-Is : goal.returns-in-Is
-unfolding family_by of_family
-returns-in-Is c =
-    let named = ap family_by (sym c.in-Is.is) ∙ c.family_numbered-f.ensures in
+pub returns-in-Some : goal.returns-in-Some
+unfolding of_family
+returns-in-Some c =
+    let named = sym c.in-Some.is ∙ c.family_numbered.ensures in
     rw (← named) (c.check_answer.ensures ∙ ap check_answer c.check_sheet.ensures)
 
-pub returns-in-Neither : goal.returns-in-Neither
-unfolding family_by of_family checked_by
-returns-in-Neither c =
-    let named = ap family_by (sym c.in-Neither.is) ∙ c.family_numbered-f.ensures in
-    rw (← named) (c.check_answer-in-Neither.ensures ∙ ap (λ x. check_answer (checked_by (Refused x))) c.no_family.ensures)
+pub returns-in-None : goal.returns-in-None
+unfolding of_family checked_by
+returns-in-None c =
+    let named = sym c.in-None.is ∙ c.family_numbered.ensures in
+    rw (← named) (c.check_answer-in-None.ensures ∙ ap (λ x. check_answer (checked_by (Err x))) c.no_family.ensures)

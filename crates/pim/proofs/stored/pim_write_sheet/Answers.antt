@@ -2,19 +2,19 @@
 -- Assumes nothing.
 use mathlib.Core.Path.{refl, sym, ap, ◌∙◌}
 use Rattle.format.specs.Writing.{length_by}
-use Rattle.format.specs.declared.Writing.TheVariants.{Refused}
 use Rattle.pim.specs.Answers.{length_answer}
-use Rattle.pim.specs.Families.{family_by, of_family}
+use Rattle.pim.specs.Families.{of_family}
 use Rattle.pim.proofs.stored.pim_write_sheet.Goals as goal
+use Rattle.std.specs.Prelude.{Err}
 
-pub returns-in-Is : goal.returns-in-Is
-unfolding family_by of_family
-returns-in-Is c =
-    let named = ap family_by (sym c.in-Is.is) ∙ c.family_numbered-f.ensures in
+pub returns-in-Some : goal.returns-in-Some
+unfolding of_family
+returns-in-Some c =
+    let named = sym c.in-Some.is ∙ c.family_numbered.ensures in
     record { answer = rw (← named) (c.length_answer.ensures ∙ ap length_answer c.write_sheet.ensures.answer); buffer = rw (← named) (c.write_sheet.ensures.buffer) }
 
-pub returns-in-Neither : goal.returns-in-Neither
-unfolding family_by of_family length_by
-returns-in-Neither c =
-    let named = ap family_by (sym c.in-Neither.is) ∙ c.family_numbered-f.ensures in
-    record { answer = rw (← named) (c.length_answer-in-Neither.ensures ∙ ap (λ x. length_answer (length_by (Refused x))) c.no_family.ensures); buffer = rw (← named) (refl) }
+pub returns-in-None : goal.returns-in-None
+unfolding of_family length_by
+returns-in-None c =
+    let named = sym c.in-None.is ∙ c.family_numbered.ensures in
+    record { answer = rw (← named) (c.length_answer-in-None.ensures ∙ ap (λ x. length_answer (length_by (Err x))) c.no_family.ensures); buffer = rw (← named) (refl) }

@@ -4,10 +4,10 @@ use Rattle.sheet.specs.Calls.{found_by}
 use Rattle.pim.specs.Stored.{sheet_answer}
 use Rattle.pim.proofs.stored.sheet_answer.Goals as goal
 
-pub returns-in-Entries : goal.returns-in-Entries
+pub returns-in-Ok : goal.returns-in-Ok
 unfolding sheet_answer found_by
-returns-in-Entries c = rw (c.in-Entries.is, c.accepted.ensures)
+returns-in-Ok c = rw (c.in-Ok.is, c.accepted.ensures)
 
-pub returns-in-Refused : goal.returns-in-Refused
+pub returns-in-Err : goal.returns-in-Err
 unfolding sheet_answer found_by
-returns-in-Refused c = rw (c.in-Refused.is, c.no_counts.ensures)
+returns-in-Err c = rw (c.in-Err.is, c.from.ensures, c.no_counts.ensures)

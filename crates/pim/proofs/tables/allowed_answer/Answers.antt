@@ -4,10 +4,10 @@ use Rattle.neighbours.specs.Answers.{packing_by}
 use Rattle.pim.specs.Answers.{allowed_answer}
 use Rattle.pim.proofs.tables.allowed_answer.Goals as goal
 
-pub returns-in-Allowed : goal.returns-in-Allowed
+pub returns-in-Ok : goal.returns-in-Ok
 unfolding allowed_answer packing_by
-returns-in-Allowed c = rw (c.in-Allowed.is, c.accepted.ensures)
+returns-in-Ok c = rw (c.in-Ok.is, c.accepted.ensures)
 
-pub returns-in-Refused : goal.returns-in-Refused
+pub returns-in-Err : goal.returns-in-Err
 unfolding allowed_answer packing_by
-returns-in-Refused c = rw c.in-Refused.is
+returns-in-Err c = rw (c.in-Err.is, c.from.ensures)

@@ -4,10 +4,10 @@ use Rattle.neighbours.specs.Answers.{elected_by}
 use Rattle.pim.specs.Answers.{elect_answer}
 use Rattle.pim.proofs.tables.elect_answer.Goals as goal
 
-pub returns-in-Is : goal.returns-in-Is
+pub returns-in-Ok : goal.returns-in-Ok
 unfolding elect_answer elected_by
-returns-in-Is c = rw (c.in-Is.is, c.accepted.ensures)
+returns-in-Ok c = rw (c.in-Ok.is, c.accepted.ensures)
 
-pub returns-in-Refused : goal.returns-in-Refused
+pub returns-in-Err : goal.returns-in-Err
 unfolding elect_answer elected_by
-returns-in-Refused c = rw c.in-Refused.is
+returns-in-Err c = rw (c.in-Err.is, c.from.ensures)

@@ -5,4 +5,4 @@ use Rattle.pim.proofs.tables.not_changed.Goals as goal
 
 pub returns : goal.returns
 unfolding table_answer
-returns c = rw c.no_family.ensures
+returns c = rw (c.from.ensures, c.no_family.ensures)

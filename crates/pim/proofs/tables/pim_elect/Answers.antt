@@ -2,19 +2,19 @@
 -- Assumes nothing.
 use mathlib.Core.Path.{sym, ap, ◌∙◌}
 use Rattle.neighbours.specs.Answers.{elected_by}
-use Rattle.neighbours.specs.declared.Elected.TheVariants.{Refused}
 use Rattle.pim.specs.Answers.{elect_answer}
-use Rattle.pim.specs.Families.{family_by, of_family}
+use Rattle.pim.specs.Families.{of_family}
 use Rattle.pim.proofs.tables.pim_elect.Goals as goal
+use Rattle.std.specs.Prelude.{Err}
 
-pub returns-in-Is : goal.returns-in-Is
-unfolding family_by of_family
-returns-in-Is c =
-    let named = ap family_by (sym c.in-Is.is) ∙ c.family_numbered-f.ensures in
+pub returns-in-Some : goal.returns-in-Some
+unfolding of_family
+returns-in-Some c =
+    let named = sym c.in-Some.is ∙ c.family_numbered.ensures in
     rw (← named) (c.elect_answer.ensures ∙ ap elect_answer c.elect.ensures)
 
-pub returns-in-Neither : goal.returns-in-Neither
-unfolding family_by of_family elected_by
-returns-in-Neither c =
-    let named = ap family_by (sym c.in-Neither.is) ∙ c.family_numbered-f.ensures in
-    rw (← named) (c.elect_answer-in-Neither.ensures ∙ ap (λ x. elect_answer (elected_by (Refused x))) c.no_family.ensures)
+pub returns-in-None : goal.returns-in-None
+unfolding of_family elected_by
+returns-in-None c =
+    let named = sym c.in-None.is ∙ c.family_numbered.ensures in
+    rw (← named) (c.elect_answer-in-None.ensures ∙ ap (λ x. elect_answer (elected_by (Err x))) c.no_family.ensures)

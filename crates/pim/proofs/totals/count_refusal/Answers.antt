@@ -4,10 +4,10 @@ use Rattle.counters.specs.Counting.{answer_of}
 use Rattle.pim.specs.Answers.{refusal_of}
 use Rattle.pim.proofs.totals.count_refusal.Goals as goal
 
-pub returns-in-Added : goal.returns-in-Added
+pub returns-in-Ok : goal.returns-in-Ok
 unfolding refusal_of answer_of
-returns-in-Added c = rw (c.in-Added.is, c.accepted.ensures)
+returns-in-Ok c = rw (c.in-Ok.is, c.accepted.ensures)
 
-pub returns-in-Refused : goal.returns-in-Refused
+pub returns-in-Err : goal.returns-in-Err
 unfolding refusal_of answer_of
-returns-in-Refused c = rw c.in-Refused.is
+returns-in-Err c = rw (c.in-Err.is, c.from.ensures)

@@ -21,7 +21,7 @@ unfolding finishing into_buffer length_by refuse_if ◌>>◌
 returns-then-d-size c =
     let a = c.args in
     let short = lt-ltb (length a.d.now) (length (attribute_octets a.a)) (omega (arith, c.if-d-size.true, long (goal.at.returns-then-d-size c).After-sizes_of-size)) in
-    record { answer = rw short; buffer = rw short }
+    record { answer = rw (c.at.ensures, short); buffer = rw short }
 
 pub returns : goal.returns
 unfolding finishing into_buffer length_by refuse_if ◌>>◌

@@ -1,8 +1,8 @@
 -- `popcount::tally::count_all` meets its contract.
 -- Assumes nothing.
-use mathlib.Core.Path.{sym, ap, ◌∙◌}
+use mathlib.Core.Path.{sym}
 use native.Mathlib.Omega.{arith}
-use Rattle.attributes.specs.Answers.{read_by}
+use Rattle.format.proofs.Refusals.{handed_up}
 use Rattle.popcount.specs.Tally.{tallied}
 use Rattle.popcount.proofs.SoFar.{attribute_next, so_far_start, so_far_next, so_far_bad, so_far_end}
 use Rattle.popcount.proofs.tally.count_all.Goals as goal
@@ -11,23 +11,16 @@ pub loop-at-init : goal.loop-at-init
 loop-at-init c = so_far_start c.args.o.now c.begin-t.result
 
 pub loop-at-smaller : goal.loop-at-smaller
-unfolding read_by
-loop-at-smaller c =
-    let o = c.args.o.now in
-    let read = sym c.read_attribute-f.ensures ∙ ap read_by c.in-Is.is in
-    omega (arith, attribute_next o c.loop-at.at c.loop-at-test.true read)
+loop-at-smaller c = omega (arith, attribute_next c.args.o.now c.loop-at.at c.loop-at-test.true (sym c.in_ok-read.ensures))
 
 pub loop-at-preserved : goal.loop-at-preserved
-unfolding read_by
-loop-at-preserved c =
-    let read = sym c.read_attribute-f.ensures ∙ ap read_by c.in-Is.is in
-    rw c.count-t.ensures (so_far_next c.loop-at.invariant c.loop-at-test.true read)
+loop-at-preserved c = rw c.count-t.ensures (so_far_next c.loop-at.invariant c.loop-at-test.true (sym c.in_ok-read.ensures))
 
-pub returns-in-Refused : goal.returns-in-Refused
-unfolding read_by tallied
-returns-in-Refused c =
-    let read = sym c.read_attribute-f.ensures ∙ ap read_by c.in-Refused.is in
-    sym (so_far_bad c.args.own c.begin-t.ensures c.loop-at.invariant c.loop-at-test.true read)
+pub returns-in_err-read : goal.returns-in_err-read
+unfolding tallied
+returns-in_err-read c =
+    rw (handed_up c.from_residual.result c.from_residual.ensures.1)
+    (sym (so_far_bad c.args.own c.begin-t.ensures c.loop-at.invariant c.loop-at-test.true (sym c.in_err-read.ensures)))
 
 pub returns : goal.returns
 unfolding tallied

@@ -33,7 +33,7 @@ returns-then-is_assert c =
     let h = fits (goal.at.returns-then-is_assert c).After-width in
     let octet : Octets m = λ i. (c.type_inv.m i).fits in
     let addresses = put_next a.d.now a.out f.front (g ++ s) c.put_front.ensures c.copy_two.ensures (omega (arith, c.front_size.ensures)) in
-    let copied = copied_past 8 m a.d.now a.word (a.word + 8) _ _ a.out (f.front ++ (g ++ s)) octet (omega arith) (omega arith) h.0 h.1 (rw (length-append, length-append, length_be, length_be) (omega (arith, c.front_size.ensures, c.width.ensures))) addresses c.copy8.ensures in
+    let copied = copied_past 8 m a.d.now a.word (a.word + 8) _ _ a.out (f.front ++ (g ++ s)) octet (omega arith) (omega arith) h.0 h.1 (rw (length-append, length-append, length_be, length_be) (omega (arith, c.front_size.ensures, c.width.ensures))) addresses c.copy.ensures in
     let parts = ap (λ (x : List _). (f.front ++ (g ++ s)) ++ x) (two_words m a.word octet h.0) ∙ (append_assoc f.front (g ++ s) _ ∙ ap (λ (x : List _). f.front ++ x) (append_assoc g s _)) in
     rw c.if-is_assert.true (copied ∙ ap (put a.d.now a.out) parts)
 

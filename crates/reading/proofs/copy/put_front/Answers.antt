@@ -19,10 +19,10 @@ pub returns-then-ipv6 : goal.returns-then-ipv6
 unfolding be
 returns-then-ipv6 c =
     let a = c.args in
-    rw c.if-ipv6.true (number_into 4 0x0200_0000 a.d.now a.out (a.out + 4) (omega arith) (room (goal.at.returns-then-ipv6 c).Then-ipv6) c.write32.ensures.buffer)
+    rw c.if-ipv6.true (number_into 4 0x0200_0000 a.d.now a.out (a.out + 4) (omega arith) (room (goal.at.returns-then-ipv6 c).Then-ipv6) c.write.ensures.buffer)
 
 pub returns : goal.returns
 unfolding be
 returns c =
     let a = c.args in
-    rw c.if-ipv6.false (number_into 4 0x0100_0000 a.d.now a.out (a.out + 4) (omega arith) (room_2 (goal.at.returns c).Else-ipv6) c.write32-2.ensures.buffer)
+    rw c.if-ipv6.false (number_into 4 0x0100_0000 a.d.now a.out (a.out + 4) (omega arith) (room_2 (goal.at.returns c).Else-ipv6) c.write-2.ensures.buffer)

@@ -9,4 +9,4 @@ pub returns : goal.returns
 returns c =
     let a = c.args in
     ap (λ (n : Counters). n.received)
-    (c.counted-after.ensures.counters ∙ counted_received a.accepted a.kind a.records c.received-c.ensures c.kind_number.ensures)
+    (c.counted-after.ensures.counters ∙ counted_received a.accepted a.kind a.records c.received-c.ensures c.from.ensures)

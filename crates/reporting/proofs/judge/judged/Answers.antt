@@ -3,20 +3,22 @@
 use mathlib.Core.Path.{sym, ap, ◌∙◌}
 use Rattle.format.specs.Family.{ipv4}
 use Rattle.format.specs.Header.{header}
+use Rattle.format.proofs.Refusals.{handed_up}
 use Rattle.headers.specs.Answers.{headed}
 use Rattle.reporting.specs.Answers.{judged_by}
 use Rattle.reporting.proofs.Judged.{judged_kind, judged_none}
 use Rattle.reporting.proofs.judge.judged.Goals as goal
 
-pub returns-in-Refused : goal.returns-in-Refused
+pub returns-in_err-kind : goal.returns-in_err-kind
 unfolding headed judged_by
-returns-in-Refused c =
+returns-in_err-kind c =
     let m = c.args.m.now in
-    sym (judged_none m _ _ (ap (λ p. header ipv4 p m) (sym c.nowhere.ensures) ∙ sym c.header-h.ensures ∙ ap headed c.in-Refused.is))
+    rw (handed_up c.from_residual.result c.from_residual.ensures.1)
+    (sym (judged_none m _ _ (ap (λ p. header ipv4 p m) (sym c.nowhere.ensures) ∙ sym c.in_err-kind.ensures)))
 
-pub returns-in-Is : goal.returns-in-Is
+pub returns : goal.returns
 unfolding headed
-returns-in-Is c =
+returns c =
     let m = c.args.m.now in
-    let k = ap (λ p. header ipv4 p m) (sym c.nowhere.ensures) ∙ sym c.header-h.ensures ∙ ap headed c.in-Is.is in
+    let k = ap (λ p. header ipv4 p m) (sym c.nowhere.ensures) ∙ sym c.in_ok-kind.ensures in
     c.judged_as.ensures k ∙ sym (judged_kind m _ k)

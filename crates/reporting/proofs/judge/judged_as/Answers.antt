@@ -1,38 +1,44 @@
 -- `reporting::judge::judged_as` meets its contract: by the kind, what its reading call would accept.
 -- Assumes nothing.
-use mathlib.Core.Path.{sym, ap, ◌∙◌}
-use Rattle.format.specs.Outcome.{gives}
-use Rattle.reporting.specs.Judging.{judged_as}
-use Rattle.reporting.specs.Answers.{heard_of}
-use Rattle.reporting.proofs.Judged.{by_asserts, by_pairs, by_checked}
+use mathlib.Core.Path.{ap, ◌∙◌}
+use Rattle.format.specs.Outcome.{gives, ◌>>◌}
+use Rattle.format.proofs.Refusals.{handed_up}
+use Rattle.hello.specs.Answers.{checked}
+use Rattle.counting.specs.Counts.{counted}
+use Rattle.reporting.specs.Answers.{judged_by, count_of, heard_of}
+use Rattle.reporting.proofs.Judged.{as_asserts, as_pairs, by_checked}
 use Rattle.reporting.proofs.judge.judged_as.Goals as goal
 
 -- the kind in question is the one that the arm names
-pub returns-in-Hello : goal.returns-in-Hello
-returns-in-Hello c h =
-    c.by_options.ensures ∙ ap heard_of c.check_options.ensures ∙ by_checked c.args.m.now (h ∙ ap gives c.in-Hello.is) ∙ ap (λ x. judged_as x c.args.m.now) (sym c.in-Hello.is)
+pub returns-in_ok-check_options-in-Hello : goal.returns-in_ok-check_options-in-Hello
+unfolding judged_by checked heard_of ◌>>◌
+returns-in_ok-check_options-in-Hello c h =
+    let m = c.args.m.now in
+    rw c.in-Hello.is (ap heard_of c.in_ok-check_options-in-Hello.ensures ∙ by_checked m (h ∙ ap gives c.in-Hello.is))
 
-pub returns-in-Assert : goal.returns-in-Assert
-unfolding judged_as
-returns-in-Assert c h =
-    c.by_count.ensures ∙ by_asserts c.args.kind c.args.m.now h c.count_asserts.ensures ∙ rw c.in-Assert.is
+pub returns-in_err-check_options-in-Hello : goal.returns-in_err-check_options-in-Hello
+unfolding judged_by checked heard_of ◌>>◌
+returns-in_err-check_options-in-Hello c h =
+    let m = c.args.m.now in
+    rw (handed_up c.from_residual.result c.from_residual.ensures.1, c.in-Hello.is)
+    (ap heard_of c.in_err-check_options-in-Hello.ensures ∙ by_checked m (h ∙ ap gives c.in-Hello.is))
 
-pub returns-in-Simple : goal.returns-in-Simple
-unfolding judged_as
-returns-in-Simple c h =
-    c.by_count-in-Simple.ensures ∙ by_asserts c.args.kind c.args.m.now h c.count_asserts-in-Simple.ensures ∙ rw c.in-Simple.is
+pub returns-in_ok-count_asserts-in-Assert : goal.returns-in_ok-count_asserts-in-Assert
+unfolding judged_by count_of counted
+returns-in_ok-count_asserts-in-Assert c h = as_asserts c.args.m.now c.in-Assert.is h c.in_ok-count_asserts-in-Assert.ensures
 
-pub returns-in-Aggregated : goal.returns-in-Aggregated
-unfolding judged_as
-returns-in-Aggregated c h =
-    c.by_count-in-Aggregated.ensures ∙ by_asserts c.args.kind c.args.m.now h c.count_asserts-in-Aggregated.ensures ∙ rw c.in-Aggregated.is
+pub returns-in_err-count_asserts-in-Assert : goal.returns-in_err-count_asserts-in-Assert
+unfolding judged_by count_of counted
+returns-in_err-count_asserts-in-Assert c h =
+    let r = c.from_residual-in_err-count_asserts-in-Assert in
+    rw (handed_up r.result r.ensures.1) (as_asserts c.args.m.now c.in-Assert.is h c.in_err-count_asserts-in-Assert.ensures)
 
-pub returns-in-NullRegister : goal.returns-in-NullRegister
-unfolding judged_as
-returns-in-NullRegister c h =
-    c.by_count-in-NullRegister.ensures ∙ by_pairs c.args.kind c.args.m.now h c.count_pairs.ensures ∙ rw c.in-NullRegister.is
+pub returns-in_ok-records-in-NullRegister : goal.returns-in_ok-records-in-NullRegister
+unfolding judged_by count_of counted
+returns-in_ok-records-in-NullRegister c h = as_pairs c.args.m.now c.in-NullRegister.is h c.in_ok-records-in-NullRegister.ensures
 
-pub returns-in-RegisterStop : goal.returns-in-RegisterStop
-unfolding judged_as
-returns-in-RegisterStop c h =
-    c.by_count-in-RegisterStop.ensures ∙ by_pairs c.args.kind c.args.m.now h c.count_pairs-in-RegisterStop.ensures ∙ rw c.in-RegisterStop.is
+pub returns-in_err-records-in-NullRegister : goal.returns-in_err-records-in-NullRegister
+unfolding judged_by count_of counted
+returns-in_err-records-in-NullRegister c h =
+    let r = c.from_residual-in_err-records-in-NullRegister in
+    rw (handed_up r.result r.ensures.1) (as_pairs c.args.m.now c.in-NullRegister.is h c.in_err-records-in-NullRegister.ensures)

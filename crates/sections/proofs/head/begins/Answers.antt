@@ -11,12 +11,12 @@ returns-in-Base c = rw c.in-Base.is refl
 
 pub returns-in-Large : goal.returns-in-Large
 unfolding begins value
-returns-in-Large c = rw (c.in-Large.is, c.number32.ensures) refl
+returns-in-Large c = rw (c.in-Large.is, c.number.ensures) refl
 
 pub returns-in-Ipv4 : goal.returns-in-Ipv4
 unfolding begins value
-returns-in-Ipv4 c = rw (c.in-Ipv4.is, c.number32-in-Ipv4.ensures) refl
+returns-in-Ipv4 c = rw (c.in-Ipv4.is, c.number-in-Ipv4.ensures) refl
 
 pub returns-in-Ipv6 : goal.returns-in-Ipv6
 unfolding begins value
-returns-in-Ipv6 c = rw (c.in-Ipv6.is, c.number32-in-Ipv6.ensures) refl
+returns-in-Ipv6 c = rw (c.in-Ipv6.is, c.number-in-Ipv6.ensures) refl

@@ -1,5 +1,5 @@
 -- `sections::section::check_rows` meets its contract. The loop's invariant: the rows left say what all say, and the last octets of the addresses before
--- are marked. The measure is the rows left.
+-- are marked.
 -- Assumes nothing.
 use mathlib.Core.Path.{◌≡◌, refl, ap, ◌∙◌}
 use Prim.Native.Nat.{◌+◌, ◌*◌, ◌≤◌}
@@ -49,7 +49,8 @@ row_fits-requires c = (
 pub returns-then-not-row_fits : goal.returns-then-not-row_fits
 unfolding section_by
 returns-then-not-row_fits c =
-    ap (refuses 14) (place (goal.at.returns-then-not-row_fits c).In-loop-i) ∙ rows_bad c.loop-i.invariant.0 c.row_fits.ensures c.loop-i-test.true c.if-not-row_fits.true
+    rw c.at.ensures
+    (ap (refuses 14) (place (goal.at.returns-then-not-row_fits c).In-loop-i) ∙ rows_bad c.loop-i.invariant.0 c.row_fits.ensures c.loop-i-test.true c.if-not-row_fits.true)
 
 pub loop-i-preserved : goal.loop-i-preserved
 loop-i-preserved c = (

@@ -1,7 +1,6 @@
 -- `sections::section::check_rows` meets its contract. The loop's invariant: the rows left say what all say, and the last octets of the addresses before
--- are marked. The measure is the rows left.
+-- are marked.
 -- Assumes nothing.
-use Prim.Native.Nat.{◌-◌}
 use Rattle.entries.specs.Kinds.{family_with}
 use Rattle.neighbours.proofs.Slots.{Marked}
 use Rattle.sections.specs.Sections.{earlier_rows}
@@ -10,6 +9,3 @@ use Rattle.sections.proofs.section.check_rows.Given as goal
 
 abbrev pub invariant-loop-i : goal.invariant-loop-i
 invariant-loop-i l = RowsLeft (family_with l.ipv6 l.prefixed) l.o l.from l.count l.i × Marked (earlier_rows (family_with l.ipv6 l.prefixed) l.o l.from l.i) l.met
-
-abbrev pub decreases-loop-i : goal.decreases-loop-i
-decreases-loop-i l = l.count - l.i

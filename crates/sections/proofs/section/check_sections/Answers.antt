@@ -1,5 +1,6 @@
 -- `sections::section::check_sections` meets its contract, section by section.
 -- Assumes nothing.
+use Rattle.format.proofs.Refusals.{handed_up}
 use mathlib.Core.Path.{◌≡◌, sym, ap, ◌∙◌}
 use Prim.Native.Nat.{◌+◌, ◌*◌}
 use native.Mathlib.Omega.{arith}
@@ -27,29 +28,31 @@ parts c = places_are (layout_of c.args.form) (family_with c.ipv6_in-ipv6.result 
 total : (c : After-places_of-from) → length c.args.o.now ≡ c.places_of-from.result.end
 total c = c.requires.1 ∙ sym (end_place (layout_of c.args.form) (family_in c.args.form) c.args.c c.requires.0 c.places_of-from.ensures)
 
-pub returns-in_default : goal.returns-in_default
-returns-in_default c =
-    sections_asserts (layout_of c.args.form) (family_with c.ipv6_in-ipv6.result c.prefixed_in-prefixed.result) c.args.o.now c.args.c (asserts_place (layout_of c.args.form) (family_with c.ipv6_in-ipv6.result c.prefixed_in-prefixed.result) c.args.c c.requires.0 (places (goal.at.returns-in_default c).After-places_of-from)) c.check_entries-a.ensures c.in_default.is
-    ∙ ap (λ f. check_sections (layout_of c.args.form) f c.args.o.now c.args.c) (named (goal.at.returns-in_default c).After-places_of-from)
+pub returns-in_err-check_entries : goal.returns-in_err-check_entries
+returns-in_err-check_entries c =
+    rw (handed_up c.from_residual.result c.from_residual.ensures.1)
+    (sections_asserts (layout_of c.args.form) (family_with c.ipv6_in-ipv6.result c.prefixed_in-prefixed.result) c.args.o.now c.args.c (asserts_place (layout_of c.args.form) (family_with c.ipv6_in-ipv6.result c.prefixed_in-prefixed.result) c.args.c c.requires.0 (places (goal.at.returns-in_err-check_entries c).After-places_of-from)) c.check_entries.ensures c.in_err-check_entries.was
+    ∙ ap (λ f. check_sections (layout_of c.args.form) f c.args.o.now c.args.c) (named (goal.at.returns-in_err-check_entries c).After-places_of-from))
 
-pub returns-in_default-p : goal.returns-in_default-p
-returns-in_default-p c =
-    sections_pairs (layout_of c.args.form) (family_with c.ipv6_in-ipv6.result c.prefixed_in-prefixed.result) c.args.o.now c.args.c (asserts_place (layout_of c.args.form) (family_with c.ipv6_in-ipv6.result c.prefixed_in-prefixed.result) c.args.c c.requires.0 (places (goal.at.returns-in_default-p c).After-places_of-from)) c.check_entries-a.ensures c.in-Sound.is
-    (pairs_place (layout_of c.args.form) (family_with c.ipv6_in-ipv6.result c.prefixed_in-prefixed.result) c.args.c c.requires.0 (places (goal.at.returns-in_default-p c).After-places_of-from)) c.check_entries-p.ensures c.in_default-p.is
-    ∙ ap (λ f. check_sections (layout_of c.args.form) f c.args.o.now c.args.c) (named (goal.at.returns-in_default-p c).After-places_of-from)
+pub returns-in_err-check_entries-2 : goal.returns-in_err-check_entries-2
+returns-in_err-check_entries-2 c =
+    rw (handed_up c.from_residual-in_err-check_entries-2.result c.from_residual-in_err-check_entries-2.ensures.1)
+    (sections_pairs (layout_of c.args.form) (family_with c.ipv6_in-ipv6.result c.prefixed_in-prefixed.result) c.args.o.now c.args.c (asserts_place (layout_of c.args.form) (family_with c.ipv6_in-ipv6.result c.prefixed_in-prefixed.result) c.args.c c.requires.0 (places (goal.at.returns-in_err-check_entries-2 c).After-places_of-from)) c.check_entries.ensures c.in_ok-check_entries.was
+    (pairs_place (layout_of c.args.form) (family_with c.ipv6_in-ipv6.result c.prefixed_in-prefixed.result) c.args.c c.requires.0 (places (goal.at.returns-in_err-check_entries-2 c).After-places_of-from)) c.check_entries-2.ensures c.in_err-check_entries-2.was
+    ∙ ap (λ f. check_sections (layout_of c.args.form) f c.args.o.now c.args.c) (named (goal.at.returns-in_err-check_entries-2 c).After-places_of-from))
 
 pub returns : goal.returns
 returns c =
-    sections_rows (layout_of c.args.form) (family_with c.ipv6_in-ipv6.result c.prefixed_in-prefixed.result) c.args.o.now c.args.c (asserts_place (layout_of c.args.form) (family_with c.ipv6_in-ipv6.result c.prefixed_in-prefixed.result) c.args.c c.requires.0 (places (goal.at.returns c).After-places_of-from)) c.check_entries-a.ensures c.in-Sound.is
-    (pairs_place (layout_of c.args.form) (family_with c.ipv6_in-ipv6.result c.prefixed_in-prefixed.result) c.args.c c.requires.0 (places (goal.at.returns c).After-places_of-from)) c.check_entries-p.ensures c.in-Sound-p.is
+    sections_rows (layout_of c.args.form) (family_with c.ipv6_in-ipv6.result c.prefixed_in-prefixed.result) c.args.o.now c.args.c (asserts_place (layout_of c.args.form) (family_with c.ipv6_in-ipv6.result c.prefixed_in-prefixed.result) c.args.c c.requires.0 (places (goal.at.returns c).After-places_of-from)) c.check_entries.ensures c.in_ok-check_entries.was
+    (pairs_place (layout_of c.args.form) (family_with c.ipv6_in-ipv6.result c.prefixed_in-prefixed.result) c.args.c c.requires.0 (places (goal.at.returns c).After-places_of-from)) c.check_entries-2.ensures c.in_ok-check_entries-2.was
     (rows_place (layout_of c.args.form) (family_with c.ipv6_in-ipv6.result c.prefixed_in-prefixed.result) c.args.c c.requires.0 (places (goal.at.returns c).After-places_of-from)) c.check_rows.ensures
     ∙ ap (λ f. check_sections (layout_of c.args.form) f c.args.o.now c.args.c) (named (goal.at.returns c).After-places_of-from)
 
 pub check_rows-requires : goal.check_rows-requires
 check_rows-requires c = omega (arith, total (goal.at.check_rows-requires c).After-places_of-from, parts (goal.at.check_rows-requires c).After-places_of-from)
 
-pub check_entries-a-requires : goal.check_entries-a-requires
-check_entries-a-requires c = omega (arith, total (goal.at.check_entries-a-requires c).After-places_of-from, parts (goal.at.check_entries-a-requires c).After-places_of-from)
+pub check_entries-requires : goal.check_entries-requires
+check_entries-requires c = omega (arith, total (goal.at.check_entries-requires c).After-places_of-from, parts (goal.at.check_entries-requires c).After-places_of-from)
 
-pub check_entries-p-requires : goal.check_entries-p-requires
-check_entries-p-requires c = omega (arith, total (goal.at.check_entries-p-requires c).After-places_of-from, parts (goal.at.check_entries-p-requires c).After-places_of-from)
+pub check_entries-requires-2 : goal.check_entries-requires-2
+check_entries-requires-2 c = omega (arith, total (goal.at.check_entries-requires-2 c).After-places_of-from, parts (goal.at.check_entries-requires-2 c).After-places_of-from)

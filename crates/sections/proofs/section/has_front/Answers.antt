@@ -10,7 +10,7 @@ use Rattle.sections.proofs.section.has_front.Goals as goal
 pub returns-then-prefixed : goal.returns-then-prefixed
 returns-then-prefixed c =
     rw c.front_word.ensures
-    (ap (λ x. eqb x (value (family_of c.args.ipv6).front)) c.number32.ensures ∙ front_word c.args.ipv6 c.args.prefixed c.args.o.now c.args.at c.if-prefixed.true)
+    (ap (λ x. eqb x (value (family_of c.args.ipv6).front)) c.number.ensures ∙ front_word c.args.ipv6 c.args.prefixed c.args.o.now c.args.at c.if-prefixed.true)
 
 pub returns : goal.returns
 returns c = front_none c.args.ipv6 c.args.prefixed c.args.o.now c.args.at c.if-prefixed.false

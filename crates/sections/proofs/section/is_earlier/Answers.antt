@@ -1,5 +1,5 @@
 -- `sections::section::is_earlier` meets its contract. The loop goes from the last row to the first; its invariant says that the rows before the present
--- one decide. The measure is the rows left.
+-- one decide.
 -- Assumes nothing.
 use mathlib.Core.Path.{◌≡◌, ap, ◌∙◌}
 use Prim.Native.Nat.{suc, ◌+◌, ◌*◌, ◌-◌, ◌≤◌}

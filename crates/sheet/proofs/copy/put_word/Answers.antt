@@ -8,4 +8,4 @@ use Rattle.sheet.proofs.copy.put_word.Goals as goal
 pub returns : goal.returns
 returns c =
     let a = c.args in
-    number_into 4 a.word a.d.now a.at (a.at + 4) refl c.requires c.write32.ensures.buffer
+    number_into 4 a.word a.d.now a.at (a.at + 4) refl c.requires c.write.ensures.buffer

@@ -1,4 +1,4 @@
--- `sheet::copy::spread_of` meets its contract: the loop's invariant is `Spreading`. The measure is the entries left.
+-- `sheet::copy::spread_of` meets its contract: the loop's invariant is `Spreading`.
 -- Assumes nothing.
 use mathlib.Core.Path.{refl}
 use Rattle.sheet.proofs.Copies.{spreading_start, spreading_next}

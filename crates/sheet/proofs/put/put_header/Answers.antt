@@ -56,6 +56,6 @@ pub returns : goal.returns
 returns c =
     let L = layout_of (form_by c.args.ipv6) in
     let f = family_of c.args.ipv6 in
-    header_written L f (written_header c.args.ipv6).1 c.form_word.result c.form_word.ensures c.args.c c.args.d.now (c.write32.ensures.buffer ∙ number_fits 4 _ 0 _ (omega (arith, c.requires.0)))
+    header_written L f (written_header c.args.ipv6).1 c.form_word.result c.form_word.ensures c.args.c c.args.d.now (c.write.ensures.buffer ∙ number_fits 4 _ 0 _ (omega (arith, c.requires.0)))
     c.put_pair.ensures c.put_pair-2.ensures c.put_pair-3.ensures
     (asserts_place L f c.args.c c.requires.1 (places (goal.at.returns c).After-places_of-s)) (pairs_place L f c.args.c c.requires.1 (places (goal.at.returns c).After-places_of-s)) (rows_place L f c.args.c c.requires.1 (places (goal.at.returns c).After-places_of-s))

@@ -9,5 +9,5 @@ use Rattle.sheet.proofs.put.put_pair.Goals as goal
 pub returns : goal.returns
 returns c =
     let a = c.args in
-    written_next 4 a.d.now a.at _ _ 4 c.write32.ensures.buffer c.requires refl (λ h.
-    c.write32-2.ensures.buffer ∙ number_fits 4 _ (a.at + 4) _ h)
+    written_next 4 a.d.now a.at _ _ 4 c.write.ensures.buffer c.requires refl (λ h.
+    c.write-2.ensures.buffer ∙ number_fits 4 _ (a.at + 4) _ h)

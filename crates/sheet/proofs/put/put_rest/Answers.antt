@@ -10,7 +10,7 @@ use Rattle.sheet.proofs.put.put_rest.Goals as goal
 pub returns : goal.returns
 returns c =
     rw (← c.flags_of.ensures)
-    (written_next 4 c.args.d.now c.args.at _ _ 4 c.write32.ensures.buffer c.requires refl (λ h.
-    written_next 1 _ (c.args.at + 4) _ _ 3 c.write8.ensures.buffer h (omega arith) (λ h.
-    written_next 1 _ (c.args.at + 5) _ _ 2 c.write8-2.ensures.buffer h (omega arith) (λ h.
-    c.write16.ensures.buffer ∙ number_fits 2 _ (c.args.at + 6) _ h))))
+    (written_next 4 c.args.d.now c.args.at _ _ 4 c.write.ensures.buffer c.requires refl (λ h.
+    written_next 1 _ (c.args.at + 4) _ _ 3 c.write-2.ensures.buffer h (omega arith) (λ h.
+    written_next 1 _ (c.args.at + 5) _ _ 2 c.write-3.ensures.buffer h (omega arith) (λ h.
+    c.write-4.ensures.buffer ∙ number_fits 2 _ (c.args.at + 6) _ h))))

@@ -1,4 +1,4 @@
--- `sheet::put::put_rows` meets its contract: the loop's invariant is `Rowing`. The measure is the rows left.
+-- `sheet::put::put_rows` meets its contract: the loop's invariant is `Rowing`.
 -- Assumes nothing.
 use Prim.Native.Nat.{◌+◌, ◌*◌, ◌≤◌}
 use native.Mathlib.Omega.{arith}

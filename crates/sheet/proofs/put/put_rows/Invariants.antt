@@ -1,12 +1,8 @@
--- `sheet::put::put_rows` meets its contract: the loop's invariant is `Rowing`. The measure is the rows left.
+-- `sheet::put::put_rows` meets its contract: the loop's invariant is `Rowing`.
 -- Assumes nothing.
-use Prim.Native.Nat.{◌-◌}
 use Rattle.sheet.proofs.Copies.{Rowing}
 use Rattle.format.specs.Family.{family_of}
 use Rattle.sheet.proofs.put.put_rows.Given as goal
 
 abbrev pub invariant-loop-i : goal.invariant-loop-i
-invariant-loop-i l = Rowing (family_of l.ipv6) l.table l.initial.d l.at l.d l.i
-
-abbrev pub decreases-loop-i : goal.decreases-loop-i
-decreases-loop-i l = l.count - l.i
+invariant-loop-i l = Rowing (family_of l.ipv6) l.fn.table l.initial.d l.at l.d l.i

@@ -56,7 +56,7 @@ returns-then-asserts-entry_size c =
     let long = asserts_room c.form_of-form.result c.args.o.now c.args.c (checks (goal.at.returns-then-asserts-entry_size c).After-form_of-form) c.ipv6_in-ipv6.ensures c.entry_size.ensures in
     let e = reads (goal.at.returns-then-asserts-entry_size c).After-form_of-form ∙ read_short c.form_of-form.result c.args.o.now c.args.asserts.now c.args.pairs.now c.args.c refl (omega (arith, long, c.if-asserts-entry_size.true)) in
     record {
-      found = rw e c.refused.ensures.found;
+      found = rw e (rw c.at.ensures at c.refused.ensures.found);
       table = rw e c.refused.ensures.table;
       asserts = rw e refl;
       pairs = rw e refl;
@@ -73,7 +73,7 @@ returns-then-pairs-entry_size c =
     let more = pairs_room c.form_of-form.result c.args.o.now c.args.c (checks (goal.at.returns-then-pairs-entry_size c).After-form_of-form) c.ipv6_in-ipv6.ensures c.entry_size-2.ensures in
     let e = reads (goal.at.returns-then-pairs-entry_size c).After-form_of-form ∙ read_short_pairs c.form_of-form.result c.args.o.now c.args.asserts.now c.args.pairs.now c.args.c refl (omega (arith, long, c.if-asserts-entry_size.false)) (omega (arith, more, c.if-pairs-entry_size.true)) in
     record {
-      found = rw e c.refused-then-pairs-entry_size.ensures.found;
+      found = rw e (rw c.at-then-pairs-entry_size.ensures at c.refused-then-pairs-entry_size.ensures.found);
       table = rw e c.refused-then-pairs-entry_size.ensures.table;
       asserts = rw e refl;
       pairs = rw e refl;

@@ -1,4 +1,4 @@
--- `sheet::read::gather` meets its contract: the loop's invariant is `Gathering`. The measure is the rows left.
+-- `sheet::read::gather` meets its contract: the loop's invariant is `Gathering`.
 -- Assumes nothing.
 use Prim.Native.Nat.{◌+◌, ◌*◌, ◌≤◌}
 use native.Mathlib.Omega.{arith}
@@ -24,4 +24,4 @@ pub loop-i-init : goal.loop-i-init
 loop-i-init c = gathering_start c.requires.0 c.requires.1 c.empty-table.ensures
 
 pub loop-i-preserved : goal.loop-i-preserved
-loop-i-preserved c = gathering_next c.loop-i.invariant c.loop-i-test.true c.row_at-row.ensures (place (goal.at.loop-i-preserved c).In-loop-i) refl
+loop-i-preserved c = gathering_next c.loop-i.invariant c.loop-i-test.true c.row_at.ensures (place (goal.at.loop-i-preserved c).In-loop-i) refl

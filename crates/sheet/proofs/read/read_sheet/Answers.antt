@@ -8,11 +8,11 @@ use Rattle.sheet.proofs.read.read_sheet.Goals as goal
 
 pub deliver-requires : goal.deliver-requires
 deliver-requires c =
-    (passed (is_ipv6 c.args.family) (form_of c.args.o.now) c.args.o.now _ (checked_gives c.args.family c.args.o.now c.check_sheet-x.ensures c.in-Valid.is)).1
+    (passed (is_ipv6 c.args.family) (form_of c.args.o.now) c.args.o.now _ (checked_gives c.args.family c.args.o.now c.check_sheet.ensures c.in-Ok.is)).1
 
-pub returns-in-Refused : goal.returns-in-Refused
-returns-in-Refused c =
-    let e = read_refused c.args.family c.args.o.now c.args.asserts.now c.args.pairs.now (checked_refuses c.args.family c.args.o.now c.check_sheet-x.ensures c.in-Refused.is) in
+pub returns-in-Err : goal.returns-in-Err
+returns-in-Err c =
+    let e = read_refused c.args.family c.args.o.now c.args.asserts.now c.args.pairs.now (checked_refuses c.args.family c.args.o.now c.check_sheet.ensures c.in-Err.is) in
     record {
       found = rw e c.refused.ensures.found;
       table = rw e c.refused.ensures.table;
@@ -20,9 +20,9 @@ returns-in-Refused c =
       pairs = rw e refl;
     }
 
-pub returns-in-Valid : goal.returns-in-Valid
-returns-in-Valid c =
-    let e = read_checked_lem c.args.family c.args.o.now c.args.asserts.now c.args.pairs.now (checked_gives c.args.family c.args.o.now c.check_sheet-x.ensures c.in-Valid.is) in
+pub returns-in-Ok : goal.returns-in-Ok
+returns-in-Ok c =
+    let e = read_checked_lem c.args.family c.args.o.now c.args.asserts.now c.args.pairs.now (checked_gives c.args.family c.args.o.now c.check_sheet.ensures c.in-Ok.is) in
     record {
       found = rw e c.deliver.ensures.found;
       table = rw e c.deliver.ensures.table;

@@ -43,40 +43,46 @@ long c all lists =
     (sym c.are_storable.ensures ∙ c.if-not-are_storable.false) (written_places c.args.ipv6 c.counts_of-c.result c.form_for.ensures c.places_of-n.ensures)
 
 pub returns-then-not-are_whole : goal.returns-then-not-are_whole
+unfolding length_by
 returns-then-not-are_whole c =
-    c.refused.ensures
-    ∙ sym (due_10 (layout_of (form_by c.args.ipv6)) (family_of c.args.ipv6) c.args.asserts.now c.args.pairs.now c.args.table c.args.room
-    (sym c.are_whole.ensures ∙ c.if-not-are_whole.true))
+    rw c.at.ensures
+    (sym (due_10 (layout_of (form_by c.args.ipv6)) (family_of c.args.ipv6) c.args.asserts.now c.args.pairs.now c.args.table c.args.room
+    (sym c.are_whole.ensures ∙ c.if-not-are_whole.true)))
 
 pub returns-then-not-are_storable : goal.returns-then-not-are_storable
+unfolding length_by
 returns-then-not-are_storable c =
-    c.refused-then-not-are_storable.ensures
-    ∙ sym (due_14 (layout_of (form_by c.args.ipv6)) (family_of c.args.ipv6) c.args.asserts.now c.args.pairs.now c.args.table c.args.room
-    (both (goal.at.returns-then-not-are_storable c).After-counts_of-c) (sym (kept (goal.at.returns-then-not-are_storable c).After-are_storable (full (goal.at.returns-then-not-are_storable c).Start)) ∙ c.if-not-are_storable.true))
+    rw c.at-then-not-are_storable.ensures
+    (sym (due_14 (layout_of (form_by c.args.ipv6)) (family_of c.args.ipv6) c.args.asserts.now c.args.pairs.now c.args.table c.args.room
+    (both (goal.at.returns-then-not-are_storable c).After-counts_of-c) (sym (kept (goal.at.returns-then-not-are_storable c).After-are_storable (full (goal.at.returns-then-not-are_storable c).Start)) ∙ c.if-not-are_storable.true)))
 
 pub returns-then-room-n : goal.returns-then-room-n
+unfolding length_by
 returns-then-room-n c =
     let all = full (goal.at.returns-then-room-n c).Start in
     let lists = both (goal.at.returns-then-room-n c).After-counts_of-c in
-    c.refused-then-room-n.ensures ∙ sym (due_8 (layout_of (form_by c.args.ipv6)) (family_of c.args.ipv6) c.args.asserts.now c.args.pairs.now c.args.table c.args.room
-    lists (fine (goal.at.returns-then-room-n c).Else-not-are_storable all) (long (goal.at.returns-then-room-n c).After-places_of-n all lists) c.if-room-n.true)
+    rw c.at-then-room-n.ensures
+    (sym (due_8 (layout_of (form_by c.args.ipv6)) (family_of c.args.ipv6) c.args.asserts.now c.args.pairs.now c.args.table c.args.room
+    lists (fine (goal.at.returns-then-room-n c).Else-not-are_storable all) (long (goal.at.returns-then-room-n c).After-places_of-n all lists) c.if-room-n.true))
 
 pub returns-then-not-all_allowed : goal.returns-then-not-all_allowed
+unfolding length_by
 returns-then-not-all_allowed c =
     let all = full (goal.at.returns-then-not-all_allowed c).Start in
     let lists = both (goal.at.returns-then-not-all_allowed c).After-counts_of-c in
-    c.refused-then-not-all_allowed.ensures
-    ∙ sym (due_7 (layout_of (form_by c.args.ipv6)) (family_of c.args.ipv6) c.args.asserts.now c.args.pairs.now c.args.table c.args.room
-    lists (fine (goal.at.returns-then-not-all_allowed c).Else-not-are_storable all) (long (goal.at.returns-then-not-all_allowed c).After-places_of-n all lists) c.if-room-n.false (seven_not c.all_allowed.result c.all_allowed.ensures (ap not c.if-not-all_allowed.true)))
+    rw c.at-then-not-all_allowed.ensures
+    (sym (due_7 (layout_of (form_by c.args.ipv6)) (family_of c.args.ipv6) c.args.asserts.now c.args.pairs.now c.args.table c.args.room
+    lists (fine (goal.at.returns-then-not-all_allowed c).Else-not-are_storable all) (long (goal.at.returns-then-not-all_allowed c).After-places_of-n all lists) c.if-room-n.false (seven_not c.all_allowed.result c.all_allowed.ensures (ap not c.if-not-all_allowed.true))))
 
 pub returns-then-not-all_allowed-2 : goal.returns-then-not-all_allowed-2
+unfolding length_by
 returns-then-not-all_allowed-2 c =
     let all = full (goal.at.returns-then-not-all_allowed-2 c).Start in
     let lists = both (goal.at.returns-then-not-all_allowed-2 c).After-counts_of-c in
-    c.refused-then-not-all_allowed-2.ensures
-    ∙ sym (due_7_pairs (layout_of (form_by c.args.ipv6)) (family_of c.args.ipv6) c.args.asserts.now c.args.pairs.now c.args.table c.args.room
+    rw c.at-then-not-all_allowed-2.ensures
+    (sym (due_7_pairs (layout_of (form_by c.args.ipv6)) (family_of c.args.ipv6) c.args.asserts.now c.args.pairs.now c.args.table c.args.room
     lists (fine (goal.at.returns-then-not-all_allowed-2 c).Else-not-are_storable all) (long (goal.at.returns-then-not-all_allowed-2 c).After-places_of-n all lists) c.if-room-n.false
-    (seven_fine c.all_allowed.result c.all_allowed.ensures (ap not c.if-not-all_allowed.false)) (seven_not c.all_allowed-2.result c.all_allowed-2.ensures (ap not c.if-not-all_allowed-2.true)))
+    (seven_fine c.all_allowed.result c.all_allowed.ensures (ap not c.if-not-all_allowed.false)) (seven_not c.all_allowed-2.result c.all_allowed-2.ensures (ap not c.if-not-all_allowed-2.true))))
 
 pub returns : goal.returns
 unfolding length_by

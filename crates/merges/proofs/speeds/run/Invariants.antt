@@ -1,9 +1,0 @@
--- The measure is the number of speeds left.
-use Rattle.std.proofs.Common.{◌-◌, ◌≤◌}
-use Rattle.merges.proofs.speeds.run.Given as goal
-
-abbrev pub invariant-loop-i : goal.invariant-loop-i
-invariant-loop-i g l = l.i ≤ 13
-
-abbrev pub decreases-loop-i : goal.decreases-loop-i
-decreases-loop-i g l = 13 - l.i

@@ -1,0 +1,10 @@
+-- `u32::of_octets` meets its contract: the sum spells the octets.
+-- Assumes nothing.
+use native.Mathlib.Omega.{arith}
+use Rattle.octets.specs.Octets.{value}
+use Rattle.octets.proofs.Laws.{value_is}
+use Rattle.octets.proofs.U32Unsigned.of_octets.Goals as goal
+
+pub returns : goal.returns
+unfolding value
+returns c = omega (arith, value_is 4 c.args.o.now c.requires)

@@ -1,6 +1,0 @@
--- The measure is the number of octets of the table that are left: the next case starts past this one.
-use Rattle.std.proofs.Common.{◌-◌, length}
-use Rattle.sheets.proofs.refusals.each_list.Given as goal
-
-abbrev pub decreases-loop-at : goal.decreases-loop-at
-decreases-loop-at g l = length l.cases - l.at
