@@ -171,7 +171,9 @@ fn three_begin(ipv6: bool, prefixed: bool, asserts: bool, e: &[u8], at: usize) -
 }
 
 // Past entries from a number on that are passed so, three in a turn: most lists are long, and few of their entries have to be looked at further. The
-// compiler makes a loop for each family and each size, as long as it is small; one loop for all took three times as long.
+// compiler makes a loop for each family and each size, as long as it is small; one loop for all took three times as long. It stands by itself, since inside
+// `up_to` it counts the entries left anew in each turn, and lists of pairs took up to a quarter more time.
+#[inline(never)]
 fn past<const IPV6: bool, const PREFIXED: bool, const ASSERTS: bool>(
     e: &[u8],
     from: usize,

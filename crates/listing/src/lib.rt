@@ -40,6 +40,8 @@ fn list_hello(out: &impl Print, family: AddressFamily, path: Path, m: &[u8]) -> 
     }
 }
 
+// The rooms of asserts and of pairs stand in frames of their own: in the caller's, every message would take the stack of both.
+#[inline(never)]
 fn list_asserts(out: &impl Print, family: AddressFamily, path: Path, m: &[u8]) -> bool {
     let mut entries = assert_room();
     let ipv6 = is_ipv6(family);
@@ -49,6 +51,7 @@ fn list_asserts(out: &impl Print, family: AddressFamily, path: Path, m: &[u8]) -
     }
 }
 
+#[inline(never)]
 fn list_pairs(out: &impl Print, family: AddressFamily, path: Path, m: &[u8]) -> bool {
     let mut entries = pair_room();
     let ipv6 = is_ipv6(family);

@@ -1,4 +1,4 @@
--- (Result ℕ Refusal) a sheet, by the tests that code makes.
+-- Writing a sheet, by the tests that code makes.
 --     length_sheet                          the octets of a sheet of whole lists
 --     whole_not, whole_both                 10: both lists are whole
 --     storable_yes, storable_no, storable_is, due_long                 14: no count is over its limit, and the table is valid; the length that is due

@@ -1,5 +1,6 @@
 -- Octets copied and numbers stored, as the code does it.
---     copied_over, copied_into          octets copied from a part into a part
+--     Copying                           where a loop that copies stands: copying_start, copying_there, copying_next, copying_end
+--     copied_into                       octets copied from a part into a part
 --     number_into, written_next         a number written into a part; one written where it fits, and what is written past it
 --     length_two, header_written        a header, by its three pairs
 --     halves_written, low_written, front_word, row_written     a row, by its parts
@@ -14,12 +15,12 @@ use native.Mathlib.Omega.{arith}
 use mathlib.Core.Path.{◌≡◌, refl, sym, ap, ◌∙◌}
 use mathlib.Core.Bool.{Bool, true, false, cond}
 use mathlib.Core.List.{List, [], ◌∷◌, ◌++◌, append_assoc, append-nil}
-use lib.ListN.{length, get_or, take, drop, length-append, length-drop, drop_of_length-le}
-use lib.Seq.{take-add, take_all, take-suc, drop-drop, length-take-le}
+use lib.ListN.{length, get_or, set, take, drop, length-append, length-drop, drop_of_length-le}
+use lib.Seq.{take-add, take_all, take-suc, drop-drop, drop-cons, length-take-le}
 use borrow.Rule.Slice.PartMut.{put_mid}
 use Rattle.octets.specs.Octets.{put, be, value, copied}
 use Rattle.octets.specs.Field.{fitted}
-use Rattle.octets.proofs.Laws.{length_be, be_value, be_above, be_two, put_nil, put_next, put_number_next, length_put, number_fits, length_fitted, copied_part}
+use Rattle.octets.proofs.Laws.{length_be, be_value, be_above, be_two, stores_put, put_nil, put_next, put_number_next, length_put, number_fits, length_fitted, copied_part}
 use Rattle.format.specs.Family.{Family, family_of}
 use Rattle.format.proofs.Families.{lawful}
 use Rattle.addresses.proofs.Laws.{front_four}
@@ -40,13 +41,41 @@ use Rattle.sheet.proofs.Rows.{length_row, length_rows}
 
 -- ---- octets copied
 
--- n octets, as `copy_from_slice` leaves them in a part
-pub copied_over : (n : ℕ) (s d : List ℕ) (from at : ℕ) {x : List ℕ} {k m : ℕ} → from + n ≤ length s → k ≡ n → m ≡ n → x ≡ take m (drop from s)
-    → put_mid at k d x ≡ put d at (take n (drop from s))
-unfolding put
-copied_over n s d from at there p q e =
-    let long : length (take n (drop from s)) ≡ n = length-take-le n (drop from s) (simp length-drop (omega arith)) in
-    rw (e, p, q, long, drop-drop) refl
+-- after i of n octets
+pub record Copying (s : List ℕ) (from n : ℕ) (d₀ : List ℕ) (at : ℕ) (d : List ℕ) (i : ℕ) : Type 0 where
+  pub there : from + n ≤ length s
+  pub room : at + n ≤ length d₀
+  pub within : i ≤ n
+  pub same : length d ≡ length d₀
+  pub gives : d ≡ put d₀ at (take i (drop from s))
+
+pub copying_start : {s : List ℕ} {from n : ℕ} {d : List ℕ} {at : ℕ} → from + n ≤ length s → at + n ≤ length d → Copying s from n d at d 0
+copying_start {d = d} {at} there room =
+    record { there = there; room = room; within = omega arith; same = refl; gives = sym (put_nil d at) }
+
+module _ {s : List ℕ} {from n : ℕ} {d₀ : List ℕ} {at : ℕ} {d : List ℕ} {i : ℕ} (c : Copying s from n d₀ at d i) where
+  pub copying_there : i < n → (from + i < length s) × (at + i < length d)
+  copying_there h = (omega (arith, c.there), omega (arith, c.room, c.same))
+
+  pub copying_next : {d' : List ℕ} {i' : ℕ} → i < n → d' ≡ set d (at + i) (get_or s (from + i) 0) → i' ≡ i + 1 → Copying s from n d₀ at d' i'
+  copying_next {d'} {i'} h p q =
+      let front : List ℕ = take i (drop from s) in
+      let next : List ℕ = get_or s (from + i) 0 ∷ [] in
+      let fits = copying_there h in
+      let long : length front ≡ i = length-take-le i (drop from s) (simp length-drop (omega (arith, fits.0))) in
+      let stored : d' ≡ put d (at + i) next = p ∙ stores_put d (at + i) next (omega (arith, fits.1)) in
+      let one : take 1 (drop (from + i) s) ≡ next = rw (drop-cons s (from + i) 0 fits.0) in
+      let joined : front ++ next ≡ take i' (drop from s) = rw (q, take-add i 1 (drop from s), drop-drop i from s, one) in
+      record {
+        there = c.there;
+        room = c.room;
+        within = omega arith;
+        same = ap length stored ∙ (length_put d (at + i) next (omega (arith, fits.1)) ∙ c.same);
+        gives = put_next d₀ at front next c.gives stored (omega (arith, long)) ∙ ap (put d₀ at) joined;
+      }
+
+  pub copying_end : n ≤ i → d ≡ put d₀ at (take n (drop from s))
+  copying_end h = let e : i ≡ n = omega (arith, c.within) in rw (← e) c.gives
 
 -- k octets from a part into a part
 pub copied_into : (k : ℕ) (s d : List ℕ) (from at : ℕ) {x : List ℕ} → from + k ≤ length s → at + k ≤ length d

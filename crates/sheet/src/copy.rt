@@ -10,12 +10,15 @@ use format::Kind;
 use octets::write;
 use sections::{Form, ipv6_in, prefixed_in};
 
-// n octets.
+// n octets. A loop and no `copy_from_slice`, which asks the C library for memmove: the archive needs no name more for a copy, and the compiler copies many octets
+// at a time here too.
 pub(crate) fn copy(s: &[u8], from: usize, n: usize, d: &mut [u8], at: usize)
     requires { (from + n ≤ length s.now) × (at + n ≤ length d.old) }
     ensures { d.new ≡ put d.old at (take n (drop from s.now)) }
 {
-    d[at..at + n].copy_from_slice(&s[from..from + n]);
+    for i in 0..n {
+        d[at + i] = s[from + i];
+    }
 }
 
 // A number over four octets. They are lent as a part: the compiler then knows that they are there.

@@ -1,10 +1,11 @@
--- `sheet::copy::copy` meets its contract: `copy_from_slice`, from a part into a part.
+-- `sheet::copy::copy` meets its contract: the loop's invariant is `Copying`.
 -- Assumes nothing.
-use native.Mathlib.Omega.{arith}
-use Rattle.sheet.proofs.Copies.{copied_over}
+use mathlib.Core.Path.{refl}
+use Rattle.sheet.proofs.Copies.{copying_start, copying_next}
 use Rattle.sheet.proofs.copy.copy.Goals as goal
 
-pub returns : goal.returns
-returns c =
-    let a = c.args in
-    copied_over a.n a.s.now a.d.now a.from a.at c.requires.0 (omega arith) (omega arith) c.copy_from_slice.ensures.after
+pub loop-i-init : goal.loop-i-init
+loop-i-init c = copying_start c.requires.0 c.requires.1
+
+pub loop-i-preserved : goal.loop-i-preserved
+loop-i-preserved c = copying_next c.loop-i.invariant c.loop-i-test.true refl refl
