@@ -15,7 +15,6 @@ use borrow.Author.Tests.{eq-eqb, ne_eqb, eqb-true, eqb-false, leb-false}
 use lib.Dec.{eqb, leb}
 use lib.ListN.{length, take, drop}
 use Rattle.octets.specs.Octets.{Octets, number_at}
-use Rattle.octets.specs.Field.{ignored}
 use Rattle.std.specs.Prelude.{Option as Maybe, Some, None, is_some as is_there}
 use Rattle.std.specs.Bool.{then_some}
 use Rattle.octets.proofs.Laws.{number_split, number_there, number_back, field_short}
@@ -62,14 +61,14 @@ pub value_refused : (first : ℕ) (s : Said) (k : Known) (n : ℕ) (o : List ℕ
 unfolding option_value refuse ◌>>◌ continue
 value_refused first s k n o at e = rw e
 
--- the code skipped the value, and s' is said with it
-value_taken : (first : ℕ) (s : Said) (k : Known) (n : ℕ) (o : List ℕ) (at : ℕ) (s' : Said) → against s k n ≡ false
-    → s' ≡ hear s k (take n (drop at o)) → taken s' (ignored n o at) ≡ option_value first s k n o at
-unfolding taken ignored option_value refuse octets give ◌>>◌ ◌>>=◌ continue
-value_taken first s k n o at s' e f = rw e (go (leb (at + n) (length o)))
+-- whatever number w a reader makes of the octets
+value_taken : (first : ℕ) (s : Said) (k : Known) (n : ℕ) (o : List ℕ) (at : ℕ) (w : List ℕ → ℕ) (s' : Said) → against s k n ≡ false
+    → s' ≡ hear s k (take n (drop at o)) → taken s' (continue (octets n o at) (λ x next. got (w x) next)) ≡ option_value first s k n o at
+unfolding taken option_value refuse octets give ◌>>◌ ◌>>=◌ continue
+value_taken first s k n o at w s' e f = rw e (go (leb (at + n) (length o)))
   where
     go : (l : Bool)
-        → continue (continue {B = ℕ} (cond l (got (take n (drop at o)) (at + n)) (bad 6 at)) (λ x next. got 0 next)) (λ x next. got s' next)
+        → continue (continue (cond l (got (take n (drop at o)) (at + n)) (bad 6 at)) (λ x next. got (w x) next)) (λ x next. got s' next)
         ≡ continue (cond l (got (take n (drop at o)) (at + n)) (bad 6 at)) (λ v next. got (hear s k v) next)
     go true = ap (λ (x : Said). got x (at + n)) f
     go false = refl
@@ -201,19 +200,20 @@ module _ {o : List ℕ} {at h next : ℕ} (d : Head o at h next) (s : Said) wher
   pub option_refused : (k : Known) {r : Bool} → k ≡ beginning h → r ≡ refused_as s k (h / 65536) → r ≡ true → option s o at ≡ bad 13 at
   option_refused k e r t = d.reads s ∙ value_refused at s _ _ o next (refused_is s h k e ∙ sym r ∙ t)
 
-  pub known_taken : (k : Known) (s' : Said) {r : Bool} → is_known k ≡ true → k ≡ beginning h → h ≡ head_of k
+  -- a reader made a number w of the octets of the option k, and s' is said with it
+  pub known_taken : (k : Known) (w : List ℕ → ℕ) (s' : Said) {r : Bool} → is_known k ≡ true → k ≡ beginning h → h ≡ head_of k
       → r ≡ refused_as s k (h / 65536) → r ≡ false → s' ≡ hear s k (take (length_of k 0) (drop next o))
-      → taken s' (ignored (length_of k 0) o next) ≡ option s o at
-  known_taken k s' i e f r t g =
+      → taken s' (continue (octets (length_of k 0) o next) (λ x next. got (w x) next)) ≡ option s o at
+  known_taken k w s' i e f r t g =
       let n = known_named k i f in
-      value_taken at s k (length_of k 0) o next s' (rw (n.0, n.1) at (refused_is s h k e ∙ sym r ∙ t)) g ∙ sym (rw (n.0, n.1) at (d.reads s))
+      value_taken at s k (length_of k 0) o next w s' (rw (n.0, n.1) at (refused_is s h k e ∙ sym r ∙ t)) g ∙ sym (rw (n.0, n.1) at (d.reads s))
 
-  pub other_taken : (s' : Said) {r : Bool} → Other ≡ beginning h
+  pub other_taken : (w : List ℕ → ℕ) (s' : Said) {r : Bool} → Other ≡ beginning h
       → r ≡ refused_as s Other (h / 65536) → r ≡ false → s' ≡ s
-      → taken s' (ignored (h % 65536) o next) ≡ option s o at
+      → taken s' (continue (octets (h % 65536) o next) (λ x next. got (w x) next)) ≡ option s o at
   unfolding refused_as is_known
-  other_taken s' e r t g =
+  other_taken w s' e r t g =
       let v : List ℕ = take (h % 65536) (drop next o) in
-      value_taken at s (named (h / 65536)) (h % 65536) o next s' (refused_is s h Other e ∙ sym r ∙ t)
+      value_taken at s (named (h / 65536)) (h % 65536) o next w s' (refused_is s h Other e ∙ sym r ∙ t)
       (g ∙ sym (ap (λ (x : Known). hear s x v) (not_known (named (h / 65536)) (sym r ∙ t)) ∙ hear_other s v))
       ∙ sym (d.reads s)

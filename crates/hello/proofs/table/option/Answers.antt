@@ -4,7 +4,9 @@
 use mathlib.Core.Path.{◌≡◌, refl, sym, ap, ◌∙◌}
 use Prim.Native.Nat.{◌/◌}
 use lib.ListN.{take, drop}
+use Rattle.octets.specs.Field.{ignored}
 use Rattle.octets.proofs.Laws.{number_bad, read_got, read_cut}
+use Rattle.format.specs.Reader.{◌>>◌, give}
 use Rattle.hello.specs.Options.{length_of, hear}
 use Rattle.hello.specs.Answers.{is_known, refused_as, said_at, stepped}
 use Rattle.hello.specs.declared.table.Known.{Known}
@@ -49,40 +51,40 @@ returns-then-is_refused c =
     rw c.at.ensures (sym (option_refused (found (goal.at.returns-then-is_refused c).After-option_beginning-k) (said_at o a.p) _ c.option_beginning-k.ensures (c.is_refused.ensures o) c.if-is_refused.true))
 
 pub returns-in-Holdtime : goal.returns-in-Holdtime
-unfolding length_of is_known
+unfolding length_of is_known ignored ◌>>◌ give
 returns-in-Holdtime c =
     let o = c.args.m.now in
     let h = found (goal.at.returns-in-Holdtime c).After-option_beginning-k in
     let k = c.in-Holdtime.is in
     let e = sym k ∙ c.option_beginning-k.ensures in
     c.taken.ensures
-    ∙ known_taken h (said_at o c.args.p) Holdtime _ refl e (begins _ Holdtime e) (refused (goal.at.returns-in-Holdtime c).After-is_refused Holdtime k) c.if-is_refused.false (said_with (goal.at.returns-in-Holdtime c).After-places_with-places Holdtime k)
+    ∙ known_taken h (said_at o c.args.p) Holdtime (λ x. 0) _ refl e (begins _ Holdtime e) (refused (goal.at.returns-in-Holdtime c).After-is_refused Holdtime k) c.if-is_refused.false (said_with (goal.at.returns-in-Holdtime c).After-places_with-places Holdtime k)
 
 pub returns-in-Priority : goal.returns-in-Priority
-unfolding length_of is_known
+unfolding length_of is_known ignored ◌>>◌ give
 returns-in-Priority c =
     let o = c.args.m.now in
     let h = found (goal.at.returns-in-Priority c).After-option_beginning-k in
     let k = c.in-Priority.is in
     let e = sym k ∙ c.option_beginning-k.ensures in
     c.taken-in-Priority.ensures
-    ∙ known_taken h (said_at o c.args.p) Priority _ refl e (begins _ Priority e) (refused (goal.at.returns-in-Priority c).After-is_refused Priority k) c.if-is_refused.false (said_with (goal.at.returns-in-Priority c).After-places_with-places Priority k)
+    ∙ known_taken h (said_at o c.args.p) Priority (λ x. 0) _ refl e (begins _ Priority e) (refused (goal.at.returns-in-Priority c).After-is_refused Priority k) c.if-is_refused.false (said_with (goal.at.returns-in-Priority c).After-places_with-places Priority k)
 
 pub returns-in-Packing : goal.returns-in-Packing
-unfolding length_of is_known
+unfolding length_of is_known ignored ◌>>◌ give
 returns-in-Packing c =
     let o = c.args.m.now in
     let h = found (goal.at.returns-in-Packing c).After-option_beginning-k in
     let k = c.in-Packing.is in
     let e = sym k ∙ c.option_beginning-k.ensures in
     c.taken-in-Packing.ensures
-    ∙ known_taken h (said_at o c.args.p) Packing _ refl e (begins _ Packing e) (refused (goal.at.returns-in-Packing c).After-is_refused Packing k) c.if-is_refused.false (said_with (goal.at.returns-in-Packing c).After-places_with-places Packing k)
+    ∙ known_taken h (said_at o c.args.p) Packing (λ x. 0) _ refl e (begins _ Packing e) (refused (goal.at.returns-in-Packing c).After-is_refused Packing k) c.if-is_refused.false (said_with (goal.at.returns-in-Packing c).After-places_with-places Packing k)
 
 pub returns-in-Other : goal.returns-in-Other
-unfolding hear said_at
+unfolding hear said_at ignored ◌>>◌ give
 returns-in-Other c =
     let o = c.args.m.now in
     let h = found (goal.at.returns-in-Other c).After-option_beginning-k in
     let k = c.in-Other.is in
     c.taken-in-Other.ensures
-    ∙ other_taken h (said_at o c.args.p) _ (sym k ∙ c.option_beginning-k.ensures) (refused (goal.at.returns-in-Other c).After-is_refused Other k) c.if-is_refused.false (said_with (goal.at.returns-in-Other c).After-places_with-places Other k)
+    ∙ other_taken h (said_at o c.args.p) (λ x. 0) _ (sym k ∙ c.option_beginning-k.ensures) (refused (goal.at.returns-in-Other c).After-is_refused Other k) c.if-is_refused.false (said_with (goal.at.returns-in-Other c).After-places_with-places Other k)
