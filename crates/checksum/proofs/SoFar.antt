@@ -30,6 +30,10 @@ pub record Cut (o : List ℕ) (pairs : List (List ℕ)) (odd : List ℕ) : Type 
   pub back : odd ≡ drop (length o / 2 * 2) o
   pub back_len : length odd ≡ length o % 2
 
+-- a part of n octets that is all of them: n may be any number as great
+pub all_of : {o : List ℕ} {n : ℕ} {pairs : List (List ℕ)} {odd : List ℕ} → Cut (take n o) pairs odd → length o ≤ n → Cut o pairs odd
+all_of {o} {n} c h = rw (take_all n o h) at c
+
 -- k pairs are summed
 module _ {o : List ℕ} {pairs : List (List ℕ)} {odd : List ℕ} (cut : Cut o pairs odd) (start k : ℕ) {acc : ℕ} (so_far : acc ≡ sum_from start (take k (words o))) where
   -- one word more

@@ -1,19 +1,16 @@
 -- `checksum::sum_from` meets its contract. The loop's invariant: the accumulator is the one's complement sum of the words so far.
 -- Assumes nothing.
 use Rattle.std.proofs.Common.{◌≡◌, ◌-◌, arith, refl, length, take, drop, length-drop}
-use lib.Seq.{take_all}
 use Rattle.checksum.specs.Sum.{sum_from}
-use Rattle.checksum.proofs.SoFar.{Cut, pair_more, none_left, odd_more}
+use Rattle.checksum.proofs.SoFar.{Cut, all_of, pair_more, none_left, odd_more}
 use Rattle.checksum.proofs.sum_from.Goals as goal
 use Rattle.checksum.proofs.sum_from.Goals.{After-as_chunks}
 
 -- the part from `from` on is all that is left there
 cut : (c : After-as_chunks) → Cut (drop c.args.from c.args.s.now) c.as_chunks.result.0.now c.as_chunks.result.1.now
 cut c =
-    let o = drop c.args.from c.args.s.now in
-    let whole : take (length c.args.s.now - c.args.from) o ≡ o = take_all (length c.args.s.now - c.args.from) o (simp length-drop (omega arith)) in
     let e = c.as_chunks.ensures in
-    record { front = rw whole at e.front; front_len = rw whole at e.front_len; back = rw whole at e.back; back_len = rw whole at e.back_len }
+    all_of (record { front = e.front; front_len = e.front_len; back = e.back; back_len = e.back_len }) (simp length-drop (omega arith))
 
 pub loop-high-init : goal.loop-high-init
 unfolding sum_from
